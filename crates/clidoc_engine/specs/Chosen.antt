@@ -24,7 +24,7 @@ page_said (of_page.Man commands depth title) = man (words_said commands.items) d
 
 abbrev pub choice_said : {A : Type 0} → Choice A → ChoiceSaid
 choice_said (of_choice.Page p file) = page (page_said p) (text_of file)
-choice_said (of_choice.Check file) = check (text_of file)
+choice_said (of_choice.Check is_strict file) = check is_strict (text_of file)
 choice_said (of_choice.All folder title file) = all folder.now (title_said title) (text_of file)
 choice_said of_choice.Help = help
 choice_said of_choice.Version = version

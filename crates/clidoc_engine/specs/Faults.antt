@@ -1,11 +1,8 @@
 -- Which fault an error is, and what is said of a fault.
 use Rattle.std.specs.Prelude.{⊤}
-use Rattle.std.specs.declared.alloc.Global.{Global}
 use Rattle.toml.specs.declared.de.error.Error.{Error}
 use Rattle.watched.specs.declared.ReadError.{ReadError}
 use Rattle.watched.specs.declared.ReadError.TheVariants as reading
-use Rattle.description_toml.specs.declared.decode.faults.DescriptionError.{DescriptionError}
-use Rattle.description_toml.specs.declared.decode.faults.DescriptionError.TheVariants as describing
 use Rattle.web_page.specs.declared.errors.PageError.{PageError}
 use Rattle.web_page.specs.declared.errors.PageError.TheVariants as making
 use Rattle.page_model.specs.declared.fault.PageFault.{PageFault}
@@ -18,10 +15,6 @@ abbrev pub fault_of_read : ReadError → Fault
 fault_of_read (reading.Failed error) = Read
 fault_of_read reading.NotUtf8 = NotUtf8
 fault_of_read (reading.Refused error) = Memory
-
-abbrev pub fault_of_description : DescriptionError Global → Fault
-fault_of_description (describing.Memory error) = Memory
-fault_of_description (describing.Content text) = NotDescription text
 
 abbrev pub fault_of_medium : PageFault → Fault
 fault_of_medium (writing.Refused error) = Memory
@@ -39,10 +32,10 @@ fault_of_page making.NoInk = NoPage making.NoInk
 
 -- where a fault says that the text is no TOML, this holds of the place and of the error that it tells
 abbrev pub IfNotToml : Fault → (Place → Error → Type 0) → Type 0
-IfNotToml (NotToml place error) P = P place error
+IfNotToml (NotToml place error hint) P = P place error
 IfNotToml NotUtf8 P = ⊤
-IfNotToml (NotDescription text) P = ⊤
-IfNotToml (NoCommand name path) P = ⊤
+IfNotToml (NotDescription lines) P = ⊤
+IfNotToml (NoCommand name path meant) P = ⊤
 IfNotToml (NoPage error) P = ⊤
 IfNotToml Read P = ⊤
 IfNotToml Write P = ⊤
@@ -50,10 +43,10 @@ IfNotToml Memory P = ⊤
 
 -- where a fault says that the TOML is no description, this holds
 abbrev pub IfNotDescription : Fault → Type 0 → Type 0
-IfNotDescription (NotDescription text) P = P
+IfNotDescription (NotDescription lines) P = P
 IfNotDescription NotUtf8 P = ⊤
-IfNotDescription (NotToml place error) P = ⊤
-IfNotDescription (NoCommand name path) P = ⊤
+IfNotDescription (NotToml place error hint) P = ⊤
+IfNotDescription (NoCommand name path meant) P = ⊤
 IfNotDescription (NoPage error) P = ⊤
 IfNotDescription Read P = ⊤
 IfNotDescription Write P = ⊤
@@ -61,11 +54,11 @@ IfNotDescription Memory P = ⊤
 
 -- where a fault says that there is no such command, this holds
 abbrev pub IfNoCommand : Fault → Type 0 → Type 0
-IfNoCommand (NoCommand name path) P = P
-IfNoCommand (NotDescription text) P = ⊤
+IfNoCommand (NoCommand name path meant) P = P
+IfNoCommand (NotDescription lines) P = ⊤
 IfNoCommand (NoPage error) P = ⊤
 IfNoCommand NotUtf8 P = ⊤
-IfNoCommand (NotToml place error) P = ⊤
+IfNoCommand (NotToml place error hint) P = ⊤
 IfNoCommand Read P = ⊤
 IfNoCommand Write P = ⊤
 IfNoCommand Memory P = ⊤
@@ -73,10 +66,10 @@ IfNoCommand Memory P = ⊤
 -- where a fault says that a page is not written, this holds of why
 abbrev pub IfNoPage : Fault → (PageError → Type 0) → Type 0
 IfNoPage (NoPage error) P = P error
-IfNoPage (NoCommand name path) P = ⊤
-IfNoPage (NotDescription text) P = ⊤
+IfNoPage (NoCommand name path meant) P = ⊤
+IfNoPage (NotDescription lines) P = ⊤
 IfNoPage NotUtf8 P = ⊤
-IfNoPage (NotToml place error) P = ⊤
+IfNoPage (NotToml place error hint) P = ⊤
 IfNoPage Read P = ⊤
 IfNoPage Write P = ⊤
 IfNoPage Memory P = ⊤

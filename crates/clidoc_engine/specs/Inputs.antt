@@ -1,11 +1,13 @@
 -- What a text gives: a description, or nothing, and then why.
-use Rattle.std.specs.Prelude.{◌≡◌, ℕ, List, Some, None, take}
+use Rattle.std.specs.Prelude.{◌≡◌, ℕ, ◌+◌, List, Some, None, length, take}
 use Rattle.toml.specs.Data.{Members}
 use Rattle.toml.specs.Errors.{IsMemory, IsWithin, span_start}
 use Rattle.toml.specs.Parse.{parse_document}
 use Rattle.toml.specs.declared.de.error.Error.{Error}
 use Rattle.description.specs.Content.{DescriptionSaid}
 use Rattle.description_toml.specs.Described.{described}
+use Rattle.description_hints.specs.Hints.{warnings}
+use Rattle.clidoc_engine.specs.declared.described.Lines.{Lines}
 use Rattle.clidoc_engine.specs.declared.places.Place.{Place}
 use Rattle.clidoc_engine.specs.Newlines.{without_returns}
 use Rattle.clidoc_engine.specs.Places.{column_behind, line_behind}
@@ -16,9 +18,15 @@ pub record Describes (text : List ℕ) (d : DescriptionSaid) : Type 0 where
   pub toml : parse_document (without_returns text) ≡ Some table
   pub gives : described table ≡ Some d
 
--- the text is TOML that gives a description
-abbrev pub IsDescribed : (text : List ℕ) → Type 0
-IsDescribed text = (d : DescriptionSaid) × Describes text d
+-- of how many faults or warnings lines tell
+abbrev pub count_of : Lines → ℕ
+count_of lines = length lines.told.items + lines.more
+
+-- the text is TOML that gives a description, which would better say so many things otherwise
+pub record HasWarnings (count : ℕ) (text : List ℕ) : Type 0 where
+  pub description : DescriptionSaid
+  pub described : Describes text description
+  pub each : count ≡ length (warnings description)
 
 -- The text is no TOML, the error has a span in it, and the place is that where this span begins. The kit says no more of an error: that
 -- reading this text gave it is only tested.

@@ -4,11 +4,11 @@ use Rattle.clidoc_engine.specs.declared.reading.Given as of_given
 use Rattle.clidoc_engine.specs.declared.reading.Kind as of_kind
 use Rattle.clidoc_engine.specs.declared.reading.Kind.TheVariants as kinds
 use Rattle.clidoc_engine.specs.declared.reading.WordFault.{WordFault}
-use Rattle.clidoc_engine.specs.declared.reading.WordFault.TheVariants.{NoForm, NoSuchForm, NoSuchOption, NoValue, NoColumns, NoFolder, Twice, TooMany, NotWith, NotAlone, Refused}
+use Rattle.clidoc_engine.specs.declared.reading.WordFault.TheVariants.{NoForm, NoSuchForm, FormBehind, NoSuchOption, NoValue, NoColumns, NoFolder, Twice, TooMany, NotWith, NotAlone, Refused}
 use Rattle.clidoc_engine.specs.Chosen.{words_said}
 use Rattle.clidoc_engine.specs.declared.reading.Next.{Next}
 use Rattle.clidoc_engine.specs.declared.reading.Next.TheVariants.{Any, Value, File}
-use Rattle.clidoc_engine.specs.Words.{Given, Kind, dashes, plain, deep, fragment, apart, joined, unknown, given_in, only_files, valued_in}
+use Rattle.clidoc_engine.specs.Words.{Given, Kind, dashes, plain, deep, fragment, strict, apart, joined, unknown, given_in, only_files, valued_in}
 
 abbrev pub given_of : {A : Type 0} → of_given.Given A → Given
 given_of g = record {
@@ -20,6 +20,7 @@ given_of g = record {
   vendors = words_said g.vendors.items;
   deeps = words_said g.deeps.items;
   fragments = words_said g.fragments.items;
+  stricts = words_said g.stricts.items;
   files = words_said g.files.items;
 }
 
@@ -28,6 +29,7 @@ kind_said kinds.Dashes = dashes
 kind_said kinds.Plain = plain
 kind_said kinds.Deep = deep
 kind_said kinds.Fragment = fragment
+kind_said kinds.Strict = strict
 kind_said (kinds.Apart o) = apart o
 kind_said (kinds.Joined o value) = joined o value.now
 kind_said kinds.Unknown = unknown
@@ -37,6 +39,7 @@ abbrev pub IsRefused : WordFault → Type 0
 IsRefused (Refused error) = ⊤
 IsRefused NoForm = ⊥
 IsRefused (NoSuchForm word) = ⊥
+IsRefused (FormBehind word form) = ⊥
 IsRefused (NoSuchOption word) = ⊥
 IsRefused (NoValue word) = ⊥
 IsRefused (NoColumns word) = ⊥
@@ -57,6 +60,7 @@ together g h = record {
   vendors = g.vendors ++ h.vendors;
   deeps = g.deeps ++ h.deeps;
   fragments = g.fragments ++ h.fragments;
+  stricts = g.stricts ++ h.stricts;
   files = g.files ++ h.files;
 }
 

@@ -2,7 +2,9 @@
 use Rattle.std.specs.Prelude.{◌≡◌, ℕ, List, None, ⊤}
 use Rattle.clidoc_engine.specs.declared.faults.Fault.{Fault}
 use Rattle.clidoc_engine.specs.declared.faults.Fault.TheVariants.{NotUtf8, NotToml, NotDescription, NoCommand, NoPage, Read, Write, Memory}
+use Rattle.toml.specs.Data.{Members}
 use Rattle.description.specs.Content.{DescriptionSaid}
+use Rattle.description_toml.specs.Described.{described}
 use Rattle.clidoc_engine.specs.Chosen.{commands_of}
 use Rattle.clidoc_engine.specs.Inputs.{IsNoTomlText}
 use Rattle.command_pages.specs.Pages.{level_at}
@@ -11,20 +13,31 @@ use Rattle.clidoc_engine.specs.Words.{PageSaid}
 
 -- the fault says that the text is no TOML, and where; or that an allocation failed
 abbrev pub IsSyntaxFault : (text : List ℕ) → Fault → Type 0
-IsSyntaxFault text (NotToml place error) = IsNoTomlText text place error
+IsSyntaxFault text (NotToml place error hint) = IsNoTomlText text place error
 IsSyntaxFault text Memory = ⊤
 IsSyntaxFault text NotUtf8 = ⊥
-IsSyntaxFault text (NotDescription reason) = ⊥
-IsSyntaxFault text (NoCommand name path) = ⊥
+IsSyntaxFault text (NotDescription lines) = ⊥
+IsSyntaxFault text (NoCommand name path meant) = ⊥
 IsSyntaxFault text (NoPage error) = ⊥
 IsSyntaxFault text Read = ⊥
 IsSyntaxFault text Write = ⊥
 
+-- the fault says that the data is no description; or that an allocation failed
+abbrev pub IsOfData : Members → Fault → Type 0
+IsOfData table (NotDescription lines) = described table ≡ None
+IsOfData table Memory = ⊤
+IsOfData table NotUtf8 = ⊥
+IsOfData table (NotToml place error hint) = ⊥
+IsOfData table (NoCommand name path meant) = ⊥
+IsOfData table (NoPage error) = ⊥
+IsOfData table Read = ⊥
+IsOfData table Write = ⊥
+
 -- the fault is none of a stream, and none of bytes that are no text
 abbrev pub IsOfContent : Fault → Type 0
-IsOfContent (NotToml place error) = ⊤
-IsOfContent (NotDescription text) = ⊤
-IsOfContent (NoCommand name path) = ⊤
+IsOfContent (NotToml place error hint) = ⊤
+IsOfContent (NotDescription lines) = ⊤
+IsOfContent (NoCommand name path meant) = ⊤
 IsOfContent (NoPage error) = ⊤
 IsOfContent Memory = ⊤
 IsOfContent NotUtf8 = ⊥
@@ -33,32 +46,32 @@ IsOfContent Write = ⊥
 
 -- the fault says that the commands lead nowhere; or that an allocation failed
 abbrev pub IsLost : (commands : List (List ℕ)) → DescriptionSaid → Fault → Type 0
-IsLost commands d (NoCommand name path) = level_at commands d ≡ None
+IsLost commands d (NoCommand name path meant) = level_at commands d ≡ None
 IsLost commands d Memory = ⊤
 IsLost commands d NotUtf8 = ⊥
-IsLost commands d (NotToml place error) = ⊥
-IsLost commands d (NotDescription reason) = ⊥
+IsLost commands d (NotToml place error hint) = ⊥
+IsLost commands d (NotDescription lines) = ⊥
 IsLost commands d (NoPage error) = ⊥
 IsLost commands d Read = ⊥
 IsLost commands d Write = ⊥
 
 -- the fault says that the commands of the page lead nowhere, or that it is not written; or that an allocation failed
 abbrev pub IsUnmade : PageSaid → DescriptionSaid → Fault → Type 0
-IsUnmade p d (NoCommand name path) = level_at (commands_of p) d ≡ None
+IsUnmade p d (NoCommand name path meant) = level_at (commands_of p) d ≡ None
 IsUnmade p d (NoPage error) = IsUnwritable p d error
 IsUnmade p d Memory = ⊤
 IsUnmade p d NotUtf8 = ⊥
-IsUnmade p d (NotToml place error) = ⊥
-IsUnmade p d (NotDescription reason) = ⊥
+IsUnmade p d (NotToml place error hint) = ⊥
+IsUnmade p d (NotDescription lines) = ⊥
 IsUnmade p d Read = ⊥
 IsUnmade p d Write = ⊥
 
 abbrev pub IsNoCommand : Fault → Type 0
-IsNoCommand (NoCommand name path) = ⊤
+IsNoCommand (NoCommand name path meant) = ⊤
 IsNoCommand Memory = ⊥
 IsNoCommand NotUtf8 = ⊥
-IsNoCommand (NotToml place error) = ⊥
-IsNoCommand (NotDescription reason) = ⊥
+IsNoCommand (NotToml place error hint) = ⊥
+IsNoCommand (NotDescription lines) = ⊥
 IsNoCommand (NoPage error) = ⊥
 IsNoCommand Read = ⊥
 IsNoCommand Write = ⊥
@@ -67,20 +80,20 @@ IsNoCommand Write = ⊥
 abbrev pub IsOfReading : Fault → Type 0
 IsOfReading Read = ⊤
 IsOfReading NotUtf8 = ⊤
-IsOfReading (NotToml place error) = ⊤
-IsOfReading (NotDescription reason) = ⊤
+IsOfReading (NotToml place error hint) = ⊤
+IsOfReading (NotDescription lines) = ⊤
 IsOfReading Memory = ⊤
-IsOfReading (NoCommand name path) = ⊥
+IsOfReading (NoCommand name path meant) = ⊥
 IsOfReading (NoPage error) = ⊥
 IsOfReading Write = ⊥
 
 -- the same, and not of the reader
 abbrev pub IsOfText : Fault → Type 0
-IsOfText (NotToml place error) = ⊤
-IsOfText (NotDescription reason) = ⊤
+IsOfText (NotToml place error hint) = ⊤
+IsOfText (NotDescription lines) = ⊤
 IsOfText Memory = ⊤
 IsOfText NotUtf8 = ⊥
-IsOfText (NoCommand name path) = ⊥
+IsOfText (NoCommand name path meant) = ⊥
 IsOfText (NoPage error) = ⊥
 IsOfText Read = ⊥
 IsOfText Write = ⊥
@@ -89,21 +102,21 @@ IsOfText Write = ⊥
 abbrev pub IsOfFiles : Fault → Type 0
 IsOfFiles Read = ⊤
 IsOfFiles NotUtf8 = ⊤
-IsOfFiles (NotToml place error) = ⊤
-IsOfFiles (NotDescription reason) = ⊤
+IsOfFiles (NotToml place error hint) = ⊤
+IsOfFiles (NotDescription lines) = ⊤
 IsOfFiles (NoPage error) = ⊤
 IsOfFiles Memory = ⊤
-IsOfFiles (NoCommand name path) = ⊥
+IsOfFiles (NoCommand name path meant) = ⊥
 IsOfFiles Write = ⊥
 
 -- the same, and not of the reader
 abbrev pub IsOfFilesText : Fault → Type 0
-IsOfFilesText (NotToml place error) = ⊤
-IsOfFilesText (NotDescription reason) = ⊤
+IsOfFilesText (NotToml place error hint) = ⊤
+IsOfFilesText (NotDescription lines) = ⊤
 IsOfFilesText (NoPage error) = ⊤
 IsOfFilesText Memory = ⊤
 IsOfFilesText NotUtf8 = ⊥
-IsOfFilesText (NoCommand name path) = ⊥
+IsOfFilesText (NoCommand name path meant) = ⊥
 IsOfFilesText Read = ⊥
 IsOfFilesText Write = ⊥
 
@@ -112,8 +125,8 @@ abbrev pub IsOfPages : Fault → Type 0
 IsOfPages (NoPage error) = ⊤
 IsOfPages Memory = ⊤
 IsOfPages NotUtf8 = ⊥
-IsOfPages (NotToml place error) = ⊥
-IsOfPages (NotDescription reason) = ⊥
-IsOfPages (NoCommand name path) = ⊥
+IsOfPages (NotToml place error hint) = ⊥
+IsOfPages (NotDescription lines) = ⊥
+IsOfPages (NoCommand name path meant) = ⊥
 IsOfPages Read = ⊥
 IsOfPages Write = ⊥

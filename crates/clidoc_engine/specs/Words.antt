@@ -23,14 +23,14 @@ pub data PageSaid : Type 0 where
 
 pub data ChoiceSaid : Type 0 where
   page : PageSaid → (file : Option (List ℕ)) → ChoiceSaid
-  check : (file : Option (List ℕ)) → ChoiceSaid
+  check : (is_strict : Bool) → (file : Option (List ℕ)) → ChoiceSaid
   all : (folder : List ℕ) → TitleGiven → (file : Option (List ℕ)) → ChoiceSaid
   help : ChoiceSaid
   version : ChoiceSaid
 
 -- ---- what each word gives
 
--- the words that stand for themselves, the values of each option, each `--deep` and `--fragment`, and the words behind `--`, in order
+-- the words that stand for themselves, the values of each option, each `--deep`, `--fragment` and `--strict`, and the words behind `--`, in order
 pub record Given : Type 0 where
   pub plain : List (List ℕ)
   pub commands : List (List ℕ)
@@ -40,10 +40,11 @@ pub record Given : Type 0 where
   pub vendors : List (List ℕ)
   pub deeps : List (List ℕ)
   pub fragments : List (List ℕ)
+  pub stricts : List (List ℕ)
   pub files : List (List ℕ)
 
 abbrev pub only_files : List (List ℕ) → Given
-only_files words = record { plain = []; commands = []; widths = []; folders = []; dates = []; vendors = []; deeps = []; fragments = []; files = words }
+only_files words = record { plain = []; commands = []; widths = []; folders = []; dates = []; vendors = []; deeps = []; fragments = []; stricts = []; files = words }
 
 abbrev pub with_plain : List ℕ → Given → Given
 with_plain word g = record g { plain = word ∷ g.plain }
@@ -53,6 +54,9 @@ with_deep word g = record g { deeps = word ∷ g.deeps }
 
 abbrev pub with_fragment : List ℕ → Given → Given
 with_fragment word g = record g { fragments = word ∷ g.fragments }
+
+abbrev pub with_strict : List ℕ → Given → Given
+with_strict word g = record g { stricts = word ∷ g.stricts }
 
 abbrev pub with_value : Valued → List ℕ → Given → Given
 with_value Command value g = record g { commands = value ∷ g.commands }
@@ -73,6 +77,7 @@ pub data Kind : Type 0 where
   plain : Kind
   deep : Kind
   fragment : Kind
+  strict : Kind
   apart : Valued → Kind
   joined : Valued → (value : List ℕ) → Kind
   unknown : Kind
@@ -97,13 +102,14 @@ abbrev pub other_kind : List ℕ → Kind
 other_kind word =
     if bytes_eq word (codes "-") || not (slice_index word 0 == 45) then plain else joined_kind (Command ∷ Width ∷ Into ∷ Date ∷ Vendor ∷ []) word
 
--- a word that begins with `-` is `--`, or `-` alone, or `--deep`, or `--fragment`, or an option with a value, which stands behind `=` or is the next word, whatever
+-- a word that begins with `-` is `--`, or `-` alone, or `--deep`, or `--fragment`, or `--strict`, or an option with a value, which stands behind `=` or is the next word, whatever
 -- that is; any other such word is unknown
 abbrev pub kind_of : List ℕ → Kind
 kind_of word =
     if bytes_eq word (codes "--") then dashes else
     if bytes_eq word (codes "--deep") then deep else
     if bytes_eq word (codes "--fragment") then fragment else
+    if bytes_eq word (codes "--strict") then strict else
     if bytes_eq word (option_word Command) then apart Command else
     if bytes_eq word (option_word Width) then apart Width else
     if bytes_eq word (option_word Into) then apart Into else
@@ -117,6 +123,7 @@ given_by dashes word words others with_next = Some (only_files words)
 given_by plain word words others with_next = option_map (with_plain word) others
 given_by deep word words others with_next = option_map (with_deep word) others
 given_by fragment word words others with_next = option_map (with_fragment word) others
+given_by strict word words others with_next = option_map (with_strict word) others
 given_by (joined o value) word words others with_next = option_map (with_value o value) others
 given_by (apart o) word words others with_next = with_next o
 given_by unknown word words others with_next = None
@@ -173,6 +180,12 @@ IsExtent [] extent = extent ≡ Page
 IsExtent (word ∷ []) extent = extent ≡ Fragment
 IsExtent (word ∷ other ∷ words) extent = ⊥
 
+-- strict where one word says so, and else not
+abbrev pub IsStrict : (stricts : List (List ℕ)) → (is_strict : Bool) → Type 0
+IsStrict [] is_strict = is_strict ≡ false
+IsStrict (word ∷ []) is_strict = is_strict ≡ true
+IsStrict (word ∷ other ∷ words) is_strict = ⊥
+
 -- at most one date, and one vendor
 abbrev pub IsTitle : Given → TitleGiven → Type 0
 IsTitle g title = (g.dates ≡ option_to_list title.date) × (g.vendors ≡ option_to_list title.vendor)
@@ -183,6 +196,10 @@ HasNoTitle g = (g.dates ≡ []) × (g.vendors ≡ [])
 -- no word says which level, or how it is shown
 abbrev pub HasNoLevel : Given → Type 0
 HasNoLevel g = (g.commands ≡ []) × (g.widths ≡ []) × (g.deeps ≡ []) × (g.fragments ≡ [])
+
+-- no word says where pages are written, or how a description is judged
+abbrev pub HasNoWork : Given → Type 0
+HasNoWork g = (g.folders ≡ []) × (g.stricts ≡ [])
 
 -- the word, and the options that stand with it, name this page
 abbrev pub NamesPage : (terminal : ℕ) → (word : List ℕ) → Given → PageSaid → Type 0
@@ -208,8 +225,8 @@ is_one_of words long short = false
 
 -- on a terminal of so many columns
 abbrev pub Chooses : (terminal : ℕ) → (words : List (List ℕ)) → ChoiceSaid → Type 0
-Chooses terminal words (page p file) = (word : List ℕ) × (g : Given) × Names words word file g × NamesPage terminal word g p × (g.folders ≡ [])
-Chooses terminal words (check file) = (g : Given) × Names words (codes "check") file g × HasNoLevel g × HasNoTitle g × (g.folders ≡ [])
-Chooses terminal words (all folder title file) = (g : Given) × Names words (codes "all") file g × HasNoLevel g × IsTitle g title × (g.folders ≡ folder ∷ [])
+Chooses terminal words (page p file) = (word : List ℕ) × (g : Given) × Names words word file g × NamesPage terminal word g p × HasNoWork g
+Chooses terminal words (check is_strict file) = (g : Given) × Names words (codes "check") file g × HasNoLevel g × HasNoTitle g × (g.folders ≡ []) × IsStrict g.stricts is_strict
+Chooses terminal words (all folder title file) = (g : Given) × Names words (codes "all") file g × HasNoLevel g × IsTitle g title × (g.folders ≡ folder ∷ []) × (g.stricts ≡ [])
 Chooses terminal words help = is_one_of words (codes "--help") (codes "-h") ≡ true
 Chooses terminal words version = is_one_of words (codes "--version") (codes "-V") ≡ true

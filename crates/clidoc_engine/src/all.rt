@@ -16,7 +16,7 @@ ghost use Rattle.clidoc_engine.specs.Inputs.{IsNoDescription, IsNoToml};
 ghost use Rattle.command_pages.specs.Pages.{application};
 ghost use Rattle.clidoc_engine.specs.Steps.{IsOfFiles, IsOfFilesText, IsOfPages};
 
-use crate::engine::table_of;
+use crate::engine::{description_of, table_of};
 use crate::faults::Fault;
 use crate::files::PageFile;
 use crate::words::TitleGiven;
@@ -26,7 +26,6 @@ use description::Description;
 use description_pages::Depth;
 use description_pages::levels::LevelSubject;
 use description_pages::subjects::{all_from, page_name};
-use description_toml::description_from_table;
 use lasting_names::Names;
 use std::alloc::{AllocError, Allocator, Global};
 use watched::{Source, Watched};
@@ -89,7 +88,7 @@ fn files_in<A: Allocator + Copy>(
 {
     let table = table_of(global, text)?;
     let mut names = Names::new(global);
-    let description = description_from_table(global, &mut names, &table)?;
+    let description = description_of(global, &mut names, &table, text)?;
     let files = files_of(alloc, global, given, &description);
     drop(description);
     files

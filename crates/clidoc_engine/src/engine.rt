@@ -1,27 +1,34 @@
 //! What the program does, over any reader and any writer.
 
 ghost use Rattle.std.specs.Prelude.{◌≡◌, ◌≢◌, ◌↔◌, IfOk, IfErr, OnOk, OnErr, IsErrOf, Some, None, string_bytes};
+ghost use Rattle.toml.specs.Data.{Members};
 ghost use Rattle.toml.specs.Errors.{IsMemory, IsWithin};
 ghost use Rattle.toml.specs.Parse.{parse_document};
 ghost use Rattle.toml.specs.View.{table_view};
+ghost use Rattle.description.specs.View.{description_said};
+ghost use Rattle.description_toml.specs.Described.{described};
 ghost use Rattle.watched.specs.Calls.{GivesNoText, GivesText, Moves, ReadFails, WriteFails};
 ghost use Rattle.watched.specs.Watched.{IsMarked, IsUnmarked, ReadsText, ReadsNoText};
 ghost use Rattle.clidoc_engine.specs.Chosen.{page_said};
 ghost use Rattle.clidoc_engine.specs.Faults.{IfNoCommand, IfNoPage, IfNotDescription, IfNotToml};
 ghost use Rattle.clidoc_engine.specs.Newlines.{without_returns};
-ghost use Rattle.clidoc_engine.specs.Inputs.{IsDescribed, IsNoDescription, IsNoToml};
+ghost use Rattle.clidoc_engine.specs.Inputs.{HasWarnings, IsNoDescription, IsNoToml, count_of};
 ghost use Rattle.clidoc_engine.specs.Runs.{HasNoCommand, HasPage, HasUnwritablePage, MakesPage};
 ghost use Rattle.clidoc_engine.specs.Runs.{WritesBeginning, WritesPage};
-ghost use Rattle.clidoc_engine.specs.Steps.{IsOfContent, IsOfReading, IsOfText, IsSyntaxFault};
+ghost use Rattle.clidoc_engine.specs.Steps.{IsOfContent, IsOfData, IsOfReading, IsOfText};
+ghost use Rattle.clidoc_engine.specs.Steps.{IsSyntaxFault};
 
+use crate::described::{Lines, lines_of, warnings_in};
 use crate::faults::Fault;
+use crate::hints::hint_of;
 use crate::newlines::without_returns;
 use crate::pages::rendered;
 use crate::places::place_behind;
 use crate::words::Page;
-use description_toml::description_from_table;
+use description::Description;
+use description_toml::{DescriptionError, Faults, description_from_table};
 use lasting_names::Names;
-use std::alloc::{Allocator, Global};
+use std::alloc::{AllocError, Allocator, Global};
 use toml::Table;
 use watched::{Sink, Source, Watched};
 
@@ -100,19 +107,21 @@ pub fn run_description<A: Allocator + Copy, B: Allocator, R: Source, W: Sink>(
     writer.write_all(text.as_bytes()).map_err(|_| Fault::Write)
 }
 
-/// Reads all that the reader has left, and judges whether it is a description in TOML. Its faults are those of
-/// `run_description` that come of reading, and they come where those do.
+/// Reads all that the reader has left, and judges whether it is a description in TOML. Answers what that would better
+/// say: as many warnings as there are, of which the first 20 are told. Its faults are those of `run_description` that
+/// come of reading, and they come where those do.
 pub fn check_description<A: Allocator + Copy, R: Source>(
     alloc: A,
     global: Global,
     reader: &mut Watched<R>,
-) -> Result<(), Fault>
+) -> Result<Lines, Fault>
     requires reader { IsUnmarked reader.old }
 
     // Over all streams.
     ensures read { IsErrOf result Fault.Read ↔ IsMarked reader.new }
     ensures fault { IfErr result IsOfReading }
-    ensures given { OnOk result (GivesText R.reads reader.old.end reader.new.end IsDescribed) }
+    ensures given { IfOk result (λ lines.
+        GivesText R.reads reader.old.end reader.new.end (HasWarnings (count_of lines))) }
     ensures read_failed { IsErrOf result Fault.Read →
         (error : _) × ReadFails R.reads reader.old.end error reader.new.end }
     ensures no_text { IsErrOf result Fault.NotUtf8 →
@@ -123,8 +132,8 @@ pub fn check_description<A: Allocator + Copy, R: Source>(
         GivesText R.reads reader.old.end reader.new.end IsNoDescription)) }
 
     // Over streams that tell their bytes.
-    ensures ok { OnOk result (
-        ReadsText (R.remaining reader.old.end) (R.remaining reader.new.end) IsDescribed) }
+    ensures ok { IfOk result (λ lines.
+        ReadsText (R.remaining reader.old.end) (R.remaining reader.new.end) (HasWarnings (count_of lines))) }
     ensures not_utf8 { IsErrOf result Fault.NotUtf8 →
         ReadsNoText (R.remaining reader.old.end) (R.remaining reader.new.end) }
     ensures not_toml { IfErr result (λ fault. IfNotToml fault (λ place error.
@@ -137,9 +146,9 @@ pub fn check_description<A: Allocator + Copy, R: Source>(
     judge(global, text.as_str())
 }
 
-// Whether the text is a description.
-fn judge(global: Global, text: &str) -> Result<(), Fault>
-    ensures ok { OnOk result (IsDescribed text.now) }
+// The warnings about the description that the text gives.
+fn judge(global: Global, text: &str) -> Result<Lines, Fault>
+    ensures ok { IfOk result (λ lines. HasWarnings (count_of lines) text.now) }
     ensures fault { IfErr result IsOfText }
     ensures not_toml { IfErr result (λ fault. IfNotToml fault (IsNoToml text.now)) }
     ensures not_description { IfErr result (λ fault.
@@ -147,9 +156,10 @@ fn judge(global: Global, text: &str) -> Result<(), Fault>
 {
     let data = table_of(global, text)?;
     let mut kept = Names::new(global);
-    let description = description_from_table(global, &mut kept, &data)?;
+    let description = description_of(global, &mut kept, &data, text)?;
+    let warnings = warnings_in(global, text, &description);
     drop(description);
-    Ok(())
+    Ok(warnings?)
 }
 
 // The page of the description that the text gives.
@@ -171,10 +181,43 @@ pub(crate) fn page_of<A: Allocator + Copy, B: Allocator>(
 {
     let table = table_of(global, text)?;
     let mut names = Names::new(global);
-    let description = description_from_table(global, &mut names, &table)?;
+    let description = description_of(global, &mut names, &table, text)?;
     let made = rendered(alloc, global, page, &description);
     drop(description);
     made
+}
+
+// The description that the data of the text gives.
+pub(crate) fn description_of<'a>(
+    global: Global,
+    names: &mut Names,
+    table: &'a Table,
+    text: &str,
+) -> Result<Description<'a>, Fault>
+    ensures ok { IfOk result (λ d. described (table_view table.now) ≡ Some (description_said d)) }
+    ensures fault { IfErr result (IsOfData (table_view table.now)) }
+{
+    match description_from_table(global, names, table) {
+        Ok(description) => Ok(description),
+        Err(DescriptionError::Memory(_)) => Err(Fault::Memory),
+        Err(DescriptionError::Content(faults)) => Err(fault_of_data(global, text, &faults)),
+    }
+}
+
+// The fault of a text whose data has these.
+fn fault_of_data(global: Global, text: &str, faults: &Faults<'_>) -> Fault
+    ensures { (table : Members) → described table ≡ None → IsOfData table result }
+{
+    match lines_in(global, text, faults) {
+        Ok(lines) => Fault::NotDescription(lines),
+        Err(AllocError) => Fault::Memory,
+    }
+}
+
+// The same, where lines may end with a carriage return too.
+fn lines_in(global: Global, text: &str, faults: &Faults<'_>) -> Result<Lines, AllocError> {
+    let plain = without_returns(global, text)?;
+    lines_of(global, &plain, faults)
 }
 
 // The data of the text, in which lines may end with a carriage return too.
@@ -192,21 +235,25 @@ fn plain_table(global: Global, text: &str) -> Result<Table, Fault>
 {
     match toml::table_from_str(global, text) {
         Ok(table) => Ok(table),
-        Err(error) => Err(syntax_fault(text, error)),
+        Err(error) => Err(syntax_fault(global, text, error)),
     }
 }
 
 // The fault of a text that could not be read as TOML.
-fn syntax_fault(text: &str, error: toml::de::Error) -> Fault
+fn syntax_fault(global: Global, text: &str, error: toml::de::Error) -> Fault
     requires within { IsWithin text.now error }
     requires refused { ¬ IsMemory error → parse_document text.now ≡ None }
     ensures { IsSyntaxFault text.now result }
 {
-    match error.span() {
-        None => Fault::Memory,
-        Some(span) => Fault::NotToml {
+    let Some(span) = error.span() else {
+        return Fault::Memory;
+    };
+    match hint_of(global, text, span.start, error.message()) {
+        Ok(hint) => Fault::NotToml {
             place: place_behind(&text.as_bytes()[..span.start]),
             error,
+            hint,
         },
+        Err(AllocError) => Fault::Memory,
     }
 }

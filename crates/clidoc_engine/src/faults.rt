@@ -3,49 +3,91 @@
 ghost use Rattle.std.specs.Prelude.{◌≡◌};
 ghost use Rattle.clidoc_engine.specs.declared.faults.Fault.TheVariants.{Memory};
 
+use crate::described::{Lines, Severity};
+use crate::hints::Hint;
+use crate::meant::{Meant, Named};
 use crate::places::Place;
 use command_pages::PageError;
-use description_toml::DescriptionError;
 use description_toml::words::Shown;
 use page_model::PageFault;
 use std::alloc::AllocError;
-use thiserror::Error;
+use std::fmt;
+use std::fmt::Display;
 use watched::ReadError;
 
-/// Why a run fails. It is shown as the line that the program writes on standard error.
-#[derive(Debug, Drop, Error)]
+/// Why a run fails.
+#[derive(Debug, Drop)]
 pub enum Fault {
     /// What was read is no text.
-    #[error("clidoc: input is not UTF-8")]
     NotUtf8,
     /// The text is no TOML: the place where the error begins, and why.
-    #[error("clidoc: line {}, column {}: {}", .place.line, .place.column, .error.message())]
     NotToml {
         place: Place,
         error: toml::de::Error,
+        hint: Hint,
     },
-    /// The TOML is no description: the way to the faulty table in it, and what is wrong there.
-    #[error("clidoc: {0}")]
-    NotDescription(String),
+    /// The TOML is no description: what is wrong in it.
+    NotDescription(Lines),
     /// The page is that of a command, and the description has no such command: its name, and the names of the
-    /// commands above it, the application's first.
-    #[error("clidoc: no command {} in {path}", Shown(name.as_str()))]
+    /// commands above it, the application's first, with a blank between two.
     NoCommand {
         name: String,
         path: String,
+        meant: Meant,
     },
     /// A word or a text cannot stand in the page: why. Of texts of a description no test found one.
-    #[error("clidoc: no page: {0}")]
     NoPage(PageError),
     /// A read failed.
-    #[error("clidoc: read failed")]
     Read,
     /// A write failed, or took nothing.
-    #[error("clidoc: write failed")]
     Write,
     /// An allocation failed, or the arguments could not be read.
-    #[error("clidoc: no memory")]
     Memory,
+}
+
+impl Fault {
+    /// What is told of it where the description stands in this file. A line about a place in the file begins with the
+    /// file and the place.
+    pub fn told<'f>(&'f self, file: &'f str) -> Told<'f> {
+        Told { fault: self, file }
+    }
+}
+
+/// A fault, shown as the lines that the program writes on standard error, with a newline between two.
+#[derive(Clone, Copy)]
+pub struct Told<'f> {
+    fault: &'f Fault,
+    file: &'f str,
+}
+
+impl Display for Told<'_> {
+    fn fmt<W: fmt::Write>(&self, f: &mut fmt::Formatter<W>) -> fmt::Result {
+        let file = Shown(self.file);
+        match self.fault {
+            Fault::NotUtf8 => write!(f, "{file}: the input is not UTF-8"),
+            Fault::NotToml { place, error, hint } => match hint {
+                Hint::Nothing => write!(f, "{file}:{place}: {}", error.message()),
+                Hint::Open { place, mark } => write!(f, "{file}:{place}: {mark} is not closed"),
+                Hint::Late { header, other } => {
+                    let (header, other) = (header.as_str(), other.as_str());
+                    let words = error.message();
+                    write!(
+                        f,
+                        "{file}:{place}: {words}; {header} has to stand before {other}"
+                    )
+                }
+            },
+            Fault::NotDescription(lines) => lines.write_in(f, file, Severity::Fault),
+            Fault::NoCommand { name, path, meant } => {
+                let (name, path) = (Named(name.as_str()), path.as_str());
+                write!(f, "clidoc: no command {name} in {path}{meant}")
+            }
+            Fault::NoPage(error) => write!(f, "clidoc: no page: {error}"),
+            Fault::Read => f.write_str("clidoc: read failed"),
+            Fault::Write => f.write_str("clidoc: write failed"),
+            Fault::Memory => f.write_str("clidoc: no memory"),
+        }
+    }
 }
 
 impl From<AllocError> for Fault {
@@ -66,19 +108,6 @@ impl From<ReadError> for Fault {
             ReadError::Failed(_) => Fault::Read,
             ReadError::NotUtf8 => Fault::NotUtf8,
             ReadError::Refused(_) => Fault::Memory,
-        }
-    }
-}
-
-impl From<DescriptionError> for Fault {
-    ghost use Rattle.clidoc_engine.specs.Faults.{fault_of_description};
-
-    ghost from_gives = { λ error fault. fault ≡ fault_of_description error };
-
-    fn from(error: DescriptionError) -> Fault {
-        match error {
-            DescriptionError::Memory(_) => Fault::Memory,
-            DescriptionError::Content(text) => Fault::NotDescription(text),
         }
     }
 }

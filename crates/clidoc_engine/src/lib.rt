@@ -5,10 +5,15 @@
 pub mod all;
 mod beside;
 pub mod bounded;
+pub mod described;
 pub mod engine;
 pub mod faults;
 pub mod files;
+mod headers;
+pub mod hints;
+pub mod meant;
 mod newlines;
+mod open;
 mod own;
 mod pages;
 pub mod places;

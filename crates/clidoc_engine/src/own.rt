@@ -69,6 +69,13 @@ Write what stands in the body of the page alone, to be put into another page.
 It goes with `html`."""
 
 [[option]]
+long = "strict"
+help = """
+Fail where there is a warning.
+
+It goes with `check`."""
+
+[[option]]
 long = "into"
 value = "FOLDER"
 help = """
@@ -103,7 +110,7 @@ What is made of the description.
 - `man`: a manual page.
 - `markdown`: a page in markdown.
 - `html`: an HTML page with all commands below.
-- `check`: no page. It is only told whether FILE is a description.
+- `check`: no page. It is told whether FILE is a description, and what it would better say.
 - `all`: the manual page and the page in markdown of each level, and the HTML page, as files of `--into`."""
 
 [[positional]]
@@ -130,8 +137,8 @@ A web page, and what stands in its body alone:
     clidoc html greet.toml > greet.html
     clidoc html --fragment greet.toml
 
-Whether it is a description, and all pages at once:
+Whether it is a description that nothing is to be said about, and all pages at once:
 
-    clidoc check greet.toml
+    clidoc check --strict greet.toml
     clidoc all --into=pages greet.toml"""
 "#;

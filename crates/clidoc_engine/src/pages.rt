@@ -12,6 +12,7 @@ ghost use Rattle.clidoc_engine.specs.Steps.{IsLost, IsNoCommand, IsUnmade};
 ghost use Rattle.clidoc_engine.specs.Words.{html, man, markdown};
 
 use crate::faults::Fault;
+use crate::meant::meant_by;
 use crate::words::{Console, Page, TitleGiven};
 use bumpalo::Bump;
 use command_pages::{
@@ -84,19 +85,25 @@ fn level_at<'p, 'a: 'p>(
     for command in commands {
         match enter(arena, level, *command)? {
             Some(found) => level = found,
-            None => return Err(no_command(global, *command, level.names)?),
+            None => return Err(no_command(arena, global, *command, level)?),
         }
     }
     Ok(level)
 }
 
-// The fault of a command that is not there.
-fn no_command(global: Global, command: &str, names: &[&str]) -> Result<Fault, AllocError>
+// The fault of a command that is not on the level.
+fn no_command<'p, 'a: 'p>(
+    arena: &'p Bump,
+    global: Global,
+    command: &str,
+    level: LevelSubject<'p, 'a, Global>,
+) -> Result<Fault, AllocError>
     ensures { IfOk result IsNoCommand }
 {
-    let path = names.join(global, " ")?;
+    let meant = meant_by(arena, global, command, level)?;
+    let path = level.names.join(global, " ")?;
     let name = String::from_str(global, command)?;
-    Ok(Fault::NoCommand { name, path })
+    Ok(Fault::NoCommand { name, path, meant })
 }
 
 // ---- on the console

@@ -3,11 +3,23 @@
 ghost use Rattle.std.specs.Prelude.{◌≡◌};
 ghost use Rattle.clidoc_engine.specs.Places.{begins_character, column_behind, line_behind};
 
+use std::fmt;
+use std::fmt::Display;
+
 /// A place in a text, by its line and its column. Both are counted from 1, and a column is a character.
 #[derive(Clone, Copy, Debug, PartialEq, Eq)]
 pub struct Place {
     pub line: usize,
     pub column: usize,
+}
+
+/// The place where a text begins.
+pub const TOP: Place = Place { line: 1, column: 1 };
+
+impl Display for Place {
+    fn fmt<W: fmt::Write>(&self, f: &mut fmt::Formatter<W>) -> fmt::Result {
+        write!(f, "{}:{}", self.line, self.column)
+    }
 }
 
 /// The place behind this front of a text. A character that is cut there counts.

@@ -4,6 +4,7 @@ ghost use Rattle.watched.specs.Watched.{IsUnmarked};
 
 use crate::all::make_files;
 use crate::bounded::Bounded;
+use crate::described::Lines;
 use crate::engine::{check_description, page_of, run_description};
 use crate::faults::Fault;
 use crate::files::check_names;
@@ -12,14 +13,16 @@ use crate::reading::WordFault;
 use crate::words::{Choice, Console, ConsoleForm, Page, TitleGiven, choose, terminal_width};
 use crate::wrong::line_of;
 use description_toml::words::Shown;
-use folder::{enter, tell_left, write_files};
+use folder::{enter, tell_left, tell_written, write_files};
 use std::alloc::{AllocError, Global};
 use std::env::VarError;
+use std::fmt::Display;
+use std::fs::OpenFile;
 use std::io::{ErrorKind, Read};
 use std::process::ExitCode;
 use std::random::RandomSource;
 use std::rt::{Env, Files};
-use std::{env, fs, io};
+use std::{env, fmt, fs, io};
 use thiserror::Error;
 use watched::Watched;
 pub use watched::program::WRONG_WORDS;
@@ -30,37 +33,56 @@ mod folder;
 /// How many bytes are read at most: 16 MiB.
 const MOST_INPUT: usize = 16 << 20;
 
+/// The name of standard input.
+const STANDARD_INPUT: &str = "-";
+
 /// Why a run fails.
 #[derive(Debug, Drop, Error)]
 pub(crate) enum Failure {
+    /// These lines say why.
     #[error("{0}")]
-    Fault(Fault),
-    /// There is more to read than may be read.
-    #[error("clidoc: input is over 16 MiB long")]
-    LongInput,
-    /// The file, or the folder, cannot be opened.
-    #[error("clidoc: can't open {}", Shown(.0.as_str()))]
-    NoFile(String),
-    /// The folder is not there.
-    #[error("clidoc: no folder {}", Shown(.0.as_str()))]
+    Told(String),
+    /// A file, or a folder, cannot be opened.
+    #[error("clidoc: can't open {}: {reason}", Shown(name.as_str()))]
+    NotOpened { name: String, reason: Reason },
+    /// What is to be read is a folder.
+    #[error("clidoc: {} is a folder", Shown(.0.as_str()))]
+    Folder(String),
+    /// What is to be written into is none.
+    #[error("clidoc: {} is no folder", Shown(.0.as_str()))]
     NoFolder(String),
-    /// Pages have no names under which they can be written: the line that says so.
-    #[error("{0}")]
-    BadName(String),
-    /// The file cannot be written.
-    #[error("clidoc: can't write {}", Shown(.0.as_str()))]
-    NotWritten(String),
+    /// A file cannot be written.
+    #[error("clidoc: can't write {}: {reason}", Shown(name.as_str()))]
+    NotWritten { name: String, reason: Reason },
+    /// Standard output takes nothing.
+    #[error("clidoc: write failed")]
+    Write,
+    /// An allocation failed, or the arguments could not be read.
+    #[error("clidoc: no memory")]
+    Memory,
 }
 
-impl From<Fault> for Failure {
-    fn from(fault: Fault) -> Failure {
-        Failure::Fault(fault)
+/// Why the system refuses a call.
+#[derive(Clone, Copy, Debug)]
+pub(crate) enum Reason {
+    NoFile,
+    NoFolder,
+    Other(ErrorKind),
+}
+
+impl Display for Reason {
+    fn fmt<W: fmt::Write>(&self, f: &mut fmt::Formatter<W>) -> fmt::Result {
+        match self {
+            Reason::NoFile => f.write_str("no such file"),
+            Reason::NoFolder => f.write_str("no such folder"),
+            Reason::Other(kind) => write!(f, "{kind}"),
+        }
     }
 }
 
 impl From<AllocError> for Failure {
     fn from(_error: AllocError) -> Failure {
-        Failure::Fault(Fault::Memory)
+        Failure::Memory
     }
 }
 
@@ -94,7 +116,7 @@ fn unread<R: Alloc + Env + Eprint>(
             return Ok(expecting(rt, &line));
         }
     }
-    Err(Failure::Fault(Fault::Memory))
+    Err(Failure::Memory)
 }
 
 fn follow<R: Alloc + Env + Files + Input + Print + Eprint + RandomSource>(
@@ -122,7 +144,7 @@ where
 fn terminal<R: Alloc + Env>(rt: &R) -> Result<usize, Failure> {
     match env::var(rt, "COLUMNS") {
         Ok(said) => Ok(terminal_width(Some(said.as_str()))),
-        Err(VarError::OutOfMemory) => Err(Failure::Fault(Fault::Memory)),
+        Err(VarError::OutOfMemory) => Err(Failure::Memory),
         Err(_) => Ok(terminal_width(None)),
     }
 }
@@ -132,7 +154,10 @@ fn usage<R: Alloc + Eprint>(rt: &R, global: Global, terminal: usize) -> Result<E
     let page = own_page(global, ConsoleForm::Usage, terminal);
     let line = page_of(global, global, &page, DESCRIPTION);
     drop(page);
-    Ok(expecting(rt, line?.trim_end()))
+    match line {
+        Ok(line) => Ok(expecting(rt, line.trim_end())),
+        Err(fault) => Err(told(global, &fault, STANDARD_INPUT)),
+    }
 }
 
 // Says why the words choose nothing.
@@ -142,7 +167,7 @@ fn refuse<R: Alloc + Eprint>(
     fault: &WordFault<'_>,
 ) -> Result<ExitCode, Failure> {
     if let WordFault::Refused(_) = fault {
-        return Err(Failure::Fault(Fault::Memory));
+        return Err(Failure::Memory);
     }
     let line = line_of(global, fault)?;
     Ok(expecting(rt, &line))
@@ -158,25 +183,35 @@ where
     R::A: Copy,
 {
     match choice {
-        Choice::Page(page, None | Some("-")) => write_page(rt, global, page, rt.reader()),
-        Choice::Page(page, Some(file)) => {
-            write_page(rt, global, page, opened(rt, global, *file)?)
+        Choice::Page(page, None | Some(STANDARD_INPUT)) => {
+            write_page(rt, global, page, STANDARD_INPUT, rt.reader())
         }
-        Choice::Check(None | Some("-")) => check(rt, global, rt.reader()),
-        Choice::Check(Some(file)) => check(rt, global, opened(rt, global, *file)?),
+        Choice::Page(page, Some(file)) => {
+            write_page(rt, global, page, *file, opened(rt, global, *file)?)
+        }
+        Choice::Check { strict, file } => match file {
+            None | Some(STANDARD_INPUT) => check(rt, global, *strict, STANDARD_INPUT, rt.reader()),
+            Some(file) => check(rt, global, *strict, *file, opened(rt, global, *file)?),
+        },
         Choice::All {
             folder,
             title,
-            file: None | Some("-"),
-        } => write_all(rt, global, *folder, *title, rt.reader()),
+            file: None | Some(STANDARD_INPUT),
+        } => write_all(rt, global, (*folder, *title), STANDARD_INPUT, rt.reader()),
         Choice::All {
             folder,
             title,
             file: Some(file),
-        } => write_all(rt, global, *folder, *title, opened(rt, global, *file)?),
+        } => write_all(
+            rt,
+            global,
+            (*folder, *title),
+            *file,
+            opened(rt, global, *file)?,
+        ),
         Choice::Help => {
             let page = own_page(global, ConsoleForm::Full, terminal);
-            let written = write_page(rt, global, &page, DESCRIPTION.as_bytes());
+            let written = write_page(rt, global, &page, STANDARD_INPUT, DESCRIPTION.as_bytes());
             drop(page);
             written
         }
@@ -185,9 +220,32 @@ where
 }
 
 fn opened<R: Files>(rt: &R, global: Global, file: &str) -> Result<R::File, Failure> {
+    let name = String::from_str(global, file)?;
     match fs::open(rt, file) {
+        Ok(opened) if is_folder(&opened) => {
+            drop(opened);
+            Err(Failure::Folder(name))
+        }
         Ok(opened) => Ok(opened),
-        Err(_) => Err(Failure::NoFile(String::from_str(global, file)?)),
+        Err(error) => Err(Failure::NotOpened {
+            name,
+            reason: reason_of(error),
+        }),
+    }
+}
+
+fn is_folder<F: OpenFile>(file: &F) -> bool {
+    match file.metadata() {
+        Ok(found) => found.is_dir(),
+        Err(_) => false,
+    }
+}
+
+// Why a file is not opened.
+fn reason_of(error: io::Error) -> Reason {
+    match error.kind() {
+        ErrorKind::NotFound => Reason::NoFile,
+        kind => Reason::Other(kind),
     }
 }
 
@@ -195,6 +253,7 @@ fn write_page<R: Alloc + Print, S: Read + Drop>(
     rt: &R,
     global: Global,
     page: &Page<'_, Global>,
+    file: &str,
     input: S,
 ) -> Result<(), Failure>
 where
@@ -203,7 +262,7 @@ where
     let mut reader = bounded(input);
     let mut writer = Watched::new(io::writer(rt));
     let outcome = run_description(rt.alloc(), global, page, &mut reader, &mut writer);
-    within(outcome, reader)
+    within(global, outcome, file, reader)
 }
 
 // A reader of no more bytes than may be read.
@@ -213,33 +272,73 @@ fn bounded<S: Read>(input: S) -> Watched<Bounded<S>>
     Watched::new(Bounded::new(input, MOST_INPUT))
 }
 
-// What is told of a run over such a reader.
+// What is told of a run over such a reader, of a file of this name.
 fn within<T: Drop, S: Drop>(
+    global: Global,
     outcome: Result<T, Fault>,
+    file: &str,
     reader: Watched<Bounded<S>>,
 ) -> Result<T, Failure> {
     if reader.into_inner().is_over() {
         drop(outcome);
-        return Err(Failure::LongInput);
+        let line = format!(in global; "{}: the input is over 16 MiB long", Shown(file))?;
+        return Err(Failure::Told(line));
     }
-    Ok(outcome?)
+    match outcome {
+        Ok(made) => Ok(made),
+        Err(fault) => Err(told(global, &fault, file)),
+    }
 }
 
-fn check<R: Alloc, S: Read + Drop>(rt: &R, global: Global, input: S) -> Result<(), Failure>
+// What is told of a fault of a file.
+fn told(global: Global, fault: &Fault, file: &str) -> Failure {
+    match format!(in global; "{}", fault.told(file)) {
+        Ok(lines) => Failure::Told(lines),
+        Err(AllocError) => Failure::Memory,
+    }
+}
+
+fn check<R: Alloc + Eprint, S: Read + Drop>(
+    rt: &R,
+    global: Global,
+    strict: bool,
+    file: &str,
+    input: S,
+) -> Result<(), Failure>
 where
     R::A: Copy,
 {
     let mut reader = bounded(input);
     let outcome = check_description(rt.alloc(), global, &mut reader);
-    within(outcome, reader)
+    let warnings = within(global, outcome, file, reader)?;
+    warn(rt, global, strict, file, &warnings)
 }
 
-// Writes all pages into the folder, once all of them are made, and says how many they are.
+// Says what is warned of. Where it is strict, that is a failure.
+fn warn<R: Eprint>(
+    rt: &R,
+    global: Global,
+    strict: bool,
+    file: &str,
+    warnings: &Lines,
+) -> Result<(), Failure> {
+    if warnings.told.is_empty() {
+        return Ok(());
+    }
+    let lines = format!(in global; "{}", warnings.warned(file))?;
+    if strict {
+        return Err(Failure::Told(lines));
+    }
+    let _ = eprintln!(rt; "{lines}");
+    Ok(())
+}
+
+// Writes all pages into the folder, once all of them are made, and says how many they are, and which leads to all.
 fn write_all<R: Alloc + Env + Files + Eprint + RandomSource, S: Read + Drop>(
     rt: &R,
     global: Global,
-    folder: &str,
-    given: TitleGiven<'_>,
+    (folder, given): (&str, TitleGiven<'_>),
+    file: &str,
     input: S,
 ) -> Result<(), Failure>
 where
@@ -248,13 +347,13 @@ where
     enter(rt, global, folder)?;
     let mut reader = bounded(input);
     let outcome = make_files(rt.alloc(), global, given, &mut reader);
-    let files = within(outcome, reader)?;
+    let files = within(global, outcome, file, reader)?;
     if let Err(fault) = check_names(global, &files)? {
-        return Err(Failure::BadName(format!(in global; "{fault}")?));
+        return Err(Failure::Told(format!(in global; "{fault}")?));
     }
     tell_left(rt, folder);
     write_files(rt, global, folder, &files)?;
-    let _ = eprintln!(rt; "clidoc: {} files written", files.len());
+    tell_written(rt, folder, &files);
     Ok(())
 }
 
@@ -271,6 +370,6 @@ fn write_version<R: Print>(rt: &R) -> Result<(), Failure> {
     let mut writer = Watched::new(io::writer(rt));
     match writer.write_all(VERSION.as_bytes()) {
         Ok(()) => Ok(()),
-        Err(_) => Err(Failure::Fault(Fault::Write)),
+        Err(_) => Err(Failure::Write),
     }
 }

@@ -32,6 +32,8 @@ pub enum WordOption {
     Deep,
     /// `--fragment`
     Fragment,
+    /// `--strict`
+    Strict,
     Valued(Valued),
 }
 
@@ -42,6 +44,8 @@ pub enum WordFault<'w> {
     NoForm,
     /// This is no form.
     NoSuchForm(&'w str),
+    /// This is no form, and a form stands behind it.
+    FormBehind { word: &'w str, form: &'w str },
     /// There is no such option.
     NoSuchOption(&'w str),
     /// This option has no value behind it.
@@ -70,8 +74,8 @@ impl<'w> From<AllocError> for WordFault<'w> {
     }
 }
 
-/// What words give: those that stand for themselves, the values of each option, each `--deep` and `--fragment`, and
-/// those behind `--`, in order.
+/// What words give: those that stand for themselves, the values of each option, each `--deep`, `--fragment` and
+/// `--strict`, and those behind `--`, in order.
 #[derive(Drop)]
 pub(crate) struct Given<'w, A: Allocator> {
     pub plain: Vec<&'w str, A>,
@@ -82,6 +86,7 @@ pub(crate) struct Given<'w, A: Allocator> {
     pub vendors: Vec<&'w str, A>,
     pub deeps: Vec<&'w str, A>,
     pub fragments: Vec<&'w str, A>,
+    pub stricts: Vec<&'w str, A>,
     pub files: Vec<&'w str, A>,
 }
 
@@ -106,6 +111,8 @@ pub(crate) enum Kind<'w> {
     Deep,
     /// `--fragment`
     Fragment,
+    /// `--strict`
+    Strict,
     /// An option, whose value is the next word.
     Apart(Valued),
     /// An option with its value.
@@ -131,6 +138,7 @@ pub(crate) fn given_in<'w, A: Allocator + Copy>(
         vendors: Vec::new(alloc),
         deeps: Vec::new(alloc),
         fragments: Vec::new(alloc),
+        stricts: Vec::new(alloc),
         files: Vec::new(alloc),
     };
     let mut next = Next::Any;
@@ -180,6 +188,7 @@ fn put_any<'w, A: Allocator>(given: &mut Given<'w, A>, word: &'w str) -> Result<
         Kind::Plain => put(&mut given.plain, word)?,
         Kind::Deep => put(&mut given.deeps, word)?,
         Kind::Fragment => put(&mut given.fragments, word)?,
+        Kind::Strict => put(&mut given.stricts, word)?,
         Kind::Joined(option, value) => put_value(given, option, value)?,
         Kind::Apart(option) => return Ok(Next::Value(option)),
         Kind::Unknown => return Err(unknown(word)),
@@ -232,6 +241,7 @@ fn kind_of(word: &str) -> Kind<'_>
         "--vendor" => Kind::Apart(Valued::Vendor),
         "--deep" => Kind::Deep,
         "--fragment" => Kind::Fragment,
+        "--strict" => Kind::Strict,
         "-" => Kind::Plain,
         _ => other_kind(word),
     }

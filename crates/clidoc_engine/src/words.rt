@@ -5,12 +5,12 @@ ghost use Rattle.description.specs.View.{text_of};
 ghost use Rattle.command_pages.specs.View.{title_said};
 ghost use Rattle.clidoc_engine.specs.Chosen.{choice_said, page_said, words_said};
 ghost use Rattle.clidoc_engine.specs.Reading.{IsRefused, given_of};
-ghost use Rattle.clidoc_engine.specs.Words.{ChoiceSaid, Chooses, HasNoLevel, HasNoTitle, IsColumns, IsDepth};
-ghost use Rattle.clidoc_engine.specs.Words.{IsExtent, IsTerminalWidth, IsTitle, IsWidth, NamesPage, PageSaid};
-ghost use Rattle.clidoc_engine.specs.Words.{all, check, form_word};
-ghost use Rattle.clidoc_engine.specs.Words.{is_one_of, page};
+ghost use Rattle.clidoc_engine.specs.Words.{ChoiceSaid, Chooses, HasNoLevel, HasNoTitle, HasNoWork};
+ghost use Rattle.clidoc_engine.specs.Words.{IsColumns, IsDepth, IsExtent, IsStrict, IsTerminalWidth, IsTitle};
+ghost use Rattle.clidoc_engine.specs.Words.{IsWidth, NamesPage, PageSaid, all, check, form_word, is_one_of, page};
 
 use crate::reading::{Given, Valued, WordFault, WordOption, given_in};
+use crate::wrong::is_form;
 pub use command_pages::{ConsoleForm, Extent, TitleGiven};
 use description_pages::Depth;
 use std::alloc::Allocator;
@@ -58,8 +58,11 @@ pub enum Page<'w, A: Allocator> {
 pub enum Choice<'w, A: Allocator> {
     /// Writes a page of the description in a file, or on standard input.
     Page(Page<'w, A>, Option<&'w str>),
-    /// Judges whether there is a description in a file, or on standard input.
-    Check(Option<&'w str>),
+    /// Judges whether there is a description in a file, or on standard input. If it is strict, a warning is a failure.
+    Check {
+        strict: bool,
+        file: Option<&'w str>,
+    },
     /// Writes all pages of the description in a file, or on standard input, into a folder.
     All {
         folder: &'w str,
@@ -128,8 +131,8 @@ fn with_input<'w, A: Allocator + Copy>(
     words: &[&'w str],
 ) -> Result<Choice<'w, A>, WordFault<'w>>
     ensures ok { IfOk result (λ choice. Chooses terminal (words_said words.now) (choice_said choice)) }
-    ensures no_check { IfErr result (λ fault. IsRefused fault ⊎ ((file : _)
-        → ¬ Chooses terminal (words_said words.now) (check file))) }
+    ensures no_check { IfErr result (λ fault. IsRefused fault ⊎ ((strict file : _)
+        → ¬ Chooses terminal (words_said words.now) (check strict file))) }
     ensures no_all { IfErr result (λ fault. IsRefused fault ⊎ ((folder title file : _)
         → ¬ Chooses terminal (words_said words.now) (all folder title file))) }
     ensures no_page { IfErr result (λ fault. IsRefused fault ⊎ ((p file : _)
@@ -138,8 +141,8 @@ fn with_input<'w, A: Allocator + Copy>(
     let given = given_in(alloc, words)?;
     let (word, file) = names(&given.plain, &given.files)?;
     if word == "check" {
-        alone(word, given)?;
-        return Ok(Choice::Check(file));
+        let strict = strict_alone(word, given)?;
+        return Ok(Choice::Check { strict, file });
     }
     if word == "all" {
         let (folder, title) = folder_alone(word, given)?;
@@ -149,7 +152,7 @@ fn with_input<'w, A: Allocator + Copy>(
             file,
         });
     }
-    Ok(Choice::Page(page_alone(terminal, word, given)?, file))
+    Ok(Choice::Page(page_alone(terminal, word, file, given)?, file))
 }
 
 // The first of the plain words, and the file, if there is one: the second of them or one behind `--`.
@@ -174,16 +177,30 @@ fn names<'w>(
     }
 }
 
-// Refuses options.
-fn alone<'w, A: Allocator>(word: &'w str, given: Given<'w, A>) -> Result<(), WordFault<'w>>
-    ensures ok { IfOk result (λ _. HasNoLevel (given_of given.entry) × HasNoTitle (given_of given.entry)
-        × ((given_of given.entry).folders ≡ [])) }
-    ensures err { IfErr result (λ _. ¬ (HasNoLevel (given_of given.entry) × HasNoTitle (given_of given.entry)
-        × ((given_of given.entry).folders ≡ []))) }
+// Whether it is judged strictly. Other options are refused.
+fn strict_alone<'w, A: Allocator>(word: &'w str, given: Given<'w, A>) -> Result<bool, WordFault<'w>>
+    ensures ok { IfOk result (λ strict. HasNoLevel (given_of given.entry) × HasNoTitle (given_of given.entry)
+        × ((given_of given.entry).folders ≡ []) × IsStrict (given_of given.entry).stricts strict) }
+    ensures err { IfErr result (λ _. (strict : _)
+        → ¬ (HasNoLevel (given_of given.entry) × HasNoTitle (given_of given.entry)
+        × ((given_of given.entry).folders ≡ []) × IsStrict (given_of given.entry).stricts strict)) }
 {
     check_no_level(&given, word)?;
     check_no_title(&given, word)?;
-    check_no_folder(&given, word)
+    check_no_folder(&given, word)?;
+    strictness_of(&given.stricts)
+}
+
+// Whether a warning is a failure.
+fn strictness_of<'w>(stricts: &[&'w str]) -> Result<bool, WordFault<'w>>
+    ensures ok { IfOk result (λ strict. IsStrict (words_said stricts.now) strict) }
+    ensures err { IfErr result (λ _. (strict : _) → ¬ IsStrict (words_said stricts.now) strict) }
+{
+    match stricts {
+        [] => Ok(false),
+        [_] => Ok(true),
+        _ => Err(WordFault::Twice(WordOption::Strict)),
+    }
 }
 
 // The one folder, and the words of title lines. Other options are refused.
@@ -194,11 +211,13 @@ fn folder_alone<'w, A: Allocator>(
     ensures no_level { IfOk result (λ _. HasNoLevel (given_of given.entry)) }
     ensures folder { IfOk result (λ chosen. (given_of given.entry).folders ≡ chosen.0.now ∷ []) }
     ensures title { IfOk result (λ chosen. IsTitle (given_of given.entry) (title_said chosen.1)) }
+    ensures no_strict { IfOk result (λ _. (given_of given.entry).stricts ≡ []) }
     ensures err { IfErr result (λ _. (folder title : _)
         → ¬ (HasNoLevel (given_of given.entry) × IsTitle (given_of given.entry) title
-        × ((given_of given.entry).folders ≡ folder ∷ []))) }
+        × ((given_of given.entry).folders ≡ folder ∷ []) × ((given_of given.entry).stricts ≡ []))) }
 {
     check_no_level(&given, word)?;
+    check_no_strict(&given, word)?;
     let title = title_of(&given)?;
     let folder = one_folder(&given.folders)?;
     Ok((folder, title))
@@ -215,20 +234,22 @@ fn one_folder<'w>(folders: &[&'w str]) -> Result<&'w str, WordFault<'w>>
     }
 }
 
-// The page that the word names with the values of options. A folder is refused.
+// The page that the word names with the values of options. A folder and strictness are refused. Behind the word stands
+// that file.
 fn page_alone<'w, A: Allocator>(
     terminal: usize,
     word: &'w str,
+    file: Option<&'w str>,
     given: Given<'w, A>,
 ) -> Result<Page<'w, A>, WordFault<'w>>
     ensures ok { IfOk result (λ page. NamesPage terminal word.now (given_of given.entry) (page_said page)
-        × ((given_of given.entry).folders ≡ [])) }
+        × HasNoWork (given_of given.entry)) }
     ensures err { IfErr result (λ _. (p : PageSaid)
-        → ¬ (NamesPage terminal word.now (given_of given.entry) p × ((given_of given.entry).folders ≡ []))) }
+        → ¬ (NamesPage terminal word.now (given_of given.entry) p × HasNoWork (given_of given.entry))) }
 {
-    let folders = check_no_folder(&given, word);
-    let page = page_named(terminal, word, given)?;
-    match folders {
+    let work = check_no_work(&given, word);
+    let page = page_named(terminal, word, file, given)?;
+    match work {
         Ok(()) => Ok(page),
         Err(fault) => {
             drop(page);
@@ -237,10 +258,11 @@ fn page_alone<'w, A: Allocator>(
     }
 }
 
-// The page that the word names with the values of options but the folder.
+// The page that the word names with the values of options but the folder and strictness.
 fn page_named<'w, A: Allocator>(
     terminal: usize,
     word: &'w str,
+    file: Option<&'w str>,
     given: Given<'w, A>,
 ) -> Result<Page<'w, A>, WordFault<'w>>
     ensures ok { IfOk result (λ page. NamesPage terminal word.now (given_of given.entry) (page_said page)) }
@@ -255,8 +277,16 @@ fn page_named<'w, A: Allocator>(
         "man" => manual(given, word),
         _ => {
             drop(given);
-            Err(WordFault::NoSuchForm(word))
+            Err(no_form(word, file))
         }
+    }
+}
+
+// The fault of a word that is no form, behind which this one stands.
+fn no_form<'w>(word: &'w str, behind: Option<&'w str>) -> WordFault<'w> {
+    match behind {
+        Some(form) if is_form(form) => WordFault::FormBehind { word, form },
+        _ => WordFault::NoSuchForm(word),
     }
 }
 
@@ -470,6 +500,25 @@ fn check_no_folder<'w, A: Allocator>(
     ensures err { IfErr result (λ _. (given_of given.now).folders ≢ []) }
 {
     check_none(&given.folders, WordOption::Valued(Valued::Into), word)
+}
+
+fn check_no_strict<'w, A: Allocator>(
+    given: &Given<'w, A>,
+    word: &'w str,
+) -> Result<(), WordFault<'w>>
+    ensures ok { IfOk result (λ _. (given_of given.now).stricts ≡ []) }
+    ensures err { IfErr result (λ _. (given_of given.now).stricts ≢ []) }
+{
+    check_none(&given.stricts, WordOption::Strict, word)
+}
+
+// Refuses options that are of no page.
+fn check_no_work<'w, A: Allocator>(given: &Given<'w, A>, word: &'w str) -> Result<(), WordFault<'w>>
+    ensures ok { IfOk result (λ _. HasNoWork (given_of given.now)) }
+    ensures err { IfErr result (λ _. ¬ HasNoWork (given_of given.now)) }
+{
+    check_no_folder(given, word)?;
+    check_no_strict(given, word)
 }
 
 // Refuses an option, where the word does not take it.

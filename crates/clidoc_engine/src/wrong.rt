@@ -1,7 +1,8 @@
 //! What is said of words that choose nothing.
 
+use crate::meant::Named;
 use crate::reading::{Valued, WordFault, WordOption};
-use description_toml::words::{Shown, nearest};
+use description_toml::words::nearest;
 use std::alloc::{AllocError, Global};
 use std::fmt::Write;
 
@@ -9,11 +10,12 @@ const FORMS: [&str; 8] = [
     "usage", "full", "brief", "man", "markdown", "html", "check", "all",
 ];
 
-const OPTIONS: [&str; 9] = [
+const OPTIONS: [&str; 10] = [
     "--command",
     "--deep",
     "--width",
     "--fragment",
+    "--strict",
     "--into",
     "--date",
     "--vendor",
@@ -26,21 +28,25 @@ const OPTIONS: [&str; 9] = [
 pub fn line_of(global: Global, fault: &WordFault<'_>) -> Result<String, AllocError> {
     let mut line = String::from_str(global, "clidoc: ")?;
     match fault {
-        WordFault::NoForm => put(&mut line, "no form", "")?,
+        WordFault::NoForm => line.push_str("no form")?,
         WordFault::NoSuchForm(word) => put(&mut line, "no form ", word)?,
+        WordFault::FormBehind { word, form } => put_turned(&mut line, word, form)?,
         WordFault::NoSuchOption(word) => put(&mut line, "no option ", word)?,
         WordFault::NoValue(option) => put(&mut line, "no value behind ", valued_word(*option))?,
         WordFault::NoColumns(word) => put(&mut line, "no number of columns: ", word)?,
-        WordFault::NoFolder => put(&mut line, "all goes with --into FOLDER", "")?,
-        WordFault::Twice(option) => put(&mut line, word_of(*option), " stands twice")?,
+        WordFault::NoFolder => line.push_str("all goes with --into FOLDER")?,
+        WordFault::Twice(option) => {
+            line.push_str(word_of(*option))?;
+            line.push_str(" stands twice")?;
+        }
         WordFault::NotAlone(word) => put(&mut line, "other words stand beside ", word)?,
         WordFault::TooMany(word) => put(&mut line, "one word too many: ", word)?,
         WordFault::NotWith { option, word } => {
-            put(&mut line, word_of(*option), " is no option of ")?;
-            line.push_str(*word)?;
+            line.push_str(word_of(*option))?;
+            put(&mut line, " is no option of ", word)?;
             put_all(&mut line, "; it goes with ", forms_of(*option))?;
         }
-        WordFault::Refused(_) => put(&mut line, "no memory", "")?,
+        WordFault::Refused(_) => line.push_str("no memory")?,
     }
     put_known(&mut line, global, fault)?;
     Ok(line)
@@ -50,6 +56,7 @@ fn word_of(option: WordOption) -> &'static str {
     match option {
         WordOption::Deep => "--deep",
         WordOption::Fragment => "--fragment",
+        WordOption::Strict => "--strict",
         WordOption::Valued(option) => valued_word(option),
     }
 }
@@ -64,11 +71,17 @@ fn valued_word(option: Valued) -> &'static str {
     }
 }
 
+/// Whether the word is a form.
+pub fn is_form(word: &str) -> bool {
+    FORMS.contains(&word)
+}
+
 // The forms that take the option.
 fn forms_of(option: WordOption) -> &'static [&'static str] {
     match option {
         WordOption::Deep => &["man", "markdown"],
         WordOption::Fragment => &["html"],
+        WordOption::Strict => &["check"],
         WordOption::Valued(Valued::Command) => {
             &["usage", "full", "brief", "man", "markdown", "html"]
         }
@@ -80,10 +93,17 @@ fn forms_of(option: WordOption) -> &'static [&'static str] {
 
 fn put(line: &mut String, words: &str, word: &str) -> Result<(), AllocError> {
     line.push_str(words)?;
-    match write!(line, "{}", Shown(word)) {
+    match write!(line, "{}", Named(word)) {
         Ok(()) => Ok(()),
         Err(_) => Err(AllocError),
     }
+}
+
+// A word that is no form, with a form behind it, and the words that were meant.
+fn put_turned(line: &mut String, word: &str, form: &str) -> Result<(), AllocError> {
+    put(line, "no form ", word)?;
+    put(line, "; the form comes first: clidoc ", form)?;
+    put(line, " ", word)
 }
 
 // What the word may have been, or all words that stand in its place.

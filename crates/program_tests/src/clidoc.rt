@@ -1,8 +1,9 @@
-//! Tests of `clidoc_engine`, and what is said of bad input.
+//! Tests of `clidoc_engine`, and what is said of bad input and of input that would better say something otherwise.
 
 pub mod ends;
 mod faults;
 mod folders;
 mod inputs;
 pub mod pages;
+mod warnings;
 mod words;

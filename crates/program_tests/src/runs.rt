@@ -9,8 +9,8 @@ use std::alloc::Global;
 
 // Wrong words with bars between them, and on the next line what says so. Behind each row stands an empty line.
 const WRONG: &str = "clidoc
-clidoc [--command=NAME]... [--deep] [--width=COLUMNS] [--fragment] [--into=FOLDER] [--date=DATE]
-       [--vendor=TEXT] FORM [FILE]
+clidoc [--command=NAME]... [--deep] [--width=COLUMNS] [--fragment] [--strict] [--into=FOLDER]
+       [--date=DATE] [--vendor=TEXT] FORM [FILE]
 
 clidoc|--width=3
 clidoc: no form; forms are usage, full, brief, man, markdown, html, check and all
@@ -19,7 +19,7 @@ clidoc|--|full
 clidoc: no form; forms are usage, full, brief, man, markdown, html, check and all
 
 clidoc|
-clidoc: no form ; forms are usage, full, brief, man, markdown, html, check and all
+clidoc: no form ''; forms are usage, full, brief, man, markdown, html, check and all
 
 clidoc|\u{1b}[2J
 clidoc: no form \"\\u{1b}[2J\"; forms are usage, full, brief, man, markdown, html, check and all
@@ -29,6 +29,18 @@ clidoc: no form Full; is it full?
 
 clidoc|xml
 clidoc: no form xml; forms are usage, full, brief, man, markdown, html, check and all
+
+clidoc|a.toml|full
+clidoc: no form a.toml; the form comes first: clidoc full a.toml
+
+clidoc|a b.toml|--|man
+clidoc: no form \"a b.toml\"; the form comes first: clidoc man \"a b.toml\"
+
+clidoc|--command|full|a.toml
+clidoc: no form a.toml; forms are usage, full, brief, man, markdown, html, check and all
+
+clidoc|a.toml|b.toml
+clidoc: no form a.toml; forms are usage, full, brief, man, markdown, html, check and all
 
 clidoc|full|a|b
 clidoc: one word too many: b
@@ -49,7 +61,7 @@ clidoc|full|--widht=80
 clidoc: no option --widht=80; is it --width?
 
 clidoc|full|-x
-clidoc: no option -x; options are --command, --deep, --width, --fragment, --into, --date, --vendor, --help and --version
+clidoc: no option -x; options are --command, --deep, --width, --fragment, --strict, --into, --date, --vendor, --help and --version
 
 clidoc|full|--width|0
 clidoc: no number of columns: 0
@@ -92,6 +104,33 @@ clidoc: --fragment stands twice
 
 clidoc|html|--fragment=x
 clidoc: no option --fragment=x; is it --fragment?
+
+clidoc|full|--strict
+clidoc: --strict is no option of full; it goes with check
+
+clidoc|--strict|brief
+clidoc: --strict is no option of brief; it goes with check
+
+clidoc|man|--strict|--deep
+clidoc: --strict is no option of man; it goes with check
+
+clidoc|markdown|--strict
+clidoc: --strict is no option of markdown; it goes with check
+
+clidoc|html|--strict|--fragment
+clidoc: --strict is no option of html; it goes with check
+
+clidoc|all|--into=a|--strict
+clidoc: --strict is no option of all; it goes with check
+
+clidoc|page|--strict
+clidoc: no form page; forms are usage, full, brief, man, markdown, html, check and all
+
+clidoc|check|--strict|--strict
+clidoc: --strict stands twice
+
+clidoc|check|--strict=x
+clidoc: no option --strict=x; is it --strict?
 
 clidoc|html|--vendor=a|--vendor=b
 clidoc: --vendor stands twice
@@ -323,20 +362,20 @@ clidoc|--vendor|Tide works|html|--fragment|--command=r|--command=add|--date=2026
 ====
 
 ----
-clidoc|check
+clidoc|check|--strict
 
 ====
-
+-:6:1: warning: neither help nor about says what the command does
 ----
-clidoc|check|-
+clidoc|check|--strict|-
 
 ====
-
+-:6:1: warning: neither help nor about says what the command does
 ----
 clidoc|--help
 Makes pages of the description of a command line.
 
-Usage: clidoc [--command=NAME]... [--deep] [--width=COLUMNS] [--fragment] [--into=FOLDER]
+Usage: clidoc [--command=NAME]... [--deep] [--width=COLUMNS] [--fragment] [--strict] [--into=FOLDER]
               [--date=DATE] [--vendor=TEXT] FORM [FILE]
 
 The description is read from FILE, or else from standard input, in TOML, and the page is written to
@@ -351,7 +390,8 @@ Arguments:
                          - man: a manual page.
                          - markdown: a page in markdown.
                          - html: an HTML page with all commands below.
-                         - check: no page. It is only told whether FILE is a description.
+                         - check: no page. It is told whether FILE is a description, and what it
+                           would better say.
                          - all: the manual page and the page in markdown of each level, and the HTML
                            page, as files of --into.
 
@@ -378,6 +418,10 @@ Options:
                          page.
 
                          It goes with html.
+
+        --strict         Fail where there is a warning.
+
+                         It goes with check.
 
         --into=FOLDER    Write all pages into this folder, which has to be there.
 
@@ -411,9 +455,9 @@ Examples:
         clidoc html greet.toml > greet.html
         clidoc html --fragment greet.toml
 
-    Whether it is a description, and all pages at once:
+    Whether it is a description that nothing is to be said about, and all pages at once:
 
-        clidoc check greet.toml
+        clidoc check --strict greet.toml
         clidoc all --into=pages greet.toml
 
 Notes:
@@ -450,17 +494,52 @@ clidoc 1.0.0
 clidoc|usage|--command=r|--command=push
 
 ====
-clidoc: no command push in app remote
+clidoc: no command push in app remote; its command is add
+----
+clidoc|usage|--command=r|--command=add|--command=x
+
+====
+clidoc: no command x in app remote add; it has no commands
+----
+clidoc|usage|--command=remote add
+
+====
+clidoc: no command \"remote add\" in app; write --command once for each level
+----
+clidoc|usage|--command| r  add 
+
+====
+clidoc: no command \" r  add \" in app; write --command once for each level
+----
+clidoc|usage|--command=remote push
+
+====
+clidoc: no command \"remote push\" in app; its command is remote
+----
+clidoc|usage|--command=remote 
+
+====
+clidoc: no command \"remote \" in app; is it remote?
+----
+clidoc|man|--command=remtoe
+
+====
+clidoc: no command remtoe in app; is it remote?
+----
+clidoc|man|--command=
+
+====
+clidoc: no command '' in app; its command is remote
 ----
 clidoc|--command|add|man
 
 ====
-clidoc: no command add in app
+clidoc: no command add in app; its command is remote
 ----
 clidoc|markdown|--command|add
 
 ====
-clidoc: no command add in app
+clidoc: no command add in app; its command is remote
 ----
 clidoc|man|--date=a\u{7}
 
@@ -470,7 +549,7 @@ clidoc: no page: a control character or a noncharacter in a text
 clidoc|html|--command|add
 
 ====
-clidoc: no command add in app
+clidoc: no command add in app; its command is remote
 ----
 clidoc|html|--vendor=a\u{7}
 
@@ -480,17 +559,17 @@ clidoc: no page: a control character or a noncharacter in a text
 clidoc|full|nowhere.toml
 
 ====
-clidoc: can't open nowhere.toml
+clidoc: can't open nowhere.toml: no such file
 ----
 clidoc|check|--|-\u{7}
 
 ====
-clidoc: can't open \"-\\u{7}\"
+clidoc: can't open \"-\\u{7}\": no such file
 ----
 clidoc|check|a\u{9b}b
 
 ====
-clidoc: can't open \"a\\u{9b}b\"";
+clidoc: can't open \"a\\u{9b}b\": no such file";
 
 // Whether a run on words writes the page, or says the line and fails.
 fn is_right(global: Global, row: &str) -> bool {
@@ -553,8 +632,9 @@ fn usage_fits(global: Global) -> bool {
 
 const NARROW_USAGE: &str = "clidoc [--command=NAME]... [--deep]
        [--width=COLUMNS] [--fragment]
-       [--into=FOLDER] [--date=DATE]
-       [--vendor=TEXT] FORM [FILE]";
+       [--strict] [--into=FOLDER]
+       [--date=DATE] [--vendor=TEXT]
+       FORM [FILE]";
 
 #[test]
 fn the_environment_says_the_columns(rt: HostRuntime) {
@@ -607,7 +687,7 @@ const ROWS: &[Row] = &[
         b"name = 'app\xff'\n",
         1,
         b"",
-        "clidoc: input is not UTF-8",
+        "-: the input is not UTF-8",
     ),
 ];
 
@@ -758,7 +838,7 @@ const FAULTY: &[Faulty] = &[
         FIRST,
         2,
         0,
-        "clidoc [--command=NAME]... [--deep] [--width=COLUMNS] [--fragment] [--into=FOLDER] [--date=DATE]\n       [--vendor=TEXT] FORM [FILE]",
+        "clidoc [--command=NAME]... [--deep] [--width=COLUMNS] [--fragment] [--strict] [--into=FOLDER]\n       [--date=DATE] [--vendor=TEXT] FORM [FILE]",
     ),
     (
         "clidoc|full",
@@ -794,7 +874,7 @@ const FAULTY: &[Faulty] = &[
         FIRST,
         1,
         0,
-        "clidoc: input is not UTF-8",
+        "-: the input is not UTF-8",
     ),
     (
         "clidoc|full",
@@ -803,7 +883,7 @@ const FAULTY: &[Faulty] = &[
         FIRST,
         1,
         0,
-        "clidoc: line 2, column 1: duplicate key",
+        "-:2:1: duplicate key",
     ),
     (
         "clidoc|full",
@@ -812,7 +892,7 @@ const FAULTY: &[Faulty] = &[
         FIRST,
         1,
         0,
-        "clidoc: description: name is missing",
+        "-:1:1: name is missing",
     ),
     (
         "clidoc|usage|--command=x",
@@ -821,7 +901,7 @@ const FAULTY: &[Faulty] = &[
         FIRST,
         1,
         0,
-        "clidoc: no command x in app",
+        "clidoc: no command x in app; it has no commands",
     ),
     (
         "clidoc|man|--vendor=\u{1}",
@@ -896,4 +976,6 @@ fn a_refused_growth_is_said(rt: HostRuntime) {
     assert!(rt; refuses_until_ample(rt.alloc(), "helpdoc|sample|full", ends, line));
     let ends = Ends::new(INPUT, HELP);
     assert!(rt; refuses_until_ample(rt.alloc(), "clidoc|full", ends, "clidoc: no memory"));
+    let ends = Ends::new(INPUT, b"");
+    assert!(rt; refuses_until_ample(rt.alloc(), "clidoc|check", ends, "clidoc: no memory"));
 }

@@ -1,9 +1,8 @@
 //! Pages as files of a folder that others may write into too. No clause can say what a folder then holds.
 
 use crate::beside::{is_beside, name_beside};
-use crate::faults::Fault;
 use crate::files::PageFile;
-use crate::program::Failure;
+use crate::program::{Failure, Reason};
 use description_toml::words::Shown;
 use std::alloc::{Allocator, Global};
 use std::fs::{Metadata, OpenFile, OpenOptions, Permissions};
@@ -30,9 +29,32 @@ pub fn enter<R: Env>(rt: &R, global: Global, folder: &str) -> Result<(), Failure
     };
     let name = String::from_str(global, folder)?;
     match error.kind() {
-        ErrorKind::NotFound | ErrorKind::NotADirectory => Err(Failure::NoFolder(name)),
-        _ => Err(Failure::NoFile(name)),
+        ErrorKind::NotADirectory => Err(Failure::NoFolder(name)),
+        kind => Err(Failure::NotOpened {
+            name,
+            reason: reason_of(kind),
+        }),
     }
+}
+
+// Why a folder is not gone into.
+fn reason_of(kind: ErrorKind) -> Reason {
+    match kind {
+        ErrorKind::NotFound => Reason::NoFolder,
+        _ => Reason::Other(kind),
+    }
+}
+
+/// Says how many files were written into the folder, and which of them, the last, leads to all that the others hold.
+pub fn tell_written<R: Eprint, A: Allocator>(rt: &R, folder: &str, files: &[PageFile<A>]) {
+    let (count, inside) = (files.len(), Shown(folder.trim_end_matches('/')));
+    let _ = match files.last() {
+        Some(page) => {
+            let (folder, name) = (Shown(folder), Shown(page.name.as_str()));
+            eprintln!(rt; "clidoc: wrote {count} files to {folder}; see {inside}/{name}")
+        }
+        None => Ok(()),
+    };
 }
 
 /// Says which files runs that were stopped have left in the folder that was entered, some at least, as far as it can be
@@ -74,10 +96,13 @@ pub fn write_files<R: Files + RandomSource, A: Allocator>(
     }
 }
 
-fn not_written(place: String, error: io::Error) -> Failure {
+fn not_written(name: String, error: io::Error) -> Failure {
     match error.kind() {
-        ErrorKind::OutOfMemory => Failure::Fault(Fault::Memory),
-        _ => Failure::NotWritten(place),
+        ErrorKind::OutOfMemory => Failure::Memory,
+        kind => Failure::NotWritten {
+            name,
+            reason: reason_of(kind),
+        },
     }
 }
 

@@ -9,9 +9,9 @@ use linked_list_allocator::LocalHeap;
 use std::alloc::{Allocator, Global};
 use watched::Watched;
 
-fn ending_of(outcome: &Result<(), Fault>) -> Ending {
+fn ending_of<T>(outcome: &Result<T, Fault>) -> Ending {
     match outcome {
-        Ok(()) => Ending::Done,
+        Ok(_) => Ending::Done,
         Err(Fault::Read) => Ending::ReadFailed,
         Err(Fault::Write) => Ending::WriteFailed,
         Err(Fault::Memory) => Ending::NoMemory,

@@ -4,71 +4,85 @@ use crate::programs::answers;
 use crate::stand_ins::scripts::front;
 use std::alloc::{AllocError, Global};
 
-// What is said, and on the next lines the input of which it is said. Between rows stands a line of signs.
+// The lines that are said, and behind a line of signs the input of which they are said. Between rows stands another.
 //
-// A place counts characters, and not bytes. Of several faults the first is told: unknown keys by their bytes, then the
-// keys in their order, then what is taken, then the tables inside.
-const ROWS: &str = "clidoc: line 2, column 1: duplicate key
+// A place counts characters, and not bytes, and a carriage return before a newline is none. Faults come by their places,
+// 20 of them at most. What is not closed is told where it begins.
+const ROWS: &str = "-:2:1: duplicate key
+====
 name = 'app'
 name = 'b'
 
 ----
-clidoc: line 2, column 9: invalid value, expected a string, number, boolean, date-time, array or inline table
+-:2:9: invalid value, expected a string, number, boolean, date-time, array or inline table
+====
 name = 'app'
 about = x
 
 ----
-clidoc: line 2, column 15: unexpected key or value, expected newline, `#`
+-:2:15: unexpected key or value, expected newline, `#`
+====
 \u{feff}name = 'app'
 about = 'é日😀' x
 
 ----
-clidoc: description: name is missing
+-:1:1: name is missing
+====
 
 ----
-clidoc: description: name is no text
+-:1:1: name is no text
+====
 [name]
 
 ----
-clidoc: description: name is empty
+-:1:1: name is empty
+====
 name = ''
 
 ----
-clidoc: description: no key lnog is known here
+-:2:1: no key lnog is known here; keys are name, section, date, vendor, title, language, words, help_option, about, header, footer, usage, command_required, option, choice, group, positional, command and topic
+====
 name = 'app'
 lnog = 1
 
 ----
-clidoc: description: no key \"a\\nb\" is known here
+-:2:1: no key \"a\\nb\" is known here; keys are name, section, date, vendor, title, language, words, help_option, about, header, footer, usage, command_required, option, choice, group, positional, command and topic
+====
 name = 'app'
 \"a\\nb\" = 1
 
 ----
-clidoc: positional 1: value is missing
+-:2:1: positional 1: value is missing
+====
 name = 'app'
 [[positional]]
 
 ----
-clidoc: option 1: short is not one character
+-:3:1: option 1 (-vv): short is not one character
+====
 name = 'app'
 [[option]]
 short = 'vv'
 
 ----
-clidoc: option 1: short begins with -
+-:3:1: option 1 (-): short begins with -
+====
 name = 'app'
 [[option]]
 short = '-'
 
 ----
-clidoc: option 1: help is no text
+-:4:1: option 1 (--v): help is no text
+====
 name = 'app'
 [[option]]
 long = 'v'
 help = 1
 
 ----
-clidoc: option 1: hidden is neither true nor false
+-:4:1: option 1 (--v): env is no text
+-:5:1: option 1 (--v): hidden is neither true nor false
+====
 name = 'app'
 [[option]]
 long = 'v'
@@ -76,7 +90,8 @@ env = 1
 hidden = 1
 
 ----
-clidoc: description: --v is taken
+-:5:1: option 2 (--v): --v is an option already, at line 3
+====
 name = 'app'
 [[option]]
 long = 'v'
@@ -84,7 +99,8 @@ long = 'v'
 long = 'v'
 
 ----
-clidoc: description: --v is taken
+-:6:1: choice 1, option 1 (--v): --v is an option already, at line 3
+====
 name = 'app'
 [[option]]
 long = 'v'
@@ -93,7 +109,8 @@ long = 'v'
 long = 'v'
 
 ----
-clidoc: description: -v is taken
+-:7:1: group 1 (G), option 1 (-v): -v is an option already, at line 3
+====
 name = 'app'
 [[option]]
 short = 'v'
@@ -103,7 +120,8 @@ title = 'G'
 short = 'v'
 
 ----
-clidoc: description: command a is taken
+-:7:1: group 1 (G), command 1 (a): a is a command already, at line 3
+====
 name = 'app'
 [[command]]
 name = 'a'
@@ -113,7 +131,9 @@ title = 'G'
 name = 'a'
 
 ----
-clidoc: command 2, option 1: no key lnog is known here; is it long?
+-:6:1: command 2 (b), option 1: short, long or syntax is missing
+-:7:1: command 2 (b), option 1: no key lnog is known here; is it long?
+====
 name = 'app'
 [[command]]
 name = 'a'
@@ -123,23 +143,33 @@ name = 'b'
 lnog = 1
 
 ----
-clidoc: description: no key a is known here
+-:1:1: no key b is known here; keys are name, section, date, vendor, title, language, words, help_option, about, header, footer, usage, command_required, option, choice, group, positional, command and topic
+-:1:1: name is missing
+-:2:1: no key a is known here; keys are name, section, date, vendor, title, language, words, help_option, about, header, footer, usage, command_required, option, choice, group, positional, command and topic
+-:3:1: option 1: short, long or syntax is missing
+====
 b = 1
 a = 1
 [[option]]
 
 ----
-clidoc: description: about is no text
+-:2:1: about is no text
+-:3:1: option 1: short, long or syntax is missing
+====
 name = 'app'
 about = 1
 [[option]]
 
 ----
-clidoc: description: name is missing
+-:1:1: name is missing
+-:1:1: about is no text
+====
 about = 1
 
 ----
-clidoc: description: about is no text
+-:2:1: about is no text
+-:6:1: option 2 (--v): --v is an option already, at line 4
+====
 name = 'app'
 about = 1
 [[option]]
@@ -148,7 +178,9 @@ long = 'v'
 long = 'v'
 
 ----
-clidoc: description: --v is taken
+-:4:1: option 1 (--v): no key lnog is known here; is it long?
+-:6:1: option 2 (--v): --v is an option already, at line 3
+====
 name = 'app'
 [[option]]
 long = 'v'
@@ -157,7 +189,11 @@ lnog = 1
 long = 'v'
 
 ----
-clidoc: option 1: no key lnog is known here; is it long?
+-:2:1: command 1: name is missing
+-:3:1: command 1: no key lnog is known here; keys are name, short, help, hidden, aliases, about, header, footer, usage, command_required, option, choice, group, positional, command and topic
+-:4:1: option 1: short, long or syntax is missing
+-:5:1: option 1: no key lnog is known here; is it long?
+====
 name = 'app'
 [[command]]
 lnog = 1
@@ -165,17 +201,202 @@ lnog = 1
 lnog = 1
 
 ----
-clidoc: option 1: short is not one character
+-:3:1: option 1 (-vv): short is not one character
+-:4:1: option 2: short, long or syntax is missing
+-:5:1: option 2: no key lnog is known here; is it long?
+====
 name = 'app'
 [[option]]
 short = 'vv'
 [[option]]
 lnog = 1
+
+----
+-:4:1: duplicate key; [[group]] has to stand before [[group.option]]
+====
+name = 'app'
+[[group.option]]
+long = 'a'
+[[group]]
+title = 'G'
+----
+-:3:1: duplicate key; [[command]] has to stand before [command.option]
+====
+name = 'app'
+[command.option]
+[[ command ]]
+name = 'a'
+----
+-:4:1: duplicate key
+====
+name = 'app'
+[group]
+title = 'G'
+[[group]]
+title = 'G'
+----
+-:2:9: \"\"\" is not closed
+====
+name = 'app'
+about = \"\"\"
+A \"text\" \\\"\"\" of \"\"two\"\" lines
+[[option]]
+long = 'a'
+----
+-:2:9: ''' is not closed
+====
+name = 'app' # \"
+about = '''
+It's open''
+----
+-:4:9: [ is not closed
+====
+name = 'app'
+about = '''It's'''''
+header = \"\\\"[\" # {
+usage = [ \"a]\",
+  [ ']' ],
+
+----
+-:2:9: { is not closed
+====
+name = 'app'
+words = { options = ''
+----
+-:4:10: unexpected key or value, expected newline, `#`
+====
+name = 'app'
+[[option]]
+long = 'a'
+help = \"\"x
+----
+-:7:26: command 1 (b), option 1 (--c): help is no text
+-:7:40: command 1 (b), option 2 (--c): --c is an option already, at line 7
+-:10:1: option 2 (--a): --a is an option already, at line 3
+====
+name = 'app'
+[[option]]
+long = 'a'
+
+[[command]]
+name = 'b'
+option = [ { long = 'c', help = 1 }, { long = 'c' } ]
+[[option]]
+short = 'd'
+long = 'a'
+
+----
+-:2:1: option 1: short, long or syntax is missing
+-:3:1: option 1: no key lnog is known here; is it long?
+-:4:1: option 2: short, long or syntax is missing
+-:5:1: option 2: no key lnog is known here; is it long?
+-:6:1: option 3: short, long or syntax is missing
+-:7:1: option 3: no key lnog is known here; is it long?
+-:8:1: option 4: short, long or syntax is missing
+-:9:1: option 4: no key lnog is known here; is it long?
+-:10:1: option 5: short, long or syntax is missing
+-:11:1: option 5: no key lnog is known here; is it long?
+-:12:1: option 6: short, long or syntax is missing
+-:13:1: option 6: no key lnog is known here; is it long?
+-:14:1: option 7: short, long or syntax is missing
+-:15:1: option 7: no key lnog is known here; is it long?
+-:16:1: option 8: short, long or syntax is missing
+-:17:1: option 8: no key lnog is known here; is it long?
+-:18:1: option 9: short, long or syntax is missing
+-:19:1: option 9: no key lnog is known here; is it long?
+-:20:1: option 10: short, long or syntax is missing
+-:21:1: option 10: no key lnog is known here; is it long?
+-: and 1 more fault
+====
+name = 'app'
+[[option]]
+lnog = 1
+[[option]]
+lnog = 1
+[[option]]
+lnog = 1
+[[option]]
+lnog = 1
+[[option]]
+lnog = 1
+[[option]]
+lnog = 1
+[[option]]
+lnog = 1
+[[option]]
+lnog = 1
+[[option]]
+lnog = 1
+[[option]]
+lnog = 1
+[[option]]
+----
+-:2:1: option 1: short, long or syntax is missing
+-:3:1: option 1: no key lnog is known here; is it long?
+-:4:1: option 2: short, long or syntax is missing
+-:5:1: option 2: no key lnog is known here; is it long?
+-:6:1: option 3: short, long or syntax is missing
+-:7:1: option 3: no key lnog is known here; is it long?
+-:8:1: option 4: short, long or syntax is missing
+-:9:1: option 4: no key lnog is known here; is it long?
+-:10:1: option 5: short, long or syntax is missing
+-:11:1: option 5: no key lnog is known here; is it long?
+-:12:1: option 6: short, long or syntax is missing
+-:13:1: option 6: no key lnog is known here; is it long?
+-:14:1: option 7: short, long or syntax is missing
+-:15:1: option 7: no key lnog is known here; is it long?
+-:16:1: option 8: short, long or syntax is missing
+-:17:1: option 8: no key lnog is known here; is it long?
+-:18:1: option 9: short, long or syntax is missing
+-:19:1: option 9: no key lnog is known here; is it long?
+-:20:1: option 10: short, long or syntax is missing
+-:21:1: option 10: no key lnog is known here; is it long?
+-: and 2 more faults
+====
+name = 'app'
+[[option]]
+lnog = 1
+[[option]]
+lnog = 1
+[[option]]
+lnog = 1
+[[option]]
+lnog = 1
+[[option]]
+lnog = 1
+[[option]]
+lnog = 1
+[[option]]
+lnog = 1
+[[option]]
+lnog = 1
+[[option]]
+lnog = 1
+[[option]]
+lnog = 1
+[[option]]
+lnog = 1
+
+----
+-:3:1: header is no text
+====
+name = 'app'\r
+about = 'x'\r
+header = 1\r
+
+----
+-:5:1: header is no text
+====
+name = 'app'\r
+about = '''x\r
+\r
+y'''\r
+header = 1\r
 ";
 
 fn is_said(global: Global, row: &str) -> bool {
-    match row.split_once('\n') {
-        Some((line, input)) => answers(global, "clidoc|full", input.as_bytes(), 1, (b"", line)),
+    match row.split_once("\n====\n") {
+        Some((lines, input)) => answers(global, "clidoc|full", input.as_bytes(), 1, (b"", lines)),
         None => false,
     }
 }
@@ -209,8 +430,7 @@ fn nested_answer(
     Ok(answers(global, "clidoc|usage", input.as_bytes(), status, printed))
 }
 
-const TOO_DEEP: &str =
-    "clidoc: line 162, column 3: cannot recurse further; max recursion depth met";
+const TOO_DEEP: &str = "-:162:3: cannot recurse further; max recursion depth met";
 
 #[test]
 fn commands_stand_in_one_another(rt: HostRuntime) {

@@ -57,6 +57,32 @@ const CALLS: &[&str] = &[
     "keep folder",
 ];
 
+// The same, where the name of the folder ends in a slash.
+const SLASHED: &[&str] = &[
+    "enter out/",
+    "list ./",
+    "look a.1",
+    "draw",
+    "create .a.1.00000000.new",
+    MANUAL,
+    "keep file",
+    "rename .a.1.00000000.new a.1",
+    "look a.md",
+    "draw",
+    "create .a.md.01010101.new",
+    MARKDOWN,
+    "keep file",
+    "rename .a.md.01010101.new a.md",
+    "look a.html",
+    "draw",
+    "create .a.html.02020202.new",
+    WEB,
+    "keep file",
+    "rename .a.html.02020202.new a.html",
+    "open .",
+    "keep folder",
+];
+
 // The same, where the manual page and the HTML page have a date and a vendor.
 const DATED: &[&str] = &[
     "enter out",
@@ -138,7 +164,7 @@ const OTHER: &[&str] = &[
 // A call that fails, why, the calls behind it, the status, and the line. A folder may not know how it is kept.
 type Failing = (usize, ErrorKind, &'static [&'static str], u8, &'static str);
 
-const WRITTEN: &str = "clidoc: 3 files written";
+const WRITTEN: &str = "clidoc: wrote 3 files to out; see out/a.html";
 
 const FULL: ErrorKind = ErrorKind::StorageFull;
 
@@ -149,31 +175,127 @@ const REMOVE_MARKDOWN: &[&str] = &["remove .a.md.01010101.new"];
 const REMOVE_WEB: &[&str] = &["remove .a.html.02020202.new"];
 
 const FAILING: &[Failing] = &[
-    (0, ErrorKind::NotFound, &[], 1, "clidoc: no folder out"),
-    (0, ErrorKind::NotADirectory, &[], 1, "clidoc: no folder out"),
+    (
+        0,
+        ErrorKind::NotFound,
+        &[],
+        1,
+        "clidoc: can't open out: no such folder",
+    ),
+    (
+        0,
+        ErrorKind::NotADirectory,
+        &[],
+        1,
+        "clidoc: out is no folder",
+    ),
     (
         0,
         ErrorKind::PermissionDenied,
         &[],
         1,
-        "clidoc: can't open out",
+        "clidoc: can't open out: permission denied",
     ),
-    (3, ErrorKind::Other, &[], 1, "clidoc: can't write out/a.1"),
-    (4, FULL, &[], 1, "clidoc: can't write out/a.1"),
+    (
+        3,
+        ErrorKind::Other,
+        &[],
+        1,
+        "clidoc: can't write out/a.1: other error",
+    ),
+    (
+        4,
+        FULL,
+        &[],
+        1,
+        "clidoc: can't write out/a.1: no storage space",
+    ),
     (4, ErrorKind::AlreadyExists, OTHER, 0, WRITTEN),
-    (5, FULL, REMOVE_MANUAL, 1, "clidoc: can't write out/a.1"),
-    (6, FULL, REMOVE_MANUAL, 1, "clidoc: can't write out/a.1"),
-    (7, FULL, REMOVE_MANUAL, 1, "clidoc: can't write out/a.1"),
-    (10, FULL, &[], 1, "clidoc: can't write out/a.md"),
-    (11, FULL, REMOVE_MARKDOWN, 1, "clidoc: can't write out/a.md"),
-    (12, FULL, REMOVE_MARKDOWN, 1, "clidoc: can't write out/a.md"),
-    (13, FULL, REMOVE_MARKDOWN, 1, "clidoc: can't write out/a.md"),
-    (16, FULL, &[], 1, "clidoc: can't write out/a.html"),
-    (17, FULL, REMOVE_WEB, 1, "clidoc: can't write out/a.html"),
-    (18, FULL, REMOVE_WEB, 1, "clidoc: can't write out/a.html"),
-    (19, FULL, REMOVE_WEB, 1, "clidoc: can't write out/a.html"),
+    (
+        5,
+        FULL,
+        REMOVE_MANUAL,
+        1,
+        "clidoc: can't write out/a.1: no storage space",
+    ),
+    (
+        6,
+        FULL,
+        REMOVE_MANUAL,
+        1,
+        "clidoc: can't write out/a.1: no storage space",
+    ),
+    (
+        7,
+        FULL,
+        REMOVE_MANUAL,
+        1,
+        "clidoc: can't write out/a.1: no storage space",
+    ),
+    (
+        10,
+        FULL,
+        &[],
+        1,
+        "clidoc: can't write out/a.md: no storage space",
+    ),
+    (
+        11,
+        FULL,
+        REMOVE_MARKDOWN,
+        1,
+        "clidoc: can't write out/a.md: no storage space",
+    ),
+    (
+        12,
+        FULL,
+        REMOVE_MARKDOWN,
+        1,
+        "clidoc: can't write out/a.md: no storage space",
+    ),
+    (
+        13,
+        FULL,
+        REMOVE_MARKDOWN,
+        1,
+        "clidoc: can't write out/a.md: no storage space",
+    ),
+    (
+        16,
+        FULL,
+        &[],
+        1,
+        "clidoc: can't write out/a.html: no storage space",
+    ),
+    (
+        17,
+        FULL,
+        REMOVE_WEB,
+        1,
+        "clidoc: can't write out/a.html: no storage space",
+    ),
+    (
+        18,
+        FULL,
+        REMOVE_WEB,
+        1,
+        "clidoc: can't write out/a.html: no storage space",
+    ),
+    (
+        19,
+        FULL,
+        REMOVE_WEB,
+        1,
+        "clidoc: can't write out/a.html: no storage space",
+    ),
     (20, ErrorKind::PermissionDenied, &[], 0, WRITTEN),
-    (21, FULL, &[], 1, "clidoc: can't write out"),
+    (
+        21,
+        FULL,
+        &[],
+        1,
+        "clidoc: can't write out: no storage space",
+    ),
     (21, ErrorKind::InvalidInput, &[], 0, WRITTEN),
     (21, ErrorKind::Unsupported, &[], 0, WRITTEN),
 ];
@@ -204,6 +326,18 @@ fn words_write(global: Global, words: &str, calls: &'static [&'static str]) -> b
 fn pages_are_written_into_a_folder(rt: HostRuntime) {
     assert!(rt; writes_all(rt.alloc(), Folder::new(CALLS), 0, WRITTEN));
     assert!(rt; words_write(rt.alloc(), "clidoc|all|--into|out|-", CALLS));
+    let line = "clidoc: wrote 3 files to out/; see out/a.html";
+    let folder = Folder::new(SLASHED);
+    assert!(rt;
+        ends_so(
+            rt.alloc(),
+            &folder,
+            "clidoc|all|--into|out/",
+            INPUT,
+            0,
+            line
+        )
+    );
     let dated = "clidoc|--date=2026-11-28|all|--vendor|Tide works|--into|out";
     assert!(rt; words_write(rt.alloc(), dated, DATED));
     for &(call, kind, then, status, line) in FAILING {
@@ -243,7 +377,7 @@ const LEFT: &[u8] =
     b"a.1\0.a.1.0123abcd.new\0.a.1.new\0.a.1.0123abc.new\0a.1.0123abcd.new\0.0123abcd.new\0.x\x1b.0123ABCD.new\0";
 
 const LEFT_LINES: &str =
-    "clidoc: out/.a.1.0123abcd.new is of a run that was stoppedclidoc: out/\".x\\u{1b}.0123ABCD.new\" is of a run that was stoppedclidoc: 3 files written";
+    "clidoc: out/.a.1.0123abcd.new is of a run that was stoppedclidoc: out/\".x\\u{1b}.0123ABCD.new\" is of a run that was stoppedclidoc: wrote 3 files to out; see out/a.html";
 
 // Nothing that a run before has left is touched.
 #[test]
@@ -259,7 +393,7 @@ const NOTHING: &[(&str, &[u8], &[&str], &str)] = &[
         WORDS,
         b"lnog = 1\nlnog = 1\n",
         &["enter out"],
-        "clidoc: line 2, column 1: duplicate key",
+        "-:2:1: duplicate key",
     ),
     (
         WORDS,
@@ -271,9 +405,85 @@ const NOTHING: &[(&str, &[u8], &[&str], &str)] = &[
         "clidoc|all|--into|out|b.toml",
         INPUT,
         &[],
-        "clidoc: can't open b.toml",
+        "clidoc: can't open b.toml: no such file",
     ),
 ];
+
+// Words, the bytes of the file of which they tell, and the lines.
+const FILES: &[(&str, &[u8], &str)] = &[
+    (
+        "clidoc|full|my.toml",
+        b"name = x",
+        "my.toml:1:8: invalid value, expected a string, number, boolean, date-time, array or inline table",
+    ),
+    (
+        "clidoc|check|--|my.toml",
+        b"name = ''\n\n[[option]]\nlong = 1",
+        "my.toml:1:1: name is empty\nmy.toml:4:1: option 1: long is no text",
+    ),
+    (
+        "clidoc|--strict|check|my.toml",
+        b"name = 'a'\n\n[[option]]\nlong = 'b'\nhelp = ''",
+        "my.toml:1:1: warning: no about says what the program does\nmy.toml:3:1: warning: no help says what the option does",
+    ),
+    (
+        "clidoc|html|my.toml",
+        b"name = 'a\xff'",
+        "my.toml: the input is not UTF-8",
+    ),
+];
+
+// Whether a run on a file tells this of it, where it can be opened.
+fn file_is_told(global: Global, words: &str, bytes: &'static [u8], line: &str) -> bool {
+    let folder = Folder::new(&["open my.toml"]).with_file("my.toml", bytes);
+    ends_so(global, &folder, words, b"", 1, line)
+}
+
+// Why it cannot be opened, and what is said.
+const UNOPENED: &[(ErrorKind, &str)] = &[
+    (
+        ErrorKind::NotFound,
+        "clidoc: can't open my.toml: no such file",
+    ),
+    (
+        ErrorKind::PermissionDenied,
+        "clidoc: can't open my.toml: permission denied",
+    ),
+    (
+        ErrorKind::NotADirectory,
+        "clidoc: can't open my.toml: not a directory",
+    ),
+];
+
+#[test]
+fn files_are_told_by_their_names(rt: HostRuntime) {
+    for &(words, bytes, line) in FILES {
+        assert!(rt; file_is_told(rt.alloc(), words, bytes, line), "{words}");
+    }
+    let folder = Folder::new(&["open my.toml"]).with_file("my.toml", b"name = 'a'");
+    let line = "my.toml:1:1: warning: no about says what the program does";
+    assert!(rt; ends_so(rt.alloc(), &folder, "clidoc|check|my.toml", b"", 0, line));
+    for &(kind, line) in UNOPENED {
+        let folder = Folder::new(&["open my.toml"])
+            .with_file("my.toml", b"")
+            .failing(0, kind, &[]);
+        assert!(rt;
+            ends_so(rt.alloc(), &folder, "clidoc|full|my.toml", b"", 1, line),
+            "{line}"
+        );
+    }
+    let folder = Folder::new(&["open ."]);
+    assert!(rt;
+        ends_so(
+            rt.alloc(),
+            &folder,
+            "clidoc|full|.",
+            b"",
+            1,
+            "clidoc: . is a folder"
+        )
+    );
+}
 
 // Whether a growth is refused on so much memory, and no file written. None where it is done, or anything else comes.
 fn is_without_memory(global: Global, budget: usize) -> Option<bool> {

@@ -43,7 +43,7 @@ fn no_more_is_read_than_may_be(rt: HostRuntime) {
 fn is_said(global: Global) -> Result<bool, AllocError> {
     let input = vec![in global; 0u8; (16 << 20) + 1]?;
     let heap = LocalHeap::new(global, 64 << 20)?;
-    let line = "clidoc: input is over 16 MiB long";
+    let line = "-: the input is over 16 MiB long";
     let desk = Desk::new(global, "clidoc|check", Ends::new(&input, b""), line);
     let status = run(&(&desk, &heap), global);
     Ok(status == ExitCode::from(1) && desk.has_printed(0, true))

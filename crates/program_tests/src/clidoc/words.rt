@@ -24,6 +24,8 @@ const HTML_WORDS: &[&str] = &[
     "--command=a",
 ];
 
+const CHECK_WORDS: &[&str] = &["--strict", "check", "c"];
+
 fn is_that<A: Allocator>(choice: &Choice<'_, A>) -> bool {
     match choice {
         Choice::Page(Page::Console(console), Some("c")) => {
@@ -59,6 +61,7 @@ fn chosen(global: Global, budget: usize, words: &[&str]) -> Option<bool> {
         return Some(false);
     };
     match choose(&heap, 100, words) {
+        Ok(Choice::Check { strict, file }) => Some(strict && file == Some("c")),
         Ok(choice) => Some(is_that(&choice) || is_fragment(&choice)),
         Err(WordFault::Refused(_)) => None,
         Err(_) => Some(false),
@@ -79,4 +82,5 @@ fn chooses_when_ample(global: Global, words: &[&str]) -> bool {
 fn a_refused_growth_chooses_nothing(rt: HostRuntime) {
     assert!(rt; chooses_when_ample(rt.alloc(), WORDS));
     assert!(rt; chooses_when_ample(rt.alloc(), HTML_WORDS));
+    assert!(rt; chooses_when_ample(rt.alloc(), CHECK_WORDS));
 }

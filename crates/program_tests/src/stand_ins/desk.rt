@@ -13,7 +13,7 @@ use std::env::FillError;
 use std::fmt::{Display, Write as _};
 use std::fs::{Metadata, OpenOptions};
 use std::io;
-use std::io::{BufRead, BufReader, Lines, Write};
+use std::io::{BufRead, BufReader, ErrorKind, Lines, Write};
 use std::random::RandomSource;
 use std::rt::{Env, Files};
 
@@ -154,7 +154,7 @@ impl<'a> Files for Desk<'a> {
 
     fn open_file(&self, how: &OpenOptions, path: &str) -> io::Result<FolderFile<'a>> {
         let Some(folder) = self.folder else {
-            return unsupported();
+            return Err(io::Error::from(ErrorKind::NotFound));
         };
         folder.open(how, path)
     }

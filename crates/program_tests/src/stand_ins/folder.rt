@@ -25,6 +25,7 @@ pub struct Folder {
     fails_at: Option<(usize, ErrorKind)>,
     then: &'static [&'static str],
     stands: Stands,
+    file: Option<(&'static str, &'static [u8])>,
     names: &'static [u8],
     count: Cell<usize>,
     draws: Cell<u8>,
@@ -39,6 +40,7 @@ impl Folder {
             fails_at: None,
             then: &[],
             stands: Stands::Nothing,
+            file: None,
             names: b"",
             count: Cell::new(0),
             draws: Cell::new(0),
@@ -61,6 +63,12 @@ impl Folder {
     /// The same, but this stands where each page is to be written.
     pub fn holding(mut self, stands: Stands) -> Folder {
         self.stands = stands;
+        self
+    }
+
+    /// The same, but a file of this name with these bytes can be opened.
+    pub fn with_file(mut self, name: &'static str, bytes: &'static [u8]) -> Folder {
+        self.file = Some((name, bytes));
         self
     }
 
@@ -146,23 +154,23 @@ impl Folder {
         self.call("remove ", path, b"")
     }
 
-    /// A file that is created, where nothing stands, or the folder itself.
+    /// A file that is created, where nothing stands, or the one that can be opened, or the folder itself.
     pub fn open(&self, how: &OpenOptions, path: &str) -> io::Result<FolderFile<'_>> {
         how.check()?;
         if how.asks_create_new() {
             self.call("create ", path, b"")?;
-            Ok(FolderFile {
-                folder: self,
-                is_folder: false,
-            })
-        } else if path != "." {
-            Err(io::Error::from(ErrorKind::NotFound))
-        } else {
+            return Ok(FolderFile::new(self, false, b""));
+        }
+        if path == "." {
             self.call("open ", path, b"")?;
-            Ok(FolderFile {
-                folder: self,
-                is_folder: true,
-            })
+            return Ok(FolderFile::new(self, true, b""));
+        }
+        match self.file {
+            Some((name, bytes)) if name == path => {
+                self.call("open ", path, b"")?;
+                Ok(FolderFile::new(self, false, bytes))
+            }
+            _ => Err(io::Error::from(ErrorKind::NotFound)),
         }
     }
 }
@@ -183,6 +191,17 @@ fn is_call(told: &str, verb: &str, path: &str, rest: &[u8]) -> bool {
 pub struct FolderFile<'a> {
     folder: &'a Folder,
     is_folder: bool,
+    left: &'static [u8],
+}
+
+impl<'a> FolderFile<'a> {
+    fn new(folder: &'a Folder, is_folder: bool, left: &'static [u8]) -> FolderFile<'a> {
+        FolderFile {
+            folder,
+            is_folder,
+            left,
+        }
+    }
 }
 
 pub fn unsupported<T>() -> io::Result<T>
@@ -192,8 +211,11 @@ pub fn unsupported<T>() -> io::Result<T>
 }
 
 impl Read for FolderFile<'_> {
-    fn read(&mut self, _buf: &mut [u8]) -> io::Result<usize> {
-        unsupported()
+    fn read(&mut self, buf: &mut [u8]) -> io::Result<usize> {
+        let mut left = self.left;
+        let taken = left.read(buf)?;
+        self.left = left;
+        Ok(taken)
     }
 }
 
@@ -216,7 +238,11 @@ impl Seek for FolderFile<'_> {
 
 impl OpenFile for FolderFile<'_> {
     fn metadata(&self) -> io::Result<Metadata> {
-        Ok(Metadata::of_file(0))
+        if self.is_folder {
+            Ok(Metadata::of_dir())
+        } else {
+            Ok(Metadata::of_file(0))
+        }
     }
 
     fn set_len(&self, _size: u64) -> io::Result<()> {

@@ -3,4 +3,8 @@ use Rattle.description.specs.View.{description_said}
 use Rattle.clidoc_engine.proofs.engine.judge.Goals as goal
 
 pub returns-clause-ok : goal.returns-clause-ok
-returns-clause-ok c = (description_said c.in_ok-description.description, record { table = table_view c.in_ok-data.data; toml = c.in_ok-data.ensures.ok; gives = c.in_ok-description.ensures.ok })
+returns-clause-ok c = record {
+  description = description_said c.in_ok-description.description;
+  described = record { table = table_view c.in_ok-data.data; toml = c.in_ok-data.ensures.ok; gives = c.in_ok-description.ensures.ok };
+  each = c.in_ok-warnings.ensures;
+}
