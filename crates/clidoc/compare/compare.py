@@ -5,7 +5,7 @@
 
 Makes COUNT descriptions (100) from SEED (1), with hostile texts and fixed words, writes each as TOML, and runs the built program, `out/clidoc`, on it in each
 form, for the application and for a command to which random words lead. `pages` is the definition of the pages as a program. Then `clidoc` is run on the same
-descriptions with one fault each, and the line that it prints is compared (`faults.py`).
+descriptions with a planted fault each, and the line that tells it is looked for (`faults.py`).
 Prints how many pages and lines agree and how many differ, and the first that differs. Ends with status 1 where any differs.
 """
 import concurrent.futures
@@ -73,7 +73,7 @@ def pages(cases, seed):
 
 
 def lines(cases, seed):
-    """The same of data with one fault, in a form by turns."""
+    """The same of data with a planted fault, in a form by turns. What should come out on standard error is a pattern of one of its lines."""
     chances = random.Random(seed)
     number = 0
     for table, _ in cases[len(list(page_cases.EXAMPLES.glob("*.toml"))) :]:
@@ -81,7 +81,7 @@ def lines(cases, seed):
             given = describing.Writer(chances).document(other).encode()
             form = FORMS[number % len(FORMS)]
             number += 1
-            yield given, [form], (1, b"", f"clidoc: {said}\n".encode())
+            yield given, [form], (1, b"", said)
 
 
 def run(words, given):
@@ -89,11 +89,18 @@ def run(words, given):
     return done.returncode, done.stdout, done.stderr
 
 
+def agrees(came, wanted):
+    if isinstance(wanted[2], bytes):
+        return came == wanted
+    told = came[2].decode(errors="replace").splitlines()
+    return came[:2] == wanted[:2] and any(wanted[2].fullmatch(line) for line in told)
+
+
 def compared(what, rows):
     agreed, different = 0, []
     with concurrent.futures.ThreadPoolExecutor() as pool:
         for given, words, wanted, came in pool.map(lambda row: (*row, run(row[1], row[0])), rows):
-            if came == wanted:
+            if agrees(came, wanted):
                 agreed += 1
             else:
                 different.append((given, words, came, wanted))

@@ -1,5 +1,6 @@
-"""Inputs that have one fault, each with what the program has to say of it."""
+"""Inputs in which a fault is planted, each with a line that the program has to say of it among its lines."""
 import copy
+import re
 
 TEXTS = {
     "description": ["vendor", "title", "about", "header", "footer", "usage"],
@@ -114,7 +115,7 @@ def characters(kind):
         yield {key: "a\\b"}, [], f"{key} holds a backslash"
         yield {key: "a\"b"}, [], f"{key} holds a double quote"
     if kind in ["group", "topic"]:
-        yield {"title": " \u3000"}, [], "title is blank"
+        yield {"title": " \u3000"}, [], "title begins with a blank"
     if kind == "topic":
         yield {"text": ""}, [], "text is empty"
 
@@ -148,7 +149,7 @@ def said_of_a_section(section):
 
 
 def planted(table, random):
-    """The data with one fault, and what is said of it: one for each kind of fault, at a table of its kind."""
+    """The data with a fault, and a pattern of the line that tells it: one for each kind of fault, at a table of its kind."""
     places = list(tables(table))
     random.shuffle(places)
     seen = set()
@@ -162,4 +163,10 @@ def planted(table, random):
             for key in lost:
                 found.pop(key, None)
             found.update(new)
-            yield other, f"{', '.join(way) or 'description'}: {said}"
+            yield other, line_of(way, said)
+
+
+def line_of(way, said):
+    """What a line is that tells a fault: its place, the way to its table, in which names may stand behind the steps, and what is wrong."""
+    steps = ", ".join(rf"{step}( \(.+?\))?" for step in way)
+    return re.compile(rf"-:\d+:\d+: {steps + ': ' if way else ''}{re.escape(said)}(; .*|, at line \d+)?")

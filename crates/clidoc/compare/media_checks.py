@@ -8,7 +8,7 @@ import html5lib
 
 from pages import console, html, man, man_reader, markdown, markdown_reader, words
 from pages.columns import columns
-from pages.tree import Element, element, is_a, plain
+from pages.tree import Element, element, is_a, plain, without_pieces
 
 # What groff and mandoc say of what no page can mend: no date, or one in words, and words wider than a line.
 NAMED = re.compile(r"missing date|cannot parse date|can't break line|cannot adjust line|cannot break line")
@@ -21,8 +21,12 @@ def run(command, text):
     return done.stdout.decode(errors="replace"), done.stderr.decode(errors="replace")
 
 
-def difference(found, wanted, way=""):
+def difference(found, wanted):
     """Where two trees differ first."""
+    return difference_at("", found, without_pieces(wanted))
+
+
+def difference_at(way, found, wanted):
     if (
         isinstance(found, Element)
         and isinstance(wanted, Element)
@@ -30,7 +34,7 @@ def difference(found, wanted, way=""):
         and len(found.inside) == len(wanted.inside)
     ):
         pairs = zip(found.inside, wanted.inside)
-        return next(filter(None, (difference(one, other, f"{way}/{found.kind}") for one, other in pairs)), None)
+        return next(filter(None, (difference_at(f"{way}/{found.kind}", one, other) for one, other in pairs)), None)
     return None if found == wanted else f"{way}: {str(found)[:300]!r}, not {str(wanted)[:300]!r}"
 
 

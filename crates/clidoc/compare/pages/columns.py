@@ -10,12 +10,7 @@ NONE = {"Mn", "Me", "Cf"}
 
 
 def of_letter(letter):
-    if (
-        unicodedata.category(letter) in NONE
-        and letter != "\u00ad"
-        or "\u1160" <= letter <= "\u11ff"
-        or letter == "\u3164"
-    ):
+    if unicodedata.category(letter) in NONE or "\u1160" <= letter <= "\u11ff" or letter == "\u3164":
         return 0
     return 2 if unicodedata.east_asian_width(letter) in "WF" else 1
 

@@ -79,17 +79,24 @@ def entry_lines(entry, column, width):
     if not lines:
         return [term]
     margin, before = " " * column, term + " " * max(column - columns(term), 2)
-    is_beside = lines[0] and (columns(before) == column or columns(before + lines[0]) <= width)
-    found = behind(before, margin, lines) if is_beside else [term, *behind(margin, margin, lines)]
-    return found + ([""] if len(blocks) > 1 else [])
+    is_beside = lines[0] and (columns(before) == column or columns(lines[0]) <= room(width, columns(before)))
+    return behind(before, margin, lines) if is_beside else [term, *behind(margin, margin, lines)]
+
+
+def entries_lines(entries, column, width):
+    """Entries. Below one of several blocks stands an empty line, if another one follows."""
+    found, is_parted = [], False
+    for entry in entries:
+        found += ([""] if is_parted else []) + entry_lines(entry, column, width)
+        is_parted = len(entry.child("body").inside) > 1
+    return found
 
 
 def section_lines(section, column, width):
     found = [plain(section.child("heading").inside) + ":"]
     for entries in section.children("entries"):
-        found += [line for entry in entries.inside for line in entry_lines(entry, column, width)]
-    found += behind("    ", "    ", blocks_lines(section.children("paragraph", "code", "list"), room(width, 4)))
-    return found[:-1] if not found[-1] and section.children("entries") else found
+        found += entries_lines(entries.inside, column, width)
+    return found + behind("    ", "    ", blocks_lines(section.children("paragraph", "code", "list"), room(width, 4)))
 
 
 def at_bars(piece):

@@ -2,7 +2,7 @@
 import syntaxes
 
 from pages import texts
-from pages.tree import element, is_a, plain
+from pages.tree import Piece, element, is_a, joined, plain
 from pages.words import title
 
 
@@ -54,14 +54,15 @@ def command_terms(command):
 
 
 def notes(table, words):
-    """What is said of a table but its help, as one text."""
+    """What is said of a table but its help: pieces of one text."""
     said = [
-        ("env", "env", str),
-        ("default", "default", str),
-        ("possible_values", "values", ", ".join),
-        ("aliases", "aliases", ", ".join),
+        ("env", "env", lambda name: [name]),
+        ("default", "default", lambda line: [str(line)]),
+        ("possible_values", "values", lambda values: [", ".join(values)]),
+        ("aliases", "aliases", lambda names: joined([[name] for name in names], ", ")),
     ]
-    return " ".join(f"[{words[word]}: {show(table[key])}]" for word, key, show in said if key in table)
+    found = [["[", words[word], ": ", *pieces(table[key]), "]"] for word, key, pieces in said if key in table]
+    return list(map(Piece, joined(found, " ")))
 
 
 def first(blocks, brief):
@@ -75,8 +76,8 @@ def body(table, words, brief):
     if not said:
         return blocks
     if len(blocks) == 1 and is_a(blocks[0], "paragraph"):
-        return [element("paragraph", *blocks[0].inside, " " + said)]
-    return [*blocks, element("paragraph", said)]
+        return [element("paragraph", *blocks[0].inside, Piece(" "), *said)]
+    return [*blocks, element("paragraph", *said)]
 
 
 def alternatives(table):

@@ -119,10 +119,10 @@ def shown(node, keeps_whole=False):
     """What stands within a line. A literal with a letter is not hyphenated where the line is filled."""
     if isinstance(node, str):
         return escaped(node)
-    if node.kind == "reference":
-        return f"\\fB\\%{escaped(plain(node.inside))}\\fP({escaped(node.said['section'])})"
     text = plain(node.inside)
     mark = "\\%" if keeps_whole and any(letter.isascii() and letter.isalpha() for letter in text) else ""
+    if node.kind == "reference":
+        return f"\\fB{mark}{escaped(text)}\\fP({escaped(node.said['section'])})"
     return {
         "literal": f"\\fB{mark}{escaped(text)}\\fP",
         "value": f"\\fI{escaped(text)}\\fP",

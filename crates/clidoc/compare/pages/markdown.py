@@ -10,7 +10,7 @@ import urllib.parse
 from pages.tree import element, is_a, joined, merged, plain
 
 ALWAYS = set("\\`*[]<{")
-AT_FRONT = re.compile(r"[#+>=~-]|[0-9]{1,9}(?=[.)])")
+AT_FRONT = re.compile(r"[#+>=~-]|[0-9]+(?=[.)])")
 
 
 # What stands on a page of markdown.
@@ -99,14 +99,15 @@ def kept(node):
     inside = list(map(kept, node.inside))
     if node.kind == "item" and not (inside and is_a(inside[0], "paragraph")):
         inside = [element("paragraph", *inside)]
-    return element(node.kind, *inside, **{key: said for key, said in node.said.items() if key in {"rank", "address"}})
+    said = {key: each for key, each in node.said.items() if key in {"rank", "address"}}
+    return element(node.kind, *merged(inside), **said)
 
 
 # How it is written.
 
 
 def is_letter(letter):
-    return unicodedata.category(letter)[0] in "LN"
+    return letter.isascii() and letter.isalnum()
 
 
 def escapes(text, place, in_heading):

@@ -22,6 +22,10 @@ manual.
 import typing
 
 
+class Piece(str):
+    """A text that is not joined to those beside it. In markdown what may go on behind it counts at its end."""
+
+
 class Element(typing.NamedTuple):
     kind: str
     said: dict
@@ -40,10 +44,10 @@ def is_a(node, *kinds):
 
 
 def element(kind, *inside, **said):
-    """An element. Texts that are neighbours are one, and an empty one is nothing."""
+    """An element. Texts that are neighbours are one, but for pieces, and an empty one is nothing."""
     whole = []
     for child in inside:
-        if isinstance(child, str) and whole and isinstance(whole[-1], str):
+        if type(child) is str and whole and type(whole[-1]) is str:
             whole[-1] += child
         elif child != "":
             whole.append(child)
@@ -55,6 +59,13 @@ def plain(nodes):
     return "".join(
         node if isinstance(node, str) else " " if node.kind == "break" else plain(node.inside) for node in nodes
     )
+
+
+def without_pieces(node):
+    """The same, in which pieces are joined to the texts beside them."""
+    if isinstance(node, str):
+        return str(node)
+    return element(node.kind, *map(without_pieces, node.inside), **node.said)
 
 
 def one_line(nodes):
