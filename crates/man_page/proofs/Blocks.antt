@@ -10,7 +10,7 @@ use Rattle.page_model.specs.declared.parts.Rank.{Rank}
 use Rattle.page_model.specs.declared.parts.Rank.TheVariants.{Page, Section, Subsection}
 use Rattle.man_page.specs.Sheet.{Roman, Glyph, Kind, Plain, Tagged, Bulleted, Continued, Said, Heading, Paragraph, Example, Synopsis}
 use Rattle.man_page.specs.Kept.{block_kept, body_kept, code_shown, entry_kept, form_kept, in_font, inner_kept, line_shown, lines_shown, paragraph_kept, rank_kept, terms_shown}
-use Rattle.man_page.specs.Exact.{block_text, body_text, bullet_text, code_line, entry_text, escaped, example_text, form_text, heading_name, heading_text, inner_text, input_line, item_text, lines_text, new_paragraph, pieces_text, terms_text, title_text, word_text}
+use Rattle.man_page.specs.Exact.{block_text, body_text, bullet_text, code_line, ends_sentence, entry_text, escaped, example_text, form_text, heading_name, heading_text, inner_text, input_line, item_text, lines_text, new_paragraph, piece_bytes, pieces_text, terms_text, title_text, word_text}
 use Rattle.man_page.specs.Reader.{Bodied, Broken, Filled, Fresh, InExample, InSynopsis, Reading, Stand, Tag, done_if, heading_glyphs, if_open, is_open, next_line, on_last, placed, with_heading, with_line, with_synopsis}
 use Rattle.man_page.specs.declared.escape.Role.TheVariants.{Text, Item, Code}
 use Rattle.man_page.proofs.Glyphs.{all_written, is_solid, is_text_byte, text_reads, writes_item, writes_text}
@@ -142,7 +142,7 @@ module _ (title : List (List Glyph)) where
         → Leads (input_line (pieces_text Text true section line)) (Some read) (here title (in_paragraph said indents kind (before ++ line_shown section line ∷ [])) indents Filled)
     line_leads read said indents kind before line h takes =
         leads_to (takes (line_shown section line))
-        (input_leads read (pieces_text Text true section line) (line_shown section line) (pieces_bytes is_text_byte text_signs Text (writes_text Text refl) true section permitted line h) (pieces_read Text refl true section permitted line [] h))
+        (input_leads read (pieces_text Text true section line) (line_shown section line) (pieces_bytes is_text_byte text_signs Text (writes_text Text refl) true section permitted line h) (pieces_read Text refl true section permitted line [] h (λ _. refl)))
 
     lines_lead : (read : Reading) (said : List Said) (indents : ℕ) (kind : Kind) (before : List (List Glyph)) (line : Line) (lines : List Line) → list_all is_permitted_line (line ∷ lines) ≡ true → TakesLines read said indents kind before
         → Leads (lines_text section (line ∷ lines)) (Some read) (here title (in_paragraph said indents kind (before ++ lines_shown section (line ∷ lines))) indents Filled)
@@ -237,10 +237,10 @@ module _ (title : List (List Glyph)) where
     item_comes : (said : List Said) (name : List Glyph) (before : List (List Glyph)) (item : Line) → is_permitted_line item ≡ true
         → Leads (item_text section item) (here title said 0 (InSynopsis name before)) (here title said 0 (InSynopsis name (before ++ line_shown section item ∷ [])))
     item_comes said name before item h =
-        item_leads (at title said 0 (InSynopsis name before)) (pieces_text Item false section item) (line_shown section item)
+        item_leads (at title said 0 (InSynopsis name before)) (ends_sentence false (flat_map (piece_bytes section) item)) (pieces_text Item false section item) (line_shown section item)
         (pieces_bytes is_text_byte text_signs Item (writes_text Item refl) false section permitted item h)
         (pieces_bytes is_solid solid_signs Item writes_item false section permitted item h)
-        (pieces_read Item refl false section permitted item [] h)
+        (pieces_read Item refl false section permitted item [] h (λ _. refl))
 
     name_leads : (said : List Said) (stand : Stand) (name : List ℕ) → list_all is_permitted_byte name ≡ true → is_open stand ≡ true
         → Leads ((codes ".SY " ++ word_text Text name) ++ codes "\n") (here title said 0 stand) (here title said 0 (InSynopsis (in_font Roman name) []))

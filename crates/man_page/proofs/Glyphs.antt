@@ -83,8 +83,8 @@ pub run_then : (other : Bool) (r s t : Option Reader.Line) (a b : List ℕ) → 
 run_then other r s t a b e f = fold-append (Reader.next_byte other) r a b ∙ ap (λ x. run other x b) e ∙ f
 
 -- what is put in or not, where it shows nothing
-pub run_if : (other test : Bool) (line : Option Reader.Line) (sign : List ℕ) → run other line sign ≡ line → run other line (if test then sign else []) ≡ line
-run_if other true line sign e = e
+pub run_if : (other test : Bool) (line : Option Reader.Line) (sign : List ℕ) → (test ≡ true → run other line sign ≡ line) → run other line (if test then sign else []) ≡ line
+run_if other true line sign e = e refl
 run_if other false line sign e = refl
 
 abbrev ByteReads : Role → Font → List Glyph → ℕ → Type 0

@@ -6,7 +6,7 @@ use Rattle.std.proofs.lemmas.Bool.{and_parts, and_from}
 use Rattle.std.proofs.lemmas.List.Folds.{list_all-append}
 use Rattle.std.proofs.lemmas.List.Sums.{fold-append}
 use Rattle.man_page.specs.Sheet.{Roman, Glyph}
-use Rattle.man_page.specs.Exact.{code_front, input_line, is_quote_first, item_back, line_back, line_front}
+use Rattle.man_page.specs.Exact.{code_front, input_line, is_quote_first, line_back, line_front}
 use Rattle.man_page.specs.Reader
 use Rattle.man_page.specs.Reader.{Input, Reading, Request, Stand, done_if, ends_in_blank, glyphs, is_in_example, is_plain_input, last_of, line_of, next_line, placed, placed_if, with_input}
 use Rattle.man_page.proofs.Glyphs.{in_text, is_solid, is_text_byte, run, run_if, run_then}
@@ -152,7 +152,7 @@ plain_of (b ∷ line) h e = and_from (not (b == 32)) (not (last_of b line == 32)
 -- ---- what it shows
 
 sign_shows : (wanted : Bool) (shown : List Glyph) → run false (in_text Roman shown) (sign_if wanted) ≡ in_text Roman shown
-sign_shows wanted shown = run_if false wanted (in_text Roman shown) (codes "\\&") refl
+sign_shows wanted shown = run_if false wanted (in_text Roman shown) (codes "\\&") (λ _. refl)
 
 signed_shows : (front back : Bool) (text : List ℕ) (shown : List Glyph) → run false (in_text Roman []) text ≡ in_text Roman shown → glyphs false (signed front back text) ≡ Some shown
 signed_shows front back text shown e =
@@ -240,10 +240,10 @@ last_solid b (c ∷ text) e h =
     let parts = and_parts (is_solid c) (list_all is_solid text) h in
     last_solid c text (solid_parts c parts.0).1 parts.1
 
--- an item of a usage
-pub item_leads : (read : Reading) (text : List ℕ) (shown : List Glyph) → list_all is_text_byte text ≡ true → list_all is_solid text ≡ true → run false (in_text Roman []) text ≡ in_text Roman shown
-    → Leads (line_front text ++ (text ++ (item_back text ++ codes "\n"))) (Some read) (placed read read.stand shown)
-item_leads read text shown bytes solid e = plain_leads read (last_of 0 text == 46) text shown bytes (λ _. last_solid 0 text refl solid) e
+-- an item of a usage, with a sign behind it or not
+pub item_leads : (read : Reading) (back : Bool) (text : List ℕ) (shown : List Glyph) → list_all is_text_byte text ≡ true → list_all is_solid text ≡ true → run false (in_text Roman []) text ≡ in_text Roman shown
+    → Leads (line_front text ++ (text ++ (sign_if back ++ codes "\n"))) (Some read) (placed read read.stand shown)
+item_leads read back text shown bytes solid e = plain_leads read back text shown bytes (λ _. last_solid 0 text refl solid) e
 
 abbrev wants_code_front : List ℕ → Bool
 wants_code_front [] = false

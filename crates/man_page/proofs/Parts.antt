@@ -4,14 +4,15 @@ use Rattle.std.proofs.Math.Seq.{drop-cons}
 use Rattle.std.proofs.lemmas.Bool.{ne_eqb}
 use Rattle.std.specs.Prelude.{Result, Ok, Err, OnOk, is_ok, flat_map, codes, ◌==◌, length, if◌then◌else◌}
 use Rattle.std.specs.List.{list_any}
-use Rattle.page_model.specs.Content.{Line, BlockSaid, paragraph, code, bullets, PartSaid}
+use Rattle.page_model.specs.Content.{Piece, Line, BlockSaid, paragraph, code, bullets, PartSaid}
+use Rattle.man_page.specs.declared.escape.Role.{Role}
 use Rattle.man_page.specs.declared.escape.Role.TheVariants.{Text, Item}
-use Rattle.man_page.specs.Exact.{is_heading, part_text, parts_text, body_text, escaped, inner_text, input_line, is_blank, is_spaced_text, lines_text, pieces_text, terms_text, title_line, title_text, wants_quotes}
+use Rattle.man_page.specs.Exact.{begins_behind, is_heading, part_text, parts_text, body_text, escaped, inner_text, input_line, is_blank, is_spaced_text, lines_text, piece_text, pieces_from, pieces_text, terms_text, title_line, title_text, wants_quotes}
 use Rattle.man_page.specs.Steps.{first_text, further_line, further_term, title_role, title_word}
 use Rattle.man_page.specs.Kept.{TitleSaid}
 
 -- the first of what is left of a list
-drop_next : {X : Type 0} (xs : List X) (i : ℕ) (d : X) → i < length xs → drop i xs ≡ get_or xs i d ∷ drop (i + 1) xs
+pub drop_next : {X : Type 0} (xs : List X) (i : ℕ) (d : X) → i < length xs → drop i xs ≡ get_or xs i d ∷ drop (i + 1) xs
 drop_next xs i d h = rw (add-one i) (drop-cons xs i d h)
 
 pub lines_first : (section : List ℕ) (line : Line) (lines : List Line) → lines_text section (line ∷ lines) ≡ input_line (pieces_text Text true section line) ++ flat_map (further_line section) lines
@@ -55,6 +56,10 @@ spaced_next behind bytes i h = ap (is_spaced_text behind) (drop_next bytes i 0 h
 
 pub parts_next : {X : Type 0} (section : List ℕ) (behind : Bool) (see : X → PartSaid) (parts : List X) (i : ℕ) (d : X) → i < length parts → parts_text section behind (map see (drop i parts)) ≡ part_text section behind (see (get_or parts i d)) ++ parts_text section (is_heading (see (get_or parts i d))) (map see (drop (i + 1) parts))
 parts_next section behind see parts i d h = ap (λ xs. parts_text section behind (map see xs)) (drop_next parts i d h)
+
+pub pieces_next : {X : Type 0} (role : Role) (guarded front : Bool) (section : List ℕ) (see : X → Piece) (pieces : List X) (i : ℕ) (d : X) → i < length pieces
+    → pieces_from role guarded front section (map see (drop i pieces)) ≡ piece_text role (guarded && front) section (see (get_or pieces i d)) ++ pieces_from role guarded (begins_behind front (see (get_or pieces i d))) section (map see (drop (i + 1) pieces))
+pieces_next role guarded front section see pieces i d h = ap (λ xs. pieces_from role guarded front section (map see xs)) (drop_next pieces i d h)
 
 -- the title line, word by word behind what stands before it
 pub title_line_words : (out : List ℕ) (title : TitleSaid) → ((((((out ++ codes ".TH") ++ title_word title.name) ++ title_word title.section) ++ title_word title.date) ++ title_word title.vendor) ++ title_word title.title) ++ codes "\n" ≡ out ++ title_line title

@@ -30,13 +30,16 @@ pub writes :
     -- an entry with two terms, and code, items and a paragraph in its body; and one without anything
     × IsWrittenAs (entries (record { word = []; target = None; terms = (literal (codes "-a") ∷ []) ∷ (literal (codes "--all") ∷ words (codes "=") ∷ value (codes "X") ∷ []) ∷ []; body = paragraph ((words (codes "p") ∷ []) ∷ (words (codes "q") ∷ []) ∷ []) ∷ code (codes ".x " ∷ [] ∷ codes "  y" ∷ []) ∷ bullets (((words (codes "i") ∷ []) ∷ []) ∷ []) ∷ paragraph ((link (codes "l") ∷ []) ∷ []) ∷ [] } ∷ record { word = []; target = None; terms = []; body = [] } ∷ []) ∷ [])
     (codes ".TP\n\\fB\\-a\\fP, \\fB\\-\\-all\\fP=\\fIX\\fP\np\n.br\nq\n.RS\n.PP\n.RS 4\n.EX\n\\&.x \\&\n\n  y\n.EE\n.RE\n.RE\n.RS\n.IP \\(bu 2\ni\n.RE\n.IP\nl\n.TP\n\\&\n")
+    -- literals at the front of a word and within one, of other letters, and without a letter
+    × IsWrittenAs (block (paragraph ((words (codes "a (") ∷ literal (codes "--b") ∷ words (codes "), ") ∷ literal (codes "c ") ∷ literal (195 ∷ 169 ∷ []) ∷ literal (codes "d") ∷ words (codes "\n") ∷ literal (codes "-1") ∷ []) ∷ (words [] ∷ literal (codes "e") ∷ page (codes "f") ∷ []) ∷ [])) ∷ [])
+    (codes ".PP\na (\\fB\\-\\-b\\fP), \\fB\\%c \\fP\\fB\\%" ++ (195 ∷ 169 ∷ codes "\\fP\\fBd\\fP \\fB\\-1\\fP\n.br\n\\fB\\%e\\fP\\fBf\\fP(1)\n"))
     -- items, of which one has two lines and one has none; and code
     × IsWrittenAs (block (bullets (((words (codes "'i") ∷ []) ∷ (words (codes "k ") ∷ []) ∷ []) ∷ [] ∷ ((literal (codes "j") ∷ []) ∷ []) ∷ [])) ∷ block (code (codes "\t.%" ∷ [])) ∷ [])
     (codes ".IP \\(bu 2\n\\&\\(aqi\n.br\nk \\&\n.IP \\(bu 2\n.IP \\(bu 2\n\\fB\\%j\\fP\n.PP\n.RS 4\n.EX\n\t.%\n.EE\n.RE\n")
-    -- usages, of which one has no name
-    × IsWrittenAs (usage (record { name = codes "a b"; items = (words (codes "[") ∷ literal (codes "-a") ∷ words (codes " B]") ∷ []) ∷ (words (codes ".") ∷ []) ∷ [] ∷ [] } ∷ record { name = []; items = [] } ∷ []) ∷ [])
-    (codes ".SY \"a b\"\n[\\fB\\-a\\fP\\~B]\n\\&.\\&\n\\&\n.YS\n.SY \"\"\n.YS\n")
-writes = ((refl, refl), (refl, refl), (refl, refl), (refl, refl), (refl, refl), (refl, refl))
+    -- usages, of which one has no name, with items that would end a sentence
+    × IsWrittenAs (usage (record { name = codes "a b"; items = (words (codes "[") ∷ literal (codes "-a") ∷ words (codes " B]") ∷ []) ∷ (words (codes ".") ∷ []) ∷ [] ∷ (words (codes "[") ∷ value (codes "X...") ∷ words (codes "]") ∷ []) ∷ (literal (codes "a?'") ∷ []) ∷ (words (codes "!") ∷ page (codes "p") ∷ []) ∷ (words (codes ".x") ∷ []) ∷ [] } ∷ record { name = []; items = [] } ∷ []) ∷ [])
+    (codes ".SY \"a b\"\n[\\fB\\-a\\fP\\~B]\n\\&.\\&\n\\&\n[\\fIX...\\fP]\\&\n\\fBa?\\(aq\\fP\\&\n!\\fBp\\fP(1)\n\\&.x\n.YS\n.SY \"\"\n.YS\n")
+writes = ((refl, refl), (refl, refl), (refl, refl), (refl, refl), (refl, refl), (refl, refl), (refl, refl))
 
 -- ---- what the reader reads
 
@@ -57,7 +60,7 @@ pub reads :
     -- but what stands behind a sign that shows nothing is
     × (behind (codes "\\&.PP\n") ≡ says (plain (codes ".PP")))
     -- escapes
-    × (behind (codes "\\-\\e\\~\\(aq\\(ga\\(ha\\(ti\\(dq\\N'37'\\%\n") ≡ says (plain (codes "-\\ '`^~\"%")))
+    × (behind (codes "\\%\\-\\e\\~\\%\\(aq\\(ga\\(ha\\(ti\\(dq\\N'37'\n") ≡ says (plain (codes "-\\ '`^~\"%")))
     -- fonts
     × (behind (codes "a\\fBb\\fP\\fIc\\fP\n") ≡ says (Paragraph 0 Plain ((in_font Roman (codes "a") ++ (in_font Bold (codes "b") ++ in_font Italic (codes "c"))) ∷ []) ∷ []))
     -- a tag and its paragraph
@@ -84,6 +87,10 @@ pub refuses :
     × (behind (codes "'a\n") ≡ None)
     × (behind (codes "\\x\n") ≡ None)
     × (behind (codes "a\\\n") ≡ None)
+    -- a place to hyphenate, within a word and at its end
+    × (behind (codes "a\\%b\n") ≡ None)
+    × (behind (codes "(\\fB\\%\\-\\-a\\fP)\n") ≡ None)
+    × (behind (codes "a\\%\n") ≡ None)
     -- signs that are shown as others
     × (behind (codes "a-b\n") ≡ None)
     × (behind (codes "a'\n") ≡ None)
@@ -99,4 +106,4 @@ pub refuses :
     × (behind (codes ".EX\na\n") ≡ None)
     -- a line break where no line is
     × (behind (codes ".br\na\n") ≡ None)
-refuses = (refl, refl, refl, refl, refl, refl, refl, refl, refl, refl, refl, refl, refl, refl, refl, refl, refl, refl, refl, refl, refl)
+refuses = (refl, refl, refl, refl, refl, refl, refl, refl, refl, refl, refl, refl, refl, refl, refl, refl, refl, refl, refl, refl, refl, refl, refl, refl)

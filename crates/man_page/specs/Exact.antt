@@ -85,16 +85,16 @@ code_front (b ∷ line) = if b == 46 || is_quote_first (b ∷ line) then codes "
 abbrev pub code_line : List ℕ → List ℕ
 code_line line = let text : List ℕ = escaped Code line in code_front text ++ (text ++ (line_back text ++ codes "\n"))
 
--- a usage item: behind a full stop no sentence ends
-abbrev pub item_back : List ℕ → List ℕ
-item_back line = if last_of 0 line == 46 then codes "\\&" else []
-
 -- ---- pieces
 
-abbrev pub is_letter : ℕ → Bool
-is_letter b = (nat_le 65 b && nat_le b 90) || (nat_le 97 b && nat_le b 122)
+abbrev pub is_blank : ℕ → Bool
+is_blank b = b == 32 || b == 9 || b == 10
 
--- a literal with a letter in it is not hyphenated in a paragraph
+-- a letter of ASCII, or a byte of any character that is not of ASCII
+abbrev pub is_letter : ℕ → Bool
+is_letter b = (nat_le 65 b && nat_le b 90) || (nat_le 97 b && nat_le b 122) || nat_le 128 b
+
+-- a literal with a letter in it is not hyphenated at the front of a word of a paragraph
 abbrev pub unhyphenated : Bool → List ℕ → List ℕ
 unhyphenated guarded text = if guarded && list_any is_letter text then codes "\\%" else []
 
@@ -108,8 +108,27 @@ piece_text role guarded section (page name) =
     codes "\\fB" ++ (unhyphenated guarded name ++ (escaped role name
     ++ (codes "\\fP(" ++ (escaped role section ++ codes ")"))))
 
+-- whether what stands behind a text is at the front of a word, where the text is or not
+abbrev pub begins_word : Bool → List ℕ → Bool
+begins_word front [] = front
+begins_word front (b ∷ text) = is_blank (last_of b text)
+
+abbrev pub begins_behind : Bool → Piece → Bool
+begins_behind front (words text) = begins_word front text
+begins_behind front (literal text) = begins_word front text
+begins_behind front (value text) = begins_word front text
+begins_behind front (link text) = begins_word front text
+begins_behind front (page name) = false
+
+-- pieces, of which the first is at the front of a word or not
+abbrev pub pieces_from : Role → Bool → Bool → List ℕ → Line → List ℕ
+pieces_from role guarded front section [] = []
+pieces_from role guarded front section (piece ∷ line) =
+    piece_text role (guarded && front) section piece
+    ++ pieces_from role guarded (begins_behind front piece) section line
+
 abbrev pub pieces_text : Role → Bool → List ℕ → Line → List ℕ
-pieces_text role guarded section line = flat_map (piece_text role guarded section) line
+pieces_text role guarded section line = pieces_from role guarded true section line
 
 -- ---- blocks
 
@@ -157,17 +176,40 @@ abbrev pub entry_text : List ℕ → EntrySaid → List ℕ
 entry_text section entry =
     codes ".TP\n" ++ (input_line (terms_text section entry.terms) ++ body_text section entry.body)
 
+-- ---- items of a usage
+
+-- Behind a sentence that ends with its line a blank more is set. A stop ends one, also with what closes behind it:
+-- brackets, quotes and signs of a note, of which there are some that are not of ASCII.
+abbrev pub is_stop : ℕ → Bool
+is_stop b = b == 46 || b == 63 || b == 33
+
+abbrev pub is_closing : ℕ → Bool
+is_closing b = b == 41 || b == 93 || b == 34 || b == 39 || b == 42 || nat_le 128 b || is_blank b
+
+-- whether a sentence ends with a text, behind one with which a sentence ends or not
+abbrev pub ends_sentence : Bool → List ℕ → Bool
+ends_sentence ended [] = ended
+ends_sentence ended (b ∷ text) = ends_sentence (is_stop b || (ended && is_closing b)) text
+
+abbrev pub piece_bytes : List ℕ → Piece → List ℕ
+piece_bytes section (words text) = text
+piece_bytes section (literal text) = text
+piece_bytes section (value text) = text
+piece_bytes section (link text) = text
+piece_bytes section (page name) = name ++ (codes "(" ++ (section ++ codes ")"))
+
+-- no sentence ends with an item
+abbrev pub item_back : List ℕ → Line → List ℕ
+item_back section item = if ends_sentence false (flat_map (piece_bytes section) item) then codes "\\&" else []
+
 abbrev pub item_text : List ℕ → Line → List ℕ
 item_text section item =
     let text : List ℕ = pieces_text Item false section item in
-    line_front text ++ (text ++ (item_back text ++ codes "\n"))
+    line_front text ++ (text ++ (item_back section item ++ codes "\n"))
 
 -- ---- words of requests
 
 -- a word, in double quotes where it is empty or has a blank in it
-abbrev pub is_blank : ℕ → Bool
-is_blank b = b == 32 || b == 9 || b == 10
-
 abbrev pub wants_quotes : List ℕ → Bool
 wants_quotes [] = true
 wants_quotes (b ∷ bytes) = list_any is_blank (b ∷ bytes)

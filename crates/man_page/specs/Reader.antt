@@ -105,13 +105,21 @@ text_byte other line b =
     else if is_control b || (is_other_glyph b && not other) then None
     else Some (with_glyph line b)
 
--- A byte behind a backslash: `\&` and `\%` show nothing, and `\~` is a blank that no line breaks at.
+-- Whether a word may begin behind what is shown: nothing, or a blank at its end.
+abbrev pub is_at_front : List Glyph → Bool
+is_at_front [] = true
+is_at_front (glyph ∷ []) = glyph.byte == blank
+is_at_front (glyph ∷ next ∷ shown) = is_at_front (next ∷ shown)
+
+-- A byte behind a backslash: `\&` shows nothing, and `\~` is a blank that no line breaks at. `\%` shows nothing at the
+-- front of a word, which it keeps whole; within one, a line may break there with a hyphen that nobody wrote.
 abbrev pub escape_byte : Line → ℕ → Option Line
 escape_byte line b =
     if b == hyphen then Some (with_glyph line hyphen)
     else if b == 101 then Some (with_glyph line backslash)
     else if b == tilde then Some (with_glyph line blank)
-    else if b == 38 || b == 37 then Some (with_mode line Text)
+    else if b == 38 then Some (with_mode line Text)
+    else if b == 37 then (if is_at_front line.shown then Some (with_mode line Text) else None)
     else if b == 40 then Some (with_mode line Special)
     else if b == 102 then Some (with_mode line FontName)
     else if b == 78 then Some (with_mode line Number)

@@ -1,11 +1,14 @@
 //! Lines of a manual page.
 
-ghost use Rattle.std.specs.Prelude.{◌≡◌, ◌<◌, ◌++◌, ◌==◌, [], codes, if◌then◌else◌, OnOk, string_bytes};
+ghost use Rattle.std.specs.Prelude.{◌≡◌, ◌<◌, ◌++◌, ◌==◌, [], false, codes, if◌then◌else◌, flat_map, OnOk};
+ghost use Rattle.std.specs.Prelude.{string_bytes};
 ghost use Rattle.std.specs.List.{list_any};
 ghost use Rattle.page_model.specs.Content.{page};
 ghost use Rattle.page_model.specs.View.{line_of, piece_of};
-ghost use Rattle.man_page.specs.Exact.{code_front, code_line, escaped, input_line, is_letter, is_quote_first};
-ghost use Rattle.man_page.specs.Exact.{item_back, line_back, line_front, piece_text, pieces_text, unhyphenated};
+ghost use Rattle.man_page.specs.Exact.{begins_behind, begins_word, code_front, code_line, ends_sentence, escaped};
+ghost use Rattle.man_page.specs.Exact.{input_line, is_blank, is_closing, is_letter, is_quote_first, is_stop};
+ghost use Rattle.man_page.specs.Exact.{item_back, line_back, line_front, piece_bytes, piece_text, pieces_from};
+ghost use Rattle.man_page.specs.Exact.{pieces_text, unhyphenated};
 ghost use Rattle.man_page.specs.Reader.{last_of};
 
 use crate::escape::Role;
@@ -14,7 +17,7 @@ use page_model::replaced::push_replaced;
 use std::alloc::{AllocError, Allocator};
 
 /// How the pieces of a line are written: where they stand, whether a literal with a letter in it is kept from being
-/// hyphenated, and the section of the page.
+/// hyphenated at the front of a word, and the section of the page.
 #[derive(Clone, Copy)]
 pub struct Manner<'a> {
     pub role: Role,
@@ -25,7 +28,7 @@ pub struct Manner<'a> {
 fn is_letter(byte: u8) -> bool
     ensures { result ≡ is_letter byte }
 {
-    matches!(byte, b'A'..=b'Z' | b'a'..=b'z')
+    matches!(byte, b'A'..=b'Z' | b'a'..=b'z' | 128..=255)
 }
 
 fn has_letter(text: &str) -> bool
@@ -97,7 +100,38 @@ fn push_piece<A: Allocator>(
     }
 }
 
-/// Writes the pieces of a line behind what it has.
+/// Whether a byte is shown as a blank.
+pub fn is_blank(byte: u8) -> bool
+    ensures { result ≡ is_blank byte }
+{
+    matches!(byte, b' ' | b'\t' | b'\n')
+}
+
+// Whether what stands behind a text is at the front of a word.
+#[tactic(auto, using(crate::proofs::Ends::word_begins, crate::proofs::Ends::no_word_begins))]
+fn begins_word(text: &str, is_at_front: bool) -> bool
+    ensures { result ≡ begins_word is_at_front text.now }
+{
+    let bytes = text.as_bytes();
+    if bytes.is_empty() {
+        return is_at_front;
+    }
+    is_blank(bytes[bytes.len() - 1])
+}
+
+fn begins_behind(piece: Inline<'_>, is_at_front: bool) -> bool
+    ensures { result ≡ begins_behind is_at_front (piece_of piece.entry) }
+{
+    match piece {
+        Inline::Words(text) | Inline::Literal(text) | Inline::Value(text) | Inline::Link(text) => {
+            begins_word(text, is_at_front)
+        }
+        Inline::Page(_) => false,
+    }
+}
+
+/// Writes the pieces of a line behind what it has, at the front of a word.
+#[tactic(auto, using(crate::proofs::Parts::pieces_next))]
 pub fn push_pieces<A: Allocator>(
     line: &mut String<A>,
     pieces: &[Inline<'_>],
@@ -107,8 +141,18 @@ pub fn push_pieces<A: Allocator>(
         ≡ string_bytes line.old
         ++ pieces_text manner.entry.role manner.entry.is_guarded manner.entry.section.now (line_of pieces.now)) }
 {
+    let mut is_at_front = true;
     for piece in pieces {
-        push_piece(line, *piece, manner)?;
+        let is_guarded = manner.is_guarded && is_at_front;
+        push_piece(
+            line,
+            *piece,
+            Manner {
+                is_guarded,
+                ..manner
+            },
+        )?;
+        is_at_front = begins_behind(*piece, is_at_front);
     }
     Ok(())
 }
@@ -162,10 +206,62 @@ fn line_back(line: &str) -> &'static str
     if ends_with(line, b' ') { "\\&" } else { "" }
 }
 
-fn item_back(line: &str) -> &'static str
-    ensures { result.now ≡ item_back line.now }
+fn is_stop(byte: u8) -> bool
+    ensures { result ≡ is_stop byte }
 {
-    if ends_with(line, b'.') { "\\&" } else { "" }
+    matches!(byte, b'.' | b'?' | b'!')
+}
+
+fn is_closing(byte: u8) -> bool
+    ensures { result ≡ is_closing byte }
+{
+    matches!(byte, b')' | b']' | b'"' | b'\'' | b'*' | 128..=255) || is_blank(byte)
+}
+
+// Whether a sentence ends with a text, behind one with which a sentence ends or not.
+#[tactic(auto, using(crate::proofs::Ends::sentence_next))]
+fn ends_sentence(text: &str, has_ended: bool) -> bool
+    ensures { result ≡ ends_sentence has_ended text.now }
+{
+    let bytes = text.as_bytes();
+    let mut is_end = has_ended;
+    for byte in bytes {
+        is_end = is_stop(*byte) || (is_end && is_closing(*byte));
+    }
+    is_end
+}
+
+#[tactic(auto, using(crate::proofs::Ends::page_ends_sentence))]
+fn piece_ends_sentence(piece: Inline<'_>, section: &str, has_ended: bool) -> bool
+    ensures { result ≡ ends_sentence has_ended (piece_bytes section.now (piece_of piece.entry)) }
+{
+    match piece {
+        Inline::Words(text) | Inline::Literal(text) | Inline::Value(text) | Inline::Link(text) => {
+            ends_sentence(text, has_ended)
+        }
+        Inline::Page(_) => ends_sentence(section, false),
+    }
+}
+
+fn pieces_end_sentence(pieces: &[Inline<'_>], section: &str) -> bool
+    ensures { result ≡ ends_sentence false (flat_map (piece_bytes section.now) (line_of pieces.now)) }
+{
+    let mut is_end = false;
+    for piece in pieces {
+        is_end = piece_ends_sentence(*piece, section, is_end);
+    }
+    is_end
+}
+
+/// What stands behind an item of a usage, so that no sentence ends with it.
+pub fn item_back(pieces: &[Inline<'_>], section: &str) -> &'static str
+    ensures { result.now ≡ item_back section.now (line_of pieces.now) }
+{
+    if pieces_end_sentence(pieces, section) {
+        "\\&"
+    } else {
+        ""
+    }
 }
 
 fn push_parts<A: Allocator>(
@@ -190,12 +286,16 @@ pub fn push_input<A: Allocator>(out: &mut String<A>, line: &str) -> Result<(), A
     push_parts(out, line_front(line), line, line_back(line))
 }
 
-/// Writes a line with an item of a usage.
-pub fn push_item<A: Allocator>(out: &mut String<A>, line: &str) -> Result<(), AllocError>
+/// Writes a line with an item of a usage, and with what stands behind it.
+pub fn push_item<A: Allocator>(
+    out: &mut String<A>,
+    line: &str,
+    back: &str,
+) -> Result<(), AllocError>
     ensures { OnOk result (string_bytes out.new
-        ≡ string_bytes out.old ++ (line_front line.now ++ (line.now ++ (item_back line.now ++ codes "\n")))) }
+        ≡ string_bytes out.old ++ (line_front line.now ++ (line.now ++ (back.now ++ codes "\n")))) }
 {
-    push_parts(out, line_front(line), line, item_back(line))
+    push_parts(out, line_front(line), line, back)
 }
 
 /// Writes a line of code, of what stands for its text.

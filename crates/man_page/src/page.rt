@@ -20,7 +20,7 @@ ghost use Rattle.man_page.specs.View.{title_of};
 ghost use Rattle.man_page.specs.declared.escape.Role.TheVariants as Role;
 
 use crate::escape::Role;
-use crate::lines::{Manner, push_code, push_input, push_item, push_pieces};
+use crate::lines::{Manner, is_blank, item_back, push_code, push_input, push_item, push_pieces};
 use page_model::permitted::{are_permitted, are_permitted_parts};
 use page_model::replaced::push_replaced;
 use page_model::{Block, Entry, Form, Inline, Line, PageFault, Part, Rank};
@@ -346,7 +346,8 @@ fn push_usage_item<A: Allocator>(
             section,
         },
     )?;
-    push_item(&mut writer.page, writer.line.as_str())
+    let back = item_back(pieces, section);
+    push_item(&mut writer.page, writer.line.as_str(), back)
 }
 
 fn push_usage_items<A: Allocator, B: Allocator>(
@@ -362,12 +363,6 @@ fn push_usage_items<A: Allocator, B: Allocator>(
         push_usage_item(writer, item.as_slice(), section)?;
     }
     Ok(())
-}
-
-fn is_blank(byte: u8) -> bool
-    ensures { result ≡ is_blank byte }
-{
-    matches!(byte, b' ' | b'\t' | b'\n')
 }
 
 fn has_blank(word: &str) -> bool

@@ -9,7 +9,8 @@ use thiserror::Error;
 /// Why a page cannot be written, in any medium.
 #[derive(Clone, Copy, Debug, PartialEq, Eq, Error)]
 pub enum PageFault {
-    /// A text has a noncharacter in it, or a control character but newline and tab: that which `permitted` finds first.
+    /// A text has a noncharacter in it, or a control character but newline and tab. The first such text of forms, of
+    /// parts and of a chapter is what the calls of `permitted` give; a word of a title line is in none of them.
     #[error("a control character or a noncharacter in a text")]
     Character,
     /// An allocation failed.

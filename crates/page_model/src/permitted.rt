@@ -7,10 +7,10 @@ ghost use Rattle.std.specs.List.{list_all};
 ghost use Rattle.std.specs.Str.{chars};
 ghost use Rattle.page_model.specs.View.{block_of, chapter_of, entry_of, form_of, line_of, part_of};
 ghost use Rattle.page_model.specs.View.{piece_of, target_of, text_of};
-ghost use Rattle.page_model.specs.Permitted.{are_permitted, block_texts, chapter_texts, entry_texts, form_texts, is_permitted, level_texts};
-ghost use Rattle.page_model.specs.Permitted.{is_permitted_byte, is_permitted_form, is_permitted_part, part_texts};
+ghost use Rattle.page_model.specs.Permitted.{are_permitted, block_texts, chapter_texts, entry_texts, form_texts};
+ghost use Rattle.page_model.specs.Permitted.{is_permitted, is_permitted_byte, is_permitted_form, is_permitted_part};
+ghost use Rattle.page_model.specs.Permitted.{level_texts, line_texts, part_texts, piece_text, refused_in, target_texts};
 ghost use Rattle.page_model.specs.Steps.{is_plain_byte};
-ghost use Rattle.page_model.specs.Permitted.{line_texts, piece_text, refused_in, target_texts};
 
 use crate::parts::{Block, Chapter, Entry, Form, Inline, Line, Part, Target};
 use std::alloc::Allocator;
