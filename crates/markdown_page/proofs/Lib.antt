@@ -1,5 +1,6 @@
 pub mod Bools
 pub mod Loops
+pub mod Runs
 pub mod Links
 pub mod Slugs
 pub mod Fronted

@@ -2,8 +2,8 @@
 use Rattle.std.proofs.Common.{◌≡◌, ◌<◌, ◌≤◌, ◌+◌, ◌-◌, ℕ, zero, suc, max, arith, Bool, false, ◌&&◌, ◌||◌, List, [], ◌∷◌, ◌++◌, length, get_or, drop, refl, ap, ◌∙◌, add-one}
 use Rattle.std.specs.Prelude.{◌==◌, if◌then◌else◌}
 use Rattle.std.proofs.Math.Seq.{drop-cons}
-use Rattle.markdown_page.specs.Bytes.{graves, has_run, holds_definition}
-use Rattle.markdown_page.specs.Exact.{has_edge, indent, is_edge, longest_of, spare_run}
+use Rattle.markdown_page.specs.Bytes.{graves, holds_definition}
+use Rattle.markdown_page.specs.Exact.{has_edge, indent, is_edge, longest_of}
 use Rattle.markdown_page.specs.Reader.{last_or, longest_run}
 
 -- what is left of a list: its next item and others
@@ -25,9 +25,6 @@ pub edge_read : (text : List ℕ) → 0 < length text → has_edge text ≡ (is_
 edge_read [] h = absurd (omega arith)
 edge_read (b ∷ text) h = let e : suc (length text) - 1 ≡ length text = omega arith in rw e (ap (λ x. is_edge b || is_edge x) (last_read b text))
 
-pub run_next : (n run : ℕ) (bytes : List ℕ) (i : ℕ) → i < length bytes → has_run n run (drop i bytes) ≡ (if get_or bytes i 0 == 96 then has_run n (run + 1) (drop (i + 1) bytes) else run == n || has_run n 0 (drop (i + 1) bytes))
-run_next n run bytes i h = rw (add-one run) (ap (has_run n run) (drop_next bytes i 0 h))
-
 pub longest_next : (run : ℕ) (bytes : List ℕ) (i : ℕ) → i < length bytes → longest_run run (drop i bytes) ≡ (if get_or bytes i 0 == 96 then longest_run (run + 1) (drop (i + 1) bytes) else max run (longest_run 0 (drop (i + 1) bytes)))
 longest_next run bytes i h = rw (add-one run) (ap (longest_run run) (drop_next bytes i 0 h))
 
@@ -36,11 +33,6 @@ longest_end run [] zero h = refl
 longest_end run [] (suc i) h = refl
 longest_end run (b ∷ bytes) zero h = absurd (omega arith)
 longest_end run (b ∷ bytes) (suc i) h = longest_end run bytes i (omega arith)
-
-pub spare_next : (len n : ℕ) (text : List ℕ) → n < len → spare_run (len - n) n text ≡ (if has_run (n + 1) 0 text then spare_run (len - (n + 1)) (n + 1) text else n)
-spare_next len n text h =
-    let e : len - n ≡ suc (len - (n + 1)) = omega arith in
-    rw (add-one n) (ap (λ x. spare_run x n text) e ∙ ap (λ x. if has_run (suc n) 0 text then spare_run x (suc n) text else n) (let f : len - (n + 1) ≡ len - suc n = omega arith in f))
 
 pub indent_next : (n : ℕ) → indent (n + 1) ≡ indent n ++ 32 ∷ 32 ∷ []
 indent_next zero = refl

@@ -78,10 +78,11 @@ escaped_free heading behind b text =
 
 link_byte_parts : (b : ℕ) → is_link_byte b ≡ true → (is_control b ≡ false) × (((b == 60) ≡ false) × ((b == 62) ≡ false)) × ((b == 32) ≡ false)
 link_byte_parts b h =
-    let parts = and_parts (nat_lt 32 b) (not (b == 60 || b == 62 || b == 127)) h in
+    let parts = and_parts (nat_lt 32 b) (not (b == 60 || b == 62 || b == 123 || b == 127)) h in
     let more : 32 < b = ltb-true 32 b parts.0 in
-    let none = or_false (b == 60 || b == 62) (b == 127) (not_true (b == 60 || b == 62 || b == 127) parts.1) in
-    (or_from (nat_lt b 32) (b == 127) (le-ltb b 32 (omega arith)) none.1, or_false (b == 60) (b == 62) none.0, ne_eqb b 32 (λ e. absurd (omega arith)))
+    let none = or_false (b == 60 || b == 62 || b == 123) (b == 127) (not_true (b == 60 || b == 62 || b == 123 || b == 127) parts.1) in
+    let angle = or_false (b == 60 || b == 62) (b == 123) none.0 in
+    (or_from (nat_lt b 32) (b == 127) (le-ltb b 32 (omega arith)) none.1, or_false (b == 60) (b == 62) angle.0, ne_eqb b 32 (λ e. absurd (omega arith)))
 
 module _ (shown : List Glyph) where
   auto_read : (address bytes : List ℕ) → list_all is_link_byte bytes ≡ true → run false (at None shown (Auto address)) (flat_map auto_byte bytes) ≡ at None shown (Auto (address ++ bytes))
@@ -103,7 +104,7 @@ module _ (shown : List Glyph) where
   plain_same [] h = refl
   plain_same (b ∷ bytes) h =
       let both = and_parts (is_link_byte b) (list_all is_link_byte bytes) h in
-      let more : 32 < b = ltb-true 32 b (and_parts (nat_lt 32 b) (not (b == 60 || b == 62 || b == 127)) both.0).0 in
+      let more : 32 < b = ltb-true 32 b (and_parts (nat_lt 32 b) (not (b == 60 || b == 62 || b == 123 || b == 127)) both.0).0 in
       let same : shown_byte b ≡ b = rw (ne_eqb b 9 (λ e. absurd (omega arith)), ne_eqb b 10 (λ e. absurd (omega arith))) refl in
       ap (λ x. x ∷ map plain_glyph bytes) (ap plain_glyph (sym same)) ∙ ap (λ xs. plain_glyph (shown_byte b) ∷ xs) (plain_same bytes both.1)
 

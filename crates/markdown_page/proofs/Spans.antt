@@ -1,5 +1,5 @@
 -- How code spans are read: the backquotes that begin one, its text, and those that end it.
-use Rattle.std.proofs.Common.{◌≡◌, ◌<◌, arith, ℕ, zero, suc, ◌+◌, Bool, true, false, not, ◌&&◌, ◌||◌, List, [], ◌∷◌, ◌++◌, length, refl, sym, ap, ◌∙◌, subst, inl, inr, append-nil, append_assoc}
+use Rattle.std.proofs.Common.{◌≡◌, arith, ℕ, zero, suc, ◌+◌, Bool, true, false, not, ◌&&◌, ◌||◌, List, [], ◌∷◌, ◌++◌, refl, sym, ap, ◌∙◌, subst, inl, inr, append-nil, append_assoc}
 use Rattle.std.specs.Prelude.{Option, Some, None, map, ◌==◌, if◌then◌else◌}
 use Rattle.std.specs.List.{list_all}
 use Rattle.std.proofs.lemmas.Bool.{and_parts, ne_eqb, eqb-true, eq-eqb}
@@ -8,26 +8,12 @@ use Rattle.markdown_page.specs.Bytes.{graves, has_run, holds_definition, is_blan
 use Rattle.markdown_page.specs.Sheet.{Glyph}
 use Rattle.markdown_page.specs.Exact.{is_edge, padding, span_text, spare_run}
 use Rattle.markdown_page.specs.Reader.{Before, Line, Opening, Other, Span, Text, but_last, code_glyph, end_of_line, is_control, is_within_link, last_or, next_byte, unpadded}
-use Rattle.markdown_page.proofs.Bools.{all_both, and_right, bool_cases, not_true, or_false, or_from}
+use Rattle.markdown_page.proofs.Bools.{all_both, and_right, bool_cases, not_true, or_false}
+use Rattle.markdown_page.proofs.Runs.{is_spare}
 use Rattle.markdown_page.proofs.Texts.{Shows, at, finish, is_bang, run, run_both}
 
 abbrev pub is_solid : ℕ → Bool
 is_solid b = not (is_control b)
-
--- ---- as many backquotes as the text does not have
-
--- a text is too short for a run that is longer
-no_room : (n run : ℕ) (text : List ℕ) → run + length text < n → has_run n run text ≡ false
-no_room n run [] h = ne_eqb run n (λ e. absurd (omega arith))
-no_room n run (b ∷ text) h =
-    elim (bool_cases (b == 96)) [
-      | inl e ↦ rw e (no_room n (suc run) text (omega arith))
-      | inr e ↦ rw e (or_from (run == n) (has_run n 0 text) (ne_eqb run n (λ same. absurd (omega arith))) (no_room n 0 text (omega arith)))
-    ]
-
-is_spare : (fuel n : ℕ) (text : List ℕ) → fuel + n ≡ length text → has_run (suc (spare_run fuel n text)) 0 text ≡ false
-is_spare zero n text h = no_room (suc n) 0 text (omega arith)
-is_spare (suc fuel) n text h = elim (bool_cases (has_run (suc n) 0 text)) [ inl e ↦ rw e (is_spare fuel (suc n) text (omega arith)) | inr e ↦ rw e e ]
 
 -- ---- the text between them
 
@@ -246,8 +232,8 @@ pub record Form (b : ℕ) (text : List ℕ) : Type 0 where
 
 pub span_form : (b : ℕ) (text : List ℕ) → list_all is_solid (b ∷ text) ≡ true → Form b text
 span_form b text solid =
-    let n : ℕ = spare_run (length (b ∷ text)) 0 (b ∷ text) in
-    let i = inner n b text (is_spare (length (b ∷ text)) 0 (b ∷ text) (omega arith)) solid in
+    let n : ℕ = spare_run (b ∷ text) in
+    let i = inner n b text (is_spare (b ∷ text)) solid in
     record {
       count = n;
       between = i;

@@ -1,6 +1,6 @@
 -- How a page is written, byte by byte. The promise does not rest on it: what is written reads back, whatever it is.
 use Rattle.std.specs.Prelude.{ℕ, zero, suc, max, Bool, true, false, not, ◌&&◌, ◌||◌, ◌==◌, List, [], ◌∷◌, ◌++◌, length, map, flat_map, Option, Some, None, codes, if◌then◌else◌}
-use Rattle.std.specs.List.{list_all}
+use Rattle.std.specs.List.{list_all, position_or_len, range_with_len}
 use Rattle.page_model.specs.declared.parts.Rank.{Rank}
 use Rattle.page_model.specs.declared.parts.Rank.TheVariants.{Page, Section, Subsection}
 use Rattle.page_model.specs.Content.{words, literal, value, link, page, Line, BlockSaid, paragraph, code, bullets, TargetSaid, EntrySaid, PartSaid, heading, usage, block, entries}
@@ -48,10 +48,10 @@ escaped in_heading behind_word (b ∷ text) =
 
 -- ---- code spans
 
--- How many more backquotes than one begin a span: as few as the text does not have in a run, from so many on.
-abbrev pub spare_run : ℕ → ℕ → List ℕ → ℕ
-spare_run zero n text = n
-spare_run (suc fuel) n text = if has_run (suc n) 0 text then spare_run fuel (suc n) text else n
+-- How many more backquotes than one begin a span: as many as there are counts before the first, from one on, that no
+-- run of the text has.
+abbrev pub spare_run : List ℕ → ℕ
+spare_run text = position_or_len (λ count. not (has_run count 0 text)) (range_with_len 1 (length text))
 
 abbrev pub is_edge : ℕ → Bool
 is_edge b = b == 32 || b == grave
@@ -66,7 +66,7 @@ padding text = if has_edge text && not (list_all is_blank text) then codes " " e
 abbrev pub span_text : List ℕ → List ℕ
 span_text [] = []
 span_text (b ∷ text) =
-    let ticks : List ℕ = graves (suc (spare_run (length (b ∷ text)) 0 (b ∷ text))) in
+    let ticks : List ℕ = graves (suc (spare_run (b ∷ text))) in
     let pad : List ℕ = padding (b ∷ text) in
     ticks ++ (pad ++ (b ∷ text ++ (pad ++ ticks)))
 

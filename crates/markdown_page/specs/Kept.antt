@@ -31,9 +31,9 @@ seen (glyph ∷ glyphs) = glyph ∷ glyphs
 
 -- ---- addresses
 
--- an address in the web, without blanks, `<` and `>`
+-- an address in the web, without blanks, `<` and `>`, and without `{`, which a program that makes pages of a site may take for its own
 abbrev pub is_link_byte : ℕ → Bool
-is_link_byte b = nat_lt 32 b && not (b == 60 || b == 62 || b == 127)
+is_link_byte b = nat_lt 32 b && not (b == 60 || b == 62 || b == 123 || b == 127)
 
 abbrev pub is_link : List ℕ → Bool
 is_link text = (begins_with (codes "http://") text || begins_with (codes "https://") text) && list_all is_link_byte text

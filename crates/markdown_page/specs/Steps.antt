@@ -1,9 +1,9 @@
 -- What the steps of the code write.
-use Rattle.std.specs.Prelude.{ℕ, suc, Bool, true, false, ◌||◌, List, [], ◌∷◌, ◌++◌, map, codes, if◌then◌else◌}
+use Rattle.std.specs.Prelude.{ℕ, suc, ◌-◌, Bool, true, false, ◌||◌, ◌==◌, List, [], ◌∷◌, ◌++◌, length, map, replicate, set, codes, if◌then◌else◌}
 use Rattle.page_model.specs.Content.{Line, BlockSaid, paragraph, code, bullets, FormSaid}
 use Rattle.markdown_page.specs.declared.replace.Place.{Place}
 use Rattle.markdown_page.specs.declared.replace.Place.TheVariants.{Autolink, Span, Code}
-use Rattle.markdown_page.specs.Bytes.{graves, holds_definition, is_digit}
+use Rattle.markdown_page.specs.Bytes.{grave, graves, holds_definition, is_digit}
 use Rattle.markdown_page.specs.Kept.{code_byte, dash, form_bytes, shown_byte}
 use Rattle.markdown_page.specs.Exact.{auto_byte, block_text, code_line, further_line, indent, leading_text, lines_text, mark_if, span_text, wants_mark, written}
 
@@ -16,6 +16,28 @@ place_byte Code b = code_byte b ∷ []
 -- what stands behind the text of a link
 abbrev pub behind_text : (address : List ℕ) → List ℕ
 behind_text address = codes "](" ++ (address ++ codes ")")
+
+-- ---- runs of backquotes
+
+-- Which lengths are seen: at each place whether the length that is one more is. Room for a run of so many.
+abbrev pub widened : List Bool → ℕ → List Bool
+widened seen run = seen ++ replicate (run - length seen) false
+
+-- with a run of so many, which may be none
+abbrev pub with_run : List Bool → ℕ → List Bool
+with_run seen run = if run == 0 then seen else set (widened seen run) (run - 1) true
+
+-- with those of a text behind a run of so many
+abbrev pub with_runs : List Bool → ℕ → List ℕ → List Bool
+with_runs seen run [] = with_run seen run
+with_runs seen run (b ∷ text) =
+    if b == grave then with_runs seen (suc run) text else with_runs (with_run seen run) 0 text
+
+abbrev pub first_unseen : List Bool → ℕ
+first_unseen [] = 0
+first_unseen (is ∷ seen) = if is then suc (first_unseen seen) else 0
+
+-- ---- lines
 
 -- how many digits a line begins with
 abbrev pub digits_of : List ℕ → ℕ

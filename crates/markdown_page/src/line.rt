@@ -18,11 +18,13 @@ use page_model::Inline;
 use page_model::replaced::push_replaced;
 use std::alloc::{AllocError, Allocator};
 
-/// A line that is put together: what is written of it, and the text of the span that stands behind that.
+/// A line that is put together: what is written of it, the text of the span that stands behind that, and room to note
+/// how long the runs of backquotes in that are.
 #[derive(Drop)]
 pub struct LineText<A: Allocator> {
     pub text: String<A>,
     pub span: String<A>,
+    pub runs: Vec<bool, A>,
 }
 
 /// Writes the span behind what is there.
@@ -31,7 +33,7 @@ pub fn push_open_span<A: Allocator>(line: &mut LineText<A>) -> Result<(), AllocE
         ≡ string_bytes line.old.text ++ span_text (string_bytes line.old.span)) }
     ensures left { OnOk result (string_bytes line.new.span ≡ []) }
 {
-    push_span(&mut line.text, line.span.as_str())?;
+    push_span(&mut line.text, line.span.as_str(), &mut line.runs)?;
     line.span.clear();
     Ok(())
 }

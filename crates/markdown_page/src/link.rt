@@ -19,7 +19,7 @@ use std::alloc::{AllocError, Allocator};
 fn is_link_byte(byte: u8) -> bool
     ensures { result ≡ is_link_byte byte }
 {
-    byte > b' ' && !matches!(byte, b'<' | b'>' | 127)
+    byte > b' ' && !matches!(byte, b'<' | b'>' | b'{' | 127)
 }
 
 fn is_web_address(text: &[u8]) -> bool

@@ -189,6 +189,7 @@ fn write_page<A: Allocator + Copy, B: Allocator>(
     let line = LineText {
         text: String::new(alloc),
         span: String::new(alloc),
+        runs: Vec::new(alloc),
     };
     let mut writer = Writer {
         page: String::new(alloc),

@@ -1,10 +1,11 @@
 //! Code spans, and the backquotes of spans and of fences.
 
-ghost use Rattle.std.specs.Prelude.{◌≡◌, ◌++◌, ◌||◌, ◌==◌, length, map, suc, OnOk, string_bytes};
+ghost use Rattle.std.specs.Prelude.{◌≡◌, ◌++◌, ◌||◌, ◌==◌, [], map, suc, IfOk, OnOk, string_bytes};
 ghost use Rattle.std.specs.List.{list_all};
-ghost use Rattle.markdown_page.specs.Bytes.{graves, has_run, is_blank};
+ghost use Rattle.markdown_page.specs.Bytes.{graves, is_blank};
 ghost use Rattle.markdown_page.specs.Exact.{has_edge, is_edge, longest_of, padding, span_text, spare_run};
 ghost use Rattle.markdown_page.specs.Reader.{longest_run};
+ghost use Rattle.markdown_page.specs.Steps.{first_unseen, widened, with_run, with_runs};
 
 use std::alloc::{AllocError, Allocator};
 
@@ -20,37 +21,66 @@ pub fn push_graves<A: Allocator>(out: &mut String<A>, more: usize) -> Result<(),
     Ok(())
 }
 
-// Whether a text has a run of just so many backquotes.
-#[tactic(auto, using(crate::proofs::Loops::run_next))]
-fn has_run(text: &str, count: usize) -> bool
-    ensures { result ≡ has_run count 0 text.now }
+// Makes room for runs of so many backquotes, of which none is seen.
+fn widen<A: Allocator>(seen: &mut Vec<bool, A>, run: usize) -> Result<(), AllocError>
+    ensures { OnOk result (seen.new.items ≡ widened seen.old.items run) }
 {
+    let more = run.saturating_sub(seen.len());
+    for _ in 0..more {
+        seen.push(false)?;
+    }
+    Ok(())
+}
+
+// Notes that a run of so many backquotes is seen, if they are any.
+fn note_run<A: Allocator>(seen: &mut Vec<bool, A>, run: usize) -> Result<(), AllocError>
+    ensures { OnOk result (seen.new.items ≡ with_run seen.old.items run) }
+{
+    if run == 0 {
+        return Ok(());
+    }
+    widen(seen, run)?;
+    seen[run - 1] = true;
+    Ok(())
+}
+
+// Notes how long the runs of backquotes of a text are: of which length, less one, is at each place.
+#[tactic(auto, using(crate::proofs::Runs::runs_next))]
+fn note_runs<A: Allocator>(seen: &mut Vec<bool, A>, text: &str) -> Result<(), AllocError>
+    ensures { OnOk result (seen.new.items ≡ with_runs [] 0 text.now) }
+{
+    seen.clear();
     let bytes = text.as_bytes();
     let mut run = 0;
     for byte in bytes {
         if *byte == b'`' {
             run += 1;
-        } else if run == count {
-            return true;
         } else {
+            note_run(seen, run)?;
             run = 0;
         }
     }
-    run == count
+    note_run(seen, run)
 }
 
-// How many more backquotes than one begin the span of a text.
-#[tactic(auto, using(crate::proofs::Loops::spare_next))]
-fn spare_run(text: &str) -> usize
-    ensures { result ≡ spare_run (length text.now) 0 text.now }
+fn first_unseen(seen: &[bool]) -> usize
+    ensures { result ≡ first_unseen seen.now }
 {
-    let len = text.len();
-    for more in 0..len {
-        if !has_run(text, more + 1) {
+    for more in 0..seen.len() {
+        if !seen[more] {
             return more;
         }
     }
-    len
+    seen.len()
+}
+
+// How many more backquotes than one begin the span of a text.
+#[tactic(auto, using(crate::proofs::Runs::unseen_is_spare))]
+fn spare_run<A: Allocator>(seen: &mut Vec<bool, A>, text: &str) -> Result<usize, AllocError>
+    ensures { IfOk result (λ more. more ≡ spare_run text.now) }
+{
+    note_runs(seen, text)?;
+    Ok(first_unseen(seen.as_slice()))
 }
 
 /// The most backquotes of a text that follow one another.
@@ -105,14 +135,18 @@ fn padding(text: &str) -> &'static str
     }
 }
 
-/// Writes a text as a code span.
-pub fn push_span<A: Allocator>(out: &mut String<A>, text: &str) -> Result<(), AllocError>
+/// Writes a text as a code span. How long its runs of backquotes are is noted in `seen`.
+pub fn push_span<A: Allocator>(
+    out: &mut String<A>,
+    text: &str,
+    seen: &mut Vec<bool, A>,
+) -> Result<(), AllocError>
     ensures { OnOk result (string_bytes out.new ≡ string_bytes out.old ++ span_text text.now) }
 {
     if text.is_empty() {
         return Ok(());
     }
-    let more = spare_run(text);
+    let more = spare_run(seen, text)?;
     let pad = padding(text);
     push_graves(out, more)?;
     out.push_str(pad)?;
