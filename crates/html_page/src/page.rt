@@ -89,8 +89,10 @@ fn finish<A: Allocator>(extent: Extent, page: Page<A>) -> Result<String<A>, Page
     }
 }
 
-/// The HTML page of a chapter and of those below it, or what stands in its body. A reader of HTML reads it, whole, as
-/// the tree that the rules give, the one of a fragment in the body of any page.
+/// The HTML page of a chapter and of those below it, or what stands in its body. A reader of HTML reads the page,
+/// whole, as the tree that the rules give. A fragment it reads as what the body of that tree holds, where the fragment
+/// is all that stands in the body of a page, whatever the language and the head of that are; white space may stand
+/// before and behind it. Of a body that holds more nothing is said.
 ///
 /// `Language` and `Title` come where the language is no language tag, or the title of the top has no ink; `Character`
 /// where a text has a control character but newline and tab, or a noncharacter; `NoInk` where a heading, a paragraph or
