@@ -3,3 +3,4 @@ pub mod Behind
 pub mod Items
 pub mod Lists
 pub mod Rows
+pub mod Alone

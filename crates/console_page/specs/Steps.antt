@@ -1,7 +1,11 @@
 -- What the steps of the code write.
-use Rattle.std.specs.Prelude.{ℕ, List, fold}
+use Rattle.std.specs.Prelude.{ℕ, ◌==◌, ◌&&◌, Bool, not, List, fold}
 use Rattle.console_page.specs.Usage.{left_behind}
 
 -- the columns that are left behind some items
 abbrev pub left_after : ℕ → ℕ → List (List ℕ) → ℕ
 left_after room left items = fold (left_behind room) left items
+
+-- no newline and no tab
+abbrev pub stands_alone : ℕ → Bool
+stands_alone b = not (b == 10) && not (b == 9)

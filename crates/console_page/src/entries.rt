@@ -4,14 +4,14 @@ ghost use Rattle.std.specs.Prelude.{◌≡◌, ◌≤◌, ◌++◌, ◌-◌, fal
 ghost use Rattle.bpaf_doc.specs.Splitter.Chunks.{columns};
 ghost use Rattle.page_model.specs.View.{entry_of, line_of};
 ghost use Rattle.console_page.specs.Entries.{entries_text, entry_text, first_line, further_term, gap, has_several};
+ghost use Rattle.console_page.specs.Lines.{blanks};
 ghost use Rattle.console_page.specs.Entries.{hung, is_beside, narrow, term_text, terms_front, terms_text, widest_of};
 
 use crate::blocks::push_blocks;
-use crate::lines::{parting, push_behind, push_blanks};
+use crate::lines::{columns_of, parting, push_behind, push_blanks};
 use crate::texts::push_line;
 use page_model::{Block, Entry, Line};
 use std::alloc::{AllocError, Allocator};
-use unicode_width::UnicodeWidthStr;
 
 fn push_further_terms<A: Allocator, B: Allocator>(
     out: &mut String<A>,
@@ -79,7 +79,7 @@ fn narrow_columns<A: Allocator + Copy, B: Allocator>(
 {
     let mut term = String::new(alloc);
     push_term_text(&mut term, alloc, entry)?;
-    Ok(narrow(term.as_str().width()))
+    Ok(narrow(columns_of(term.as_str())))
 }
 
 /// The columns of the widest term of up to 24 columns, of these entries and of those before.
@@ -112,41 +112,40 @@ fn is_beside(width: usize, column: usize, term: &str, help: &str) -> bool
     ensures { result ≡ is_beside width column term.now help.now }
 {
     let first = first_line(help);
-    let taken = term.width();
+    let taken = columns_of(term);
     !first.is_empty()
         && (column.saturating_sub(taken) >= 2
-            || first.width() <= width.saturating_sub(taken).saturating_sub(2))
+            || columns_of(first) <= width.saturating_sub(taken).saturating_sub(2))
 }
 
 fn push_gap<A: Allocator>(term: &mut String<A>, column: usize) -> Result<(), AllocError>
     ensures { OnOk result (string_bytes term.new
         ≡ string_bytes term.old ++ gap column (string_bytes term.old)) }
 {
-    let taken = term.as_str().width();
+    let taken = columns_of(term.as_str());
     push_blanks(term, column.saturating_sub(taken).max(2))
 }
 
-// A term, and what is said beside it or below it.
-fn push_hung<A: Allocator + Copy>(
+// A term, and what is said beside it or below it, behind the margin of the column.
+fn push_hung<A: Allocator>(
     out: &mut String<A>,
-    alloc: A,
     width: usize,
     column: usize,
+    margin: &str,
     mut term: String<A>,
     help: &str,
 ) -> Result<(), AllocError>
+    requires { margin.now ≡ blanks column }
     ensures { OnOk result (string_bytes out.new
         ≡ string_bytes out.old ++ hung width column (string_bytes term) help.now) }
 {
-    let mut margin = String::new(alloc);
-    push_blanks(&mut margin, column)?;
     if is_beside(width, column, term.as_str(), help) {
         push_gap(&mut term, column)?;
-        return push_behind(out, help, term.as_str(), margin.as_str());
+        return push_behind(out, help, term.as_str(), margin);
     }
     out.push_str(term.as_str())?;
     out.push_str("\n")?;
-    push_behind(out, help, margin.as_str(), margin.as_str())
+    push_behind(out, help, margin, margin)
 }
 
 fn push_entry<A: Allocator + Copy, B: Allocator>(
@@ -154,8 +153,10 @@ fn push_entry<A: Allocator + Copy, B: Allocator>(
     alloc: A,
     width: usize,
     column: usize,
+    margin: &str,
     entry: &Entry<'_, B>,
 ) -> Result<(), AllocError>
+    requires { margin.now ≡ blanks column }
     ensures { OnOk result (string_bytes out.new
         ≡ string_bytes out.old ++ entry_text width column (entry_of entry.now)) }
 {
@@ -168,13 +169,35 @@ fn push_entry<A: Allocator + Copy, B: Allocator>(
         entry.body.as_slice(),
         width.saturating_sub(column),
     )?;
-    push_hung(out, alloc, width, column, term, help.as_str())
+    push_hung(out, width, column, margin, term, help.as_str())
 }
 
 fn has_several<B: Allocator>(blocks: &[Block<'_, B>]) -> bool
     ensures { result ≡ has_several blocks.now }
 {
     blocks.len() > 1
+}
+
+// Writes entries, with what is said of them behind the margin of this column.
+fn push_all<A: Allocator + Copy, B: Allocator>(
+    out: &mut String<A>,
+    alloc: A,
+    width: usize,
+    column: usize,
+    margin: &str,
+    entries: &[Entry<'_, B>],
+) -> Result<(), AllocError>
+    requires { margin.now ≡ blanks column }
+    ensures { OnOk result (string_bytes out.new
+        ≡ string_bytes out.old ++ entries_text width column false (map entry_of entries.now)) }
+{
+    let mut is_parted = false;
+    for entry in entries {
+        out.push_str(parting(is_parted))?;
+        push_entry(out, alloc, width, column, margin, entry)?;
+        is_parted = has_several(entry.body.as_slice());
+    }
+    Ok(())
 }
 
 /// Writes entries, with what is said of them in this column.
@@ -188,11 +211,7 @@ pub fn push_entries<A: Allocator + Copy, B: Allocator>(
     ensures { OnOk result (string_bytes out.new
         ≡ string_bytes out.old ++ entries_text width column false (map entry_of entries.now)) }
 {
-    let mut is_parted = false;
-    for entry in entries {
-        out.push_str(parting(is_parted))?;
-        push_entry(out, alloc, width, column, entry)?;
-        is_parted = has_several(entry.body.as_slice());
-    }
-    Ok(())
+    let mut margin = String::new(alloc);
+    push_blanks(&mut margin, column)?;
+    push_all(out, alloc, width, column, margin.as_str(), entries)
 }

@@ -1,10 +1,14 @@
 //! Lines behind prefixes, and paragraphs that are laid out.
 
 ghost use Rattle.std.specs.Prelude.{◌≡◌, ◌++◌, IfOk, OnOk, string_bytes};
+ghost use Rattle.std.specs.Int.{is_in_range};
+ghost use Rattle.std.specs.List.{list_all};
+ghost use Rattle.bpaf_doc.specs.Splitter.Chunks.{columns};
 ghost use Rattle.console_page.specs.Lines.{behind, blanks, fronted, laid_out, parting};
 
 use bpaf_doc::buffer::Doc;
 use std::alloc::{AllocError, Allocator};
+use unicode_width::UnicodeWidthStr;
 
 /// An empty line, where one is wanted.
 pub fn parting(is_wanted: bool) -> &'static str
@@ -58,6 +62,29 @@ pub fn push_behind<A: Allocator>(
         rest = below;
     }
     push_fronted(out, front, rest)
+}
+
+// Whether all of these are printable ASCII. It looks at each, whatever came before, so that it looks at many at once.
+fn is_printable(bytes: &[u8]) -> bool
+    ensures { result ≡ list_all (is_in_range 0x20 0x7E) bytes.now }
+{
+    let mut printable = true;
+    for byte in bytes {
+        printable &= (0x20..=0x7E).contains(byte);
+    }
+    printable
+}
+
+/// The columns of a text. Each printable ASCII character takes one, and most texts have no other.
+#[tactic(auto, using(bpaf_doc::proofs::lemmas::Splitter::Printable::line_columns_are))]
+pub fn columns_of(text: &str) -> usize
+    ensures { result ≡ columns text.now }
+{
+    if is_printable(text.as_bytes()) {
+        text.len()
+    } else {
+        text.width()
+    }
 }
 
 /// The lines of a text of words, as the console page of a document of its own lays them out.

@@ -2,7 +2,10 @@
 
 ghost use Rattle.std.specs.Prelude.{◌≡◌, ◌++◌, [], ◌∷◌, MatchOption, OnOk, string_bytes};
 ghost use Rattle.page_model.specs.View.{line_of, piece_of};
-ghost use Rattle.console_page.specs.Texts.{line_text, piece_text, shown_byte, tab_text};
+ghost use Rattle.std.specs.List.{list_all};
+ghost use Rattle.console_page.specs.Steps.{stands_alone};
+ghost use Rattle.console_page.specs.Texts.{line_text, piece_text, shown, shown_byte, tab_text};
+ghost use Rattle.console_page.specs.declared.texts.Role.TheVariants.{Text};
 
 use page_model::Inline;
 use page_model::replaced::{StandIns, push_replaced};
@@ -36,6 +39,28 @@ impl StandIns for Role {
     }
 }
 
+// Whether each byte stands for itself. It looks at each, whatever came before, so that it looks at many at once.
+fn stand_alone(bytes: &[u8]) -> bool
+    ensures { result ≡ list_all stands_alone bytes.now }
+{
+    let mut stand = true;
+    for byte in bytes {
+        stand &= *byte != b'\n' && *byte != b'\t';
+    }
+    stand
+}
+
+#[tactic(auto, using(crate::proofs::Alone::shown_alone))]
+fn push_text<A: Allocator>(out: &mut String<A>, text: &str) -> Result<(), AllocError>
+    ensures { OnOk result (string_bytes out.new ≡ string_bytes out.old ++ shown Text text.now) }
+{
+    // Most texts have no newline and no tab.
+    if stand_alone(text.as_bytes()) {
+        return out.push_str(text);
+    }
+    push_replaced(out, text, Role::Text)
+}
+
 fn push_piece<A: Allocator>(out: &mut String<A>, piece: Inline<'_>) -> Result<(), AllocError>
     ensures { OnOk result (string_bytes out.new ≡ string_bytes out.old ++ piece_text (piece_of piece.entry)) }
 {
@@ -44,7 +69,7 @@ fn push_piece<A: Allocator>(out: &mut String<A>, piece: Inline<'_>) -> Result<()
         | Inline::Literal(text)
         | Inline::Value(text)
         | Inline::Link(text)
-        | Inline::Page(text) => push_replaced(out, text, Role::Text),
+        | Inline::Page(text) => push_text(out, text),
     }
 }
 

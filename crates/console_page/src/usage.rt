@@ -10,12 +10,11 @@ ghost use Rattle.std.specs.List.{slice_split};
 ghost use Rattle.console_page.specs.Steps.{left_after};
 
 use crate::cuts::push_cut;
-use crate::lines::push_blanks;
+use crate::lines::{columns_of, push_blanks};
 use crate::texts::{Role, push_line};
 use page_model::replaced::push_replaced;
 use page_model::{Form, Inline, Line};
 use std::alloc::{AllocError, Allocator};
-use unicode_width::UnicodeWidthStr;
 
 // What stands before the lines but the first, and how many columns these have for items.
 #[derive(Clone, Copy)]
@@ -27,7 +26,7 @@ struct Hang<'a> {
 fn breaks(room: usize, left: usize, item: &str) -> bool
     ensures { result ≡ breaks room left item.now }
 {
-    left <= item.width() && left < room
+    left <= columns_of(item) && left < room
 }
 
 fn left_behind(room: usize, left: usize, item: &str) -> usize
@@ -38,7 +37,7 @@ fn left_behind(room: usize, left: usize, item: &str) -> usize
     } else {
         left.saturating_sub(1)
     };
-    before.saturating_sub(item.width())
+    before.saturating_sub(columns_of(item))
 }
 
 fn push_item_front<A: Allocator>(
@@ -109,7 +108,7 @@ fn push_part<A: Allocator>(
         ≡ left_after hang.entry.room left (part_pieces hang.entry.room part.now)) }
 {
     let whole = part.trim();
-    if whole.width() <= hang.room {
+    if columns_of(whole) <= hang.room {
         push_kept(out, left, whole, hang)
     } else {
         push_words(out, left, whole, hang)
@@ -150,7 +149,7 @@ fn push_item<A: Allocator + Copy>(
     ensures left { IfOk result (λ more. more
         ≡ left_after hang.entry.room left (pieces hang.entry.room item.now)) }
 {
-    if item.width() <= hang.room {
+    if columns_of(item) <= hang.room {
         return push_kept(out, left, item, hang);
     }
     let mut text = String::new(alloc);
@@ -199,7 +198,7 @@ fn fits<A: Allocator + Copy>(alloc: A, item: &[Inline<'_>], room: usize) -> Resu
 {
     let mut text = String::new(alloc);
     push_line(&mut text, item)?;
-    Ok(text.as_str().width() <= room)
+    Ok(columns_of(text.as_str()) <= room)
 }
 
 fn all_fit<A: Allocator + Copy, B: Allocator>(
@@ -247,7 +246,7 @@ fn push_hanging<A: Allocator + Copy, B: Allocator>(
     ensures { OnOk result (string_bytes out.new ≡ string_bytes out.old
         ++ hanging width front.now (map line_text (map (λ item. line_of item.items) items.now))) }
 {
-    let taken = front.width();
+    let taken = columns_of(front);
     let mut margin = String::new(alloc);
     push_margin(&mut margin, alloc, width, taken, items)?;
     let indent = margin.as_str();
@@ -307,6 +306,6 @@ pub fn push_usage<A: Allocator + Copy, B: Allocator>(
     };
     push_form(out, alloc, width, word, first)?;
     let mut under = String::new(alloc);
-    push_blanks(&mut under, word.width())?;
+    push_blanks(&mut under, columns_of(word))?;
     push_forms(out, alloc, width, under.as_str(), rest)
 }

@@ -10,11 +10,11 @@ pub returns : goal.returns
 returns g c =
     let items = map line_text (map (λ item. line_of item.items) c.args.items.now) in
     let width = c.args.width in
-    let taken = c.width-taken.result in
+    let taken = c.columns_of-taken.result in
     let room = c.saturating_sub.result in
     let shown = c.as_str-indent.result.now in
     hung_step c.push_str-2.result width taken (length shown) room c.args.front.now (string_bytes c.push_margin.new.margin) shown (string_bytes c.args.out.now) (string_bytes c.push_str.new.self) (string_bytes c.push_items.new.out) (string_bytes c.push_str-2.new.self) items
-    c.width-taken.ensures.value
+    c.columns_of-taken.ensures
     (c.in_ok-push_margin.ensures ∙ ap (λ x. x ++ form_margin width taken items) c.new-margin.ensures.bytes)
     c.as_str-indent.ensures.value
     refl

@@ -1,7 +1,7 @@
 use Rattle.std.proofs.Common.{◌≡◌, ◌++◌, false, drop, map, string_bytes}
 use Rattle.page_model.specs.View.{entry_of}
 use Rattle.console_page.specs.Entries.{entries_text}
-use Rattle.console_page.proofs.entries.push_entries.Given as goal
+use Rattle.console_page.proofs.entries.push_all.Given as goal
 
 -- what is written, and what the entries that are left come to, is all
 abbrev pub invariant-loop-entry : goal.invariant-loop-entry
