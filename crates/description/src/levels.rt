@@ -20,11 +20,11 @@ use std::alloc::{AllocError, Allocator, Global};
 pub struct Level<'a, A: Allocator = Global> {
     /// What the program or the command does.
     pub about: Option<&'a str>,
-    /// A text above the list of options.
+    /// A text behind the usage, above the lists.
     pub header: Option<&'a str>,
-    /// A text below it.
+    /// A text at the end, under the title of the notes.
     pub footer: Option<&'a str>,
-    /// A text in place of the usage line of a help page.
+    /// A text in place of the usage on each page, a form a line.
     pub usage: Option<&'a str>,
     /// Whether one of the commands has to be given, here and in the groups.
     pub command_required: bool,
@@ -94,7 +94,7 @@ impl<'a, A: Allocator> Level<'a, A> {
         self
     }
 
-    /// The level with a text above the list of options.
+    /// The level with a text behind its usage, above the lists.
     pub fn header(mut self, header: &'a str) -> Level<'a, A>
         ensures { level_said result ≡ with_header (level_said self.entry) header.now }
     {
@@ -102,7 +102,7 @@ impl<'a, A: Allocator> Level<'a, A> {
         self
     }
 
-    /// The level with a text below the list of options.
+    /// The level with a text at the end, under the title of the notes.
     pub fn footer(mut self, footer: &'a str) -> Level<'a, A>
         ensures { level_said result ≡ with_footer (level_said self.entry) footer.now }
     {
@@ -110,7 +110,7 @@ impl<'a, A: Allocator> Level<'a, A> {
         self
     }
 
-    /// The level with a text in place of the usage line of its help page.
+    /// The level with a text in place of its usage on each page, a form a line.
     pub fn usage(mut self, usage: &'a str) -> Level<'a, A>
         ensures { level_said result ≡ with_usage (level_said self.entry) usage.now }
     {

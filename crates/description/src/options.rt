@@ -19,9 +19,9 @@ pub enum Name {
 pub enum Spelling<'a> {
     /// By its name, and behind it the word for the value of the option, if it has one.
     Names(Name),
-    /// All of it as one text: `--color[=WHEN]`, `-n, --line, --number`, `--[no-]edit`, `if=FILE`. A usage line shows
-    /// the first of the pieces between commas that is more than a name, or the first of all. Any text gives a
-    /// document: nothing of it is checked.
+    /// All of it as one text: `--color[=WHEN]`, `-n, --line, --number`, `--[no-]edit`, `if=FILE`. A usage shows
+    /// the first of the ways between commas outside brackets that is more than a name, or the first of all. Nothing of
+    /// it is checked.
     Syntax(&'a str),
 }
 
@@ -37,7 +37,7 @@ pub struct Opt<'a> {
     /// The values that it may have, as the help shows them: `never, auto, always`.
     pub values: Option<&'a str>,
     pub help: Option<&'a str>,
-    /// The environment variable that stands for the option. Beside a syntax it is a note in the help.
+    /// The environment variable that stands for the option: a note in its help.
     pub env: Option<&'static str>,
     pub required: bool,
     pub repeated: bool,
@@ -129,7 +129,7 @@ impl<'a> Opt<'a> {
         self
     }
 
-    /// The option with an environment variable, which is a note in the help beside a syntax.
+    /// The option with an environment variable, which is a note in its help.
     pub fn env(mut self, env: &'static str) -> Opt<'a>
         ensures { opt_said result ≡ record (opt_said self.entry) { env = Some env.now } }
     {

@@ -4,8 +4,7 @@ ghost use Rattle.description.specs.View.{topic_said};
 
 /// A part of a page behind its lists, under a title: examples, files, the exit status, the author.
 ///
-/// Lines of the text behind four blanks, and lines between two of three backquotes, are code: each is shown as a
-/// literal, on a line of its own. In the others what stands between two backquotes is a literal.
+/// The text has the grammar of `about` and `help`.
 #[derive(Clone, Copy, Debug)]
 pub struct Topic<'a> {
     pub title: &'a str,
