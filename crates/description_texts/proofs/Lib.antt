@@ -7,3 +7,4 @@ pub mod TextsLiterals
 pub mod TextsPieces
 pub mod TextsSpaces
 pub mod TextsRows
+pub mod TextsItself

@@ -1,10 +1,10 @@
 -- What the steps of the code say.
-use Rattle.std.specs.Prelude.{◌≡◌, ℕ, ◌+◌, ◌<◌, length, slice_index, Bool, false, not, ◌&&◌, ◌||◌, if◌then◌else◌, List, [], ◌∷◌, ◌++◌, flat_map}
+use Rattle.std.specs.Prelude.{◌≡◌, ◌==◌, ℕ, ◌+◌, ◌<◌, length, slice_index, Bool, false, not, ◌&&◌, ◌||◌, if◌then◌else◌, List, [], ◌∷◌, ◌++◌, flat_map}
 use Rattle.std.specs.List.{list_all}
 use Rattle.page_model.specs.Content.{BlockSaid}
 use Rattle.page_model.specs.View.{line_of}
 use Rattle.description_texts.specs.Texts.{begins_fence, block_said, is_fence}
-use Rattle.description_texts.specs.TextsInside.{Draft, begins_quote, is_white, lone_parts}
+use Rattle.description_texts.specs.TextsInside.{Draft, begins_quote, is_link_front, is_quote, is_white, lone_parts}
 use Rattle.description_texts.specs.declared.texts.pieces.Pieces.{Pieces}
 
 -- pieces that are gathered, and the words behind them
@@ -25,6 +25,15 @@ pub record IsLinkAt (text : List ℕ) (at len : ℕ) : Type 0 where
   pub opens : slice_index text at ≡ 60
   pub closes : slice_index text (at + 1 + len) ≡ 62
   pub within : at + 1 + len < length text
+
+-- whether a byte stays as it is where it stands, behind white space or the start of the line or not
+abbrev pub stays_here : ℕ → (behind_white : Bool) → Bool
+stays_here b behind_white = if is_white b then b == 32 && not behind_white else not (is_quote b || is_link_front b)
+
+-- whether a line is words with one blank between two, none of which is more than words
+abbrev pub says_itself : (behind_white : Bool) → List ℕ → Bool
+says_itself behind_white [] = not behind_white
+says_itself behind_white (b ∷ line) = stays_here b behind_white && says_itself (b == 32) line
 
 -- what is said of the lines of a block
 abbrev pub own_said : List (List ℕ) → List BlockSaid

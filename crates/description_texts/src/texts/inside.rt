@@ -8,7 +8,7 @@ ghost use Rattle.description_texts.specs.TextsView.{draft_of};
 use crate::texts::links::first_link;
 use crate::texts::literals::{Pair, first_pair, literal_of};
 use crate::texts::pieces::{Pieces, finished, no_pieces, push_apart, push_words};
-use crate::texts::spacing::{are_all_white, spaced};
+use crate::texts::spacing::{are_all_white, says_itself, spaced};
 use bumpalo::Bump;
 use page_model::{Inline, Line};
 use std::alloc::AllocError;
@@ -48,8 +48,8 @@ fn push_quoted<'a>(
     }
 }
 
-// Puts the pieces of a line.
-fn push_line<'a>(
+// Puts the pieces of a line, whatever stands in it.
+fn push_marked<'a>(
     arena: &'a Bump,
     pieces: &mut Pieces<'a, &'a Bump>,
     line: &'a str,
@@ -63,6 +63,21 @@ fn push_line<'a>(
         rest = pair.behind;
     }
     push_links(arena, pieces, rest)
+}
+
+// Puts the pieces of a line. Most lines are words alone, and then these are the line as it stands.
+fn push_line<'a>(
+    arena: &'a Bump,
+    pieces: &mut Pieces<'a, &'a Bump>,
+    line: &'a str,
+) -> Result<(), AllocError>
+    ensures { OnOk result (draft_of pieces.new ≡ with_pieces (draft_of pieces.old) (line_pieces line.now)) }
+{
+    if says_itself(line.as_bytes()) {
+        push_words(pieces, line)
+    } else {
+        push_marked(arena, pieces, line)
+    }
 }
 
 /// The pieces of lines that are shown as one, with a blank between two. Words that are neighbours are one piece.

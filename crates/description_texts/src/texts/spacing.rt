@@ -1,10 +1,11 @@
 //! White space within a line.
 
 ghost use Rattle.std.specs.Prelude.{◌≡◌, ◌<◌, ◌+◌, ◌-◌, ◌==◌, ◌++◌, ◌∷◌, [], drop, length, slice_index};
-ghost use Rattle.std.specs.Prelude.{IfOk, MatchOption};
+ghost use Rattle.std.specs.Prelude.{IfOk, MatchOption, true};
 ghost use Rattle.std.specs.List.{list_all, prefix_len};
 ghost use Rattle.description_texts.specs.TextsInside.{is_edge_back, is_edge_front, is_white, spaced, squeezed};
 ghost use Rattle.description_texts.specs.TextsInside.{squeezed_byte, without_white_end, without_white_front};
+ghost use Rattle.description_texts.specs.TextsView.{says_itself, stays_here};
 
 use bumpalo::Bump;
 use std::alloc::AllocError;
@@ -98,6 +99,32 @@ fn stand_in(bytes: &[u8], at: usize) -> Option<&'static str>
     } else {
         None
     }
+}
+
+// Whether a byte stands where it stays as it is: no backquote, no `<`, and white space only as a blank behind a word.
+fn stays_here(byte: u8, is_behind_white: bool) -> bool
+    ensures { result ≡ stays_here byte is_behind_white }
+{
+    match byte {
+        b' ' => !is_behind_white,
+        b'\t' | b'`' | b'<' => false,
+        _ => true,
+    }
+}
+
+/// Whether a line is words with one blank between two, and nothing else has a meaning in it: then it says itself.
+#[tactic(auto, using(crate::proofs::TextsItself::itself_at, crate::proofs::TextsItself::itself_end))]
+pub fn says_itself(line: &[u8]) -> bool
+    ensures { result ≡ says_itself true line.now }
+{
+    let mut is_behind_white = true;
+    for byte in line {
+        if !stays_here(*byte, is_behind_white) {
+            return false;
+        }
+        is_behind_white = *byte == b' ';
+    }
+    !is_behind_white
 }
 
 fn squeezed<'a>(arena: &'a Bump, line: &'a str) -> Result<&'a str, AllocError>

@@ -1,27 +1,10 @@
-use Rattle.std.proofs.Common.{◌∙◌, ap, rules}
+use Rattle.std.proofs.Common.{◌≡◌, true, ap, sym, ◌∙◌}
 use Rattle.std.proofs.lemmas.Result.{on_ok_weaker}
-use Rattle.description_texts.specs.TextsInside.{by_turns, line_pieces, lone_parts, with_pieces}
-use Rattle.description_texts.specs.TextsView.{draft_of}
-use Rattle.description_texts.proofs.TextsPieces.{pair_put, rest_put}
+use Rattle.description_texts.specs.TextsView.{draft_of, says_itself}
+use Rattle.description_texts.proofs.TextsItself.{itself_put}
 use Rattle.description_texts.proofs.texts.inside.push_line.Goals as goal
 
-pub loop-pair-init : goal.loop-pair-init
-unfolding line_pieces
-loop-pair-init c = record {
-  utf8 = search rules;
-  written = ap (λ text. with_pieces (draft_of c.args.pieces.now) (by_turns (lone_parts text))) c.in_ok-rest.ensures;
-}
-
-pub loop-pair-preserved : goal.loop-pair-preserved
-loop-pair-preserved c =
-    let pair = c.in-Some.pair in
-    record {
-      utf8 = search rules;
-      written =
-          pair_put (draft_of c.loop-pair.pieces) (draft_of c.push_links.new.pieces) (draft_of c.push_quoted.new.pieces) c.loop-pair.rest.now pair.before.now pair.inner.now pair.behind.now c.in-Some.ensures.0 c.in_ok-push_links.ensures c.in_ok-push_quoted.ensures
-          ∙ c.loop-pair.invariant.written;
-    }
-
-pub returns : goal.returns
-returns c =
-    on_ok_weaker c.push_links-2.result (rest_put (draft_of c.loop-pair.pieces) (draft_of c.push_links-2.new.pieces) (with_pieces (draft_of c.args.pieces.now) (line_pieces c.args.line.now)) c.loop-pair.rest.now c.in_default.ensures c.loop-pair.invariant.written) c.push_links-2.ensures
+pub returns-then-says_itself : goal.returns-then-says_itself
+returns-then-says_itself c =
+    let itself : says_itself true c.args.line.now ≡ true = ap (says_itself true) (sym c.as_bytes.ensures.value) ∙ sym c.says_itself.ensures ∙ c.if-says_itself.true in
+    on_ok_weaker c.push_words.result (λ put. put ∙ itself_put (draft_of c.args.pieces.now) c.args.line.now itself) c.push_words.ensures

@@ -3,7 +3,7 @@ use denote.Text.{Utf8}
 use denote.Shadow.{shadow}
 use Rattle.description_texts.specs.TextsInside.{by_turns, line_pieces, lone_parts, with_pieces}
 use Rattle.description_texts.specs.TextsView.{draft_of}
-use Rattle.description_texts.proofs.texts.inside.push_line.Given as goal
+use Rattle.description_texts.proofs.texts.inside.push_marked.Given as goal
 
 abbrev pub invariant-loop-pair : goal.invariant-loop-pair
 invariant-loop-pair l = record {
