@@ -255,7 +255,7 @@ fn push_form<'p, A: Allocator>(
 }
 
 /// The forms of a text that stands in place of a usage, one a line, but where nothing stands on it. The first part of
-/// a line stands for the names.
+/// a line stands for the names. An error comes only where an allocation failed.
 pub fn text_forms<'p, A: Allocator>(
     arena: &'p Bump<A>,
     words: &FixedWords<'_>,

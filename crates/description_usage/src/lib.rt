@@ -10,5 +10,6 @@ mod syntax;
 mod usage;
 
 pub use entries::{ArenaBlocks, ArenaEntry, command_entry, option_entry, positional_entry};
-pub use forms::usage_forms;
+pub use forms::{text_forms, usage_forms};
 pub use lines::joined;
+pub use usage::option_item;

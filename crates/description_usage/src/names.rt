@@ -84,7 +84,7 @@ pub fn shown_value<'p, A: Allocator>(
     }
 }
 
-/// That word.
+/// The word for a value, as a piece of a line.
 pub fn value_piece<'p, A: Allocator>(
     arena: &'p Bump<A>,
     word: &'p str,
