@@ -10,4 +10,5 @@ pub mod Shortened
 pub mod Below
 pub mod Unled
 pub mod Media
+pub mod Listed
 pub mod ChapterParts

@@ -7,7 +7,7 @@ use Rattle.description.specs.declared.levels.Level.{Level, out-Level}
 use Rattle.description.specs.declared.levels.Command.{Command}
 use Rattle.description.specs.declared.levels.Group.{Group, out-Group}
 use Rattle.description.proofs.Views.{open-Group, open-Level}
-use Rattle.description_pages.specs.Levels.{commands_in, commands_of, grouped_below, neighbours, page_above, pages_below}
+use Rattle.description_pages.specs.Levels.{commands_in, commands_of, grouped_below, lower_pages, page_above, pages_below}
 use Rattle.description_pages.specs.Sections.{groups_of, page_name}
 
 one_above : {X : Type 0} (see : X → List ℕ) (names : List X) → 2 ≤ length names → page_above (map see names) ≡ page_name (map see (take (length names - 1) names)) ∷ []
@@ -21,12 +21,12 @@ above_put see named names old new page many is e =
 pub group_below : {A : Type 0} (g : Group A) (names : List (List ℕ)) (ms : List (Command A)) → ms ≡ (out-Group A g).commands.items → pages_below names (commands_said ms) ≡ pages_below names (commands_in (group_said g))
 group_below {A} g names ms is = ap (λ cs. pages_below names (commands_said cs)) is ∙ sym (ap (λ s. pages_below names (commands_in s)) (open-Group g))
 
-pub level_below : {A : Type 0} (l : Level A) (names s0 s1 s2 s3 : List (List ℕ)) (gs : List (Group A)) (ms : List (Command A)) → gs ≡ (out-Level A l).groups.items → ms ≡ (out-Level A l).commands.items
-    → s0 ≡ [] → s1 ≡ s0 ++ page_above names → s2 ≡ s1 ++ grouped_below names (groups_said gs) → s3 ≡ s2 ++ pages_below names (commands_said ms) → s3 ≡ neighbours names (level_said l)
-level_below {A} l names s0 s1 s2 s3 gs ms ig im none h1 h2 h3 =
+pub level_below : {A : Type 0} (l : Level A) (names old s1 s2 : List (List ℕ)) (gs : List (Group A)) (ms : List (Command A)) → gs ≡ (out-Level A l).groups.items → ms ≡ (out-Level A l).commands.items
+    → s1 ≡ old ++ grouped_below names (groups_said gs) → s2 ≡ s1 ++ pages_below names (commands_said ms) → s2 ≡ old ++ lower_pages names (level_said l)
+level_below {A} l names old s1 s2 gs ms ig im h1 h2 =
     let below : groups_said gs ≡ groups_of (level_said l) = ap groups_said ig ∙ sym (ap groups_of (open-Level l)) in
     let own : commands_said ms ≡ commands_of (level_said l) = ap commands_said im ∙ sym (ap commands_of (open-Level l)) in
-    h3 ∙ ap (λ s. s ++ pages_below names (commands_said ms)) (h2 ∙ ap (λ s. s ++ grouped_below names (groups_said gs)) (h1 ∙ ap (λ s. s ++ page_above names) none))
-    ∙ ap (λ g. (page_above names ++ grouped_below names g) ++ pages_below names (commands_said ms)) below
-    ∙ ap (λ m. (page_above names ++ grouped_below names (groups_of (level_said l))) ++ pages_below names m) own
-    ∙ append_assoc (page_above names) (grouped_below names (groups_of (level_said l))) (pages_below names (commands_of (level_said l)))
+    h2 ∙ ap (λ s. s ++ pages_below names (commands_said ms)) h1
+    ∙ append_assoc old (grouped_below names (groups_said gs)) (pages_below names (commands_said ms))
+    ∙ ap (λ g. old ++ (grouped_below names g ++ pages_below names (commands_said ms))) below
+    ∙ ap (λ m. old ++ (grouped_below names (groups_of (level_said l)) ++ pages_below names m)) own

@@ -8,6 +8,7 @@ use Rattle.description_pages.specs.Topics.{merged, own_sections, placed_blocks}
 use Rattle.description_usage.specs.Forms.{usage_forms}
 use Rattle.description.specs.Words.{WordsSaid}
 use Rattle.description_pages.specs.declared.levels.Depth.{Depth}
+use Rattle.description_pages.specs.declared.levels.Depth.TheVariants.{Alone, Deep}
 use Rattle.description_pages.specs.declared.sections.Detail.{Detail}
 use Rattle.description_pages.specs.declared.topics.Place.TheVariants.{Notes, References}
 
@@ -42,9 +43,14 @@ grouped_below names (groups first others) = pages_below names (commands_in first
 abbrev pub commands_of : LevelSaid → CommandsSaid
 commands_of (level texts required options choices below values subcommands) = subcommands
 
--- the page above, the commands of groups, and the others
-abbrev pub neighbours : (names : List (List ℕ)) → LevelSaid → List (List ℕ)
-neighbours names l = page_above names ++ (grouped_below names (groups_of l) ++ pages_below names (commands_of l))
+-- the commands of groups, and the others
+abbrev pub lower_pages : (names : List (List ℕ)) → LevelSaid → List (List ℕ)
+lower_pages names l = grouped_below names (groups_of l) ++ pages_below names (commands_of l)
+
+-- the page above and those below, but where what is below stands on the page itself
+abbrev pub neighbours : Depth → (names : List (List ℕ)) → LevelSaid → List (List ℕ)
+neighbours Alone names l = page_above names ++ lower_pages names l
+neighbours Deep names l = page_above names
 
 -- ---- the page
 
@@ -81,5 +87,5 @@ page_of fixed detail depth subject = record {
   header = given_blocks detail (texts_of subject.level).header;
   sections = sections_of fixed detail depth subject.names subject.help_options subject.level;
   see_also = merged (placed_blocks fixed detail References (texts_of subject.level).topics);
-  references = neighbours subject.names subject.level;
+  references = neighbours depth subject.names subject.level;
 }

@@ -14,3 +14,4 @@ pub mod Manuals
 pub mod Markdowns
 pub mod Consoles
 pub mod Media
+pub mod Listed

@@ -1,6 +1,7 @@
 -- The lists of a level: entries, each list under its title.
 use Rattle.std.specs.Prelude.{ℕ, List, [], ◌∷◌, ◌++◌, ◌==◌, map, flat_map, codes, if◌then◌else◌, Option, Some, None}
 use Rattle.std.specs.List.{join_by}
+use Rattle.std.specs.Str.{trim_end}
 use Rattle.page_model.specs.Content.{BlockSaid, EntrySaid, TargetSaid, to_page, to_heading}
 use Rattle.description.specs.Content.{OptSaid, ChoiceSaid, PositionalSaid, LevelSaid, level, GroupsSaid, no_groups, groups, GroupSaid, group, CommandsSaid, no_commands, commands, CommandSaid, command}
 use Rattle.description_usage.specs.Entries.{command_entry, option_entry, positional_entry}
@@ -36,9 +37,9 @@ without_last last [] = []
 without_last last (b ∷ []) = if b == last then [] else b ∷ []
 without_last last (b ∷ c ∷ text) = b ∷ without_last last (c ∷ text)
 
--- the colon at the end of a title is left out
+-- the colon at the end of a title is left out, and white space at the end of the rest
 abbrev pub without_colon : List ℕ → List ℕ
-without_colon = without_last 58
+without_colon title = trim_end (without_last 58 title)
 
 -- ---- sections
 

@@ -1,5 +1,6 @@
 -- The summary of a level: a paragraph on one line, without the full stop at its end.
-use Rattle.std.specs.Prelude.{List, [], ◌∷◌, ◌++◌, codes, Bool, true, false, ◌&&◌, unwrap_or}
+use Rattle.std.specs.Prelude.{ℕ, List, [], ◌∷◌, ◌++◌, ◌==◌, codes, Bool, true, false, ◌&&◌, unwrap_or, if◌then◌else◌}
+use Rattle.std.specs.List.{ends_with}
 use Rattle.std.specs.Str.{bytes_eq}
 use Rattle.page_model.specs.Content.{Piece, words, literal, value, link, page, Line, BlockSaid, paragraph, code, bullets}
 use Rattle.description_pages.specs.Levels.{SubjectSaid, texts_of}
@@ -9,11 +10,15 @@ use Rattle.description_texts.specs.Texts.{first_paragraph}
 use Rattle.description_texts.specs.TextsInside.{gathered, some_words}
 use Rattle.description_pages.specs.declared.sections.Detail.TheVariants.{Full}
 
--- a line without the full stop at its end, and the blank before that
+-- a text without the full stop at its end, and the blank before that; where stops follow one another, all are left
+abbrev pub without_full_stop : List ℕ → List ℕ
+without_full_stop text = if ends_with ◌==◌ text (codes "..") then text else without_last 32 (without_last 46 text)
+
+-- a line without it
 abbrev pub without_stop : Line → Line
 without_stop [] = []
 without_stop (piece ∷ next ∷ line) = piece ∷ without_stop (next ∷ line)
-without_stop (words text ∷ []) = some_words (without_last 32 (without_last 46 text))
+without_stop (words text ∷ []) = some_words (without_full_stop text)
 without_stop (literal text ∷ []) = literal text ∷ []
 without_stop (value text ∷ []) = value text ∷ []
 without_stop (link text ∷ []) = link text ∷ []

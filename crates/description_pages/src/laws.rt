@@ -1,5 +1,6 @@
 //! Laws of the definitions that the contracts cite: nothing to call, but statements that the check proves.
 ghost use Rattle.description_pages.specs.Chapters.{EachLevelHasItsChapter};
+ghost use Rattle.description_pages.specs.Listed.{EachKeyIsListedOnce, HelpOptionsAreListed};
 ghost use Rattle.description_pages.specs.Media.{MediaListTheSame};
 ghost use Rattle.description_pages.specs.Subjects.{EachCommandIsThere};
 
@@ -18,4 +19,16 @@ pub fn each_level_has_its_chapter()
 /// another level and as a chapter.
 pub fn media_list_the_same()
     ensures { MediaListTheSame }
+{}
+
+/// Each list of a page has the entries of the rows of its level, in order: of those with one key one, and none of any other
+/// key. There is no other list.
+pub fn each_key_is_listed_once()
+    ensures { EachKeyIsListedOnce }
+{}
+
+/// Each option that asks for help is shown among the options of each level, unless it is hidden or one with its key stands
+/// before it.
+pub fn help_options_are_listed()
+    ensures { HelpOptionsAreListed }
 {}

@@ -84,8 +84,8 @@ fn push_notes<'p, 'a: 'p, C: Allocator>(
 }
 
 /// The page of a level, made in an arena: each text in full, or its first block. Where the levels below stand on the
-/// same page, entries of commands lead to their headings, and else to their pages. An error comes only where an
-/// allocation failed.
+/// same page, entries of commands lead to their headings, and no page below is named; else they lead to their pages.
+/// An error comes only where an allocation failed.
 pub fn level_page<'p, 'a: 'p, C: Allocator>(
     arena: &'p Bump,
     words: &'p FixedWords<'p>,
@@ -112,6 +112,6 @@ pub fn level_page<'p, 'a: 'p, C: Allocator>(
         header: given_blocks(arena, detail, level.header)?,
         sections: sections(making, subject)?,
         see_also: placed_blocks(making, Place::References, level.topics.as_slice())?,
-        references: neighbours(arena, subject.names, level)?,
+        references: neighbours(arena, depth, subject.names, level)?,
     })
 }

@@ -1,10 +1,11 @@
 //! The names of pages, and which stand directly above and below a level.
 ghost use Rattle.std.specs.Prelude.{◌≡◌, ◌++◌, ◌∷◌, [], map, IfOk, OnOk};
 ghost use Rattle.description.specs.View.{command_said, commands_said, group_said, groups_said, level_said};
-ghost use Rattle.description_pages.specs.Levels.{commands_in, grouped_below, neighbours, page_above, page_below};
-ghost use Rattle.description_pages.specs.Levels.{pages_below};
+ghost use Rattle.description_pages.specs.Levels.{commands_in, grouped_below, lower_pages, neighbours, page_above};
+ghost use Rattle.description_pages.specs.Levels.{page_below, pages_below};
 ghost use Rattle.description_pages.specs.Sections.{joined_names};
 
+use crate::levels::Depth;
 use bumpalo::Bump;
 use description::{Command, Group, Level};
 use std::alloc::{AllocError, Allocator};
@@ -113,19 +114,37 @@ fn push_groups<'p, A: Allocator, C: Allocator>(
     Ok(())
 }
 
+fn push_below<'p, A: Allocator, C: Allocator>(
+    arena: &'p Bump<A>,
+    pages: &mut ArenaNames<'p, A>,
+    names: &[&str],
+    level: &Level<'_, C>,
+) -> Result<(), AllocError>
+    ensures { OnOk result (map (λ page. page.now) pages.new.items ≡ map (λ page. page.now) pages.old.items
+        ++ lower_pages (map (λ name. name.now) names.now) (level_said level.now)) }
+{
+    push_groups(arena, pages, names, level.groups.as_slice())?;
+    push_commands(arena, pages, names, level.commands.as_slice())
+}
+
 /// The names of the pages directly above and below the level that these names lead to. Those of its groups stand
-/// first.
+/// first. Where those below stand on the page of the level, the page above alone.
 pub fn neighbours<'p, A: Allocator, C: Allocator>(
     arena: &'p Bump<A>,
+    depth: Depth,
     names: &[&str],
     level: &Level<'_, C>,
 ) -> Result<ArenaNames<'p, A>, AllocError>
     ensures { IfOk result (λ pages. map (λ page. page.now) pages.items
-        ≡ neighbours (map (λ name. name.now) names.now) (level_said level.now)) }
+        ≡ neighbours depth (map (λ name. name.now) names.now) (level_said level.now)) }
 {
     let mut pages: ArenaNames<'p, A> = Vec::new(arena);
     push_above(arena, &mut pages, names)?;
-    push_groups(arena, &mut pages, names, level.groups.as_slice())?;
-    push_commands(arena, &mut pages, names, level.commands.as_slice())?;
-    Ok(pages)
+    match depth {
+        Depth::Alone => {
+            push_below(arena, &mut pages, names, level)?;
+            Ok(pages)
+        }
+        Depth::Deep => Ok(pages),
+    }
 }

@@ -80,11 +80,11 @@ pub fn without_last(text: &str, last: char) -> &str
     }
 }
 
-/// A title without the colon at its end, if it has one.
+/// A title without the colon at its end, if it has one, and without white space at the end of the rest.
 pub fn without_colon(title: &str) -> &str
     ensures { result.now ≡ without_colon title.now }
 {
-    without_last(title, ':')
+    without_last(title, ':').trim_end()
 }
 
 /// The blocks of a text that are shown, and none of no text.

@@ -1,8 +1,8 @@
 //! The summary of a level: a paragraph on one line, without the full stop at its end.
 ghost use Rattle.std.specs.Prelude.{◌≡◌, ◌++◌, ◌∷◌, [], map, IfOk, MatchOption, None, OnOk, Some};
 ghost use Rattle.page_model.specs.View.{block_of, line_of, piece_of};
-ghost use Rattle.description_pages.specs.Sections.{without_last};
-ghost use Rattle.description_pages.specs.Summaries.{is_summary, one_line, same_line, same_piece, summary, without_stop};
+ghost use Rattle.description_pages.specs.Summaries.{is_summary, one_line, same_line, same_piece, summary};
+ghost use Rattle.description_pages.specs.Summaries.{without_full_stop, without_stop};
 ghost use Rattle.description_texts.specs.Texts.{first_paragraph};
 
 use crate::sections::without_last;
@@ -12,10 +12,15 @@ use description_usage::joined;
 use page_model::{Block, Inline, Line};
 use std::alloc::{AllocError, Allocator};
 
-fn without_stop_text(text: &str) -> &str
-    ensures { result.now ≡ without_last 32 (without_last 46 text.now) }
+// Stops that follow one another stay: `and so on...`.
+fn without_full_stop(text: &str) -> &str
+    ensures { result.now ≡ without_full_stop text.now }
 {
-    without_last(without_last(text, '.'), ' ')
+    if text.as_bytes().ends_with(b"..") {
+        text
+    } else {
+        without_last(without_last(text, '.'), ' ')
+    }
 }
 
 // Puts the last piece of a line.
@@ -24,7 +29,7 @@ fn push_last<'a, A: Allocator>(line: &mut Line<'a, A>, last: Inline<'a>) -> Resu
         ≡ line_of line.old.items ++ without_stop (piece_of last.entry ∷ [])) }
 {
     match last {
-        Inline::Words(text) => push_some(line, without_stop_text(text)),
+        Inline::Words(text) => push_some(line, without_full_stop(text)),
         other => {
             line.push(other)?;
             Ok(())
