@@ -10,4 +10,3 @@ pub mod Gives
 pub mod Listed
 pub mod Stretches
 pub mod Pieces
-pub mod Trimmed

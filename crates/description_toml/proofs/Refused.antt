@@ -5,7 +5,7 @@ use Rattle.std.proofs.lemmas.Str.{chars_past_char, chars-nil}
 use Rattle.std.specs.Prelude.{IsUtf8, ◌&&◌, is_none, is_some, not}
 use Rattle.std.specs.List.{list_all}
 use Rattle.description_toml.specs.Described.Kinds.{allows, has_form, is_of}
-use Rattle.description_toml.specs.Described.Texts.{begins, has_blank_end, is_dash, is_empty_text, is_line, is_name_character, is_read_once, is_text, without_colon}
+use Rattle.description_toml.specs.Described.Texts.{begins, has_blank_end, has_name_size, is_dash, is_empty_text, is_line, is_name_character, is_word_character, is_read_once, is_text, without_colon}
 use Rattle.description_toml.specs.declared.decode.texts.Kind.{Kind}
 use Rattle.description_toml.specs.declared.decode.texts.Kind.TheVariants as kind
 
@@ -43,16 +43,15 @@ of_kind kind.Body text = refl
 of_kind kind.Line text = and_true (is_line text)
 of_kind kind.Value text = refl
 of_kind kind.Title text = refl
-of_kind kind.Heading text = and_assoc (is_line text) (list_all is_read_once text) (not (has_blank_end text) && not (is_empty_text (without_colon text)))
+of_kind kind.Heading text = and_assoc (list_all is_word_character (chars text)) (list_all is_read_once text) (not (has_blank_end text) && not (is_empty_text (without_colon text)))
 of_kind kind.Section text = refl
 of_kind kind.Language text = refl
 of_kind kind.Name text = refl
-of_kind kind.Long text = and_assoc (list_all is_name_character (chars text)) (not (is_empty_text text)) (not (begins is_dash text))
-of_kind kind.Program text = and_assoc (list_all is_name_character (chars text)) (not (is_empty_text text)) (list_all is_read_once text)
+of_kind kind.Long text = and_assoc (list_all is_name_character (chars text)) (has_name_size text) (not (begins is_dash text))
 of_kind kind.Command text =
     let dash = not (begins is_dash text) in
-    and_assoc (list_all is_name_character (chars text)) (not (is_empty_text text) && dash) (list_all is_read_once text)
-    ∙ ap (λ b. b && list_all is_read_once text) (and_assoc (list_all is_name_character (chars text)) (not (is_empty_text text)) dash)
+    and_assoc (list_all is_name_character (chars text)) (has_name_size text && dash) (list_all is_read_once text)
+    ∙ ap (λ b. b && list_all is_read_once text) (and_assoc (list_all is_name_character (chars text)) (has_name_size text) dash)
 
 pub form_decides : {X : Type 0} (o : Option X) (all form whole : Bool) → is_none o ≡ all → o ≡ None → (all && form) ≡ whole → form ≡ whole
 form_decides o all form whole h e w = grind arith

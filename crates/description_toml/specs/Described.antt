@@ -10,7 +10,7 @@ use Rattle.std.specs.Cmp.Lexicographic.{slice_cmp}
 use Rattle.toml.specs.Data.{Data, array, table, Items, no_items, item, Members, no_members, member, get_member}
 use Rattle.description.specs.Content.{DescriptionSaid, NameSaid, short, long, both, SpellingSaid, named, syntax, OptSaid, ChoiceSaid, PositionalSaid, TopicSaid, TextsSaid, LevelSaid, level, GroupsSaid, no_groups, groups, GroupSaid, group, CommandsSaid, no_commands, commands, CommandSaid, command, CommandNames}
 use Rattle.description.specs.Words.{WordsSaid, english}
-use Rattle.description_toml.specs.Described.Texts.{as_body, as_command_name, as_heading, as_language, as_long, as_name, as_program_name, as_text, as_title, as_value, without_colon}
+use Rattle.description_toml.specs.Described.Texts.{as_body, as_command_name, as_heading, as_language, as_long, as_name, as_text, as_title, as_value, without_colon}
 use Rattle.description_toml.specs.Described.Values.{has_only, at_key, table_at, flag_at, optional_at, required_at, tables_at, is_empty, each_table, as_short, as_section, as_date, words_at, as_default, as_syntax, as_values}
 use Rattle.description_toml.specs.Described.Taken.{has_distinct_names}
 
@@ -316,7 +316,7 @@ pub record DescriptionHead : Type 0 where
 
 unfoldable pub description_head : Members → Option DescriptionHead
 description_head = with_only description_keys (λ ms.
-    required_at as_program_name (codes "name") ms >>= (λ name. title_words ms >>= (λ words. optional_at as_language (codes "language") ms >>= (λ language. table_at (codes "words") ms >>= (λ fixed. tables_at (codes "help_option") ms >>= (λ helps. outline_from ms >>= (λ outline.
+    required_at as_command_name (codes "name") ms >>= (λ name. title_words ms >>= (λ words. optional_at as_language (codes "language") ms >>= (λ language. table_at (codes "words") ms >>= (λ fixed. tables_at (codes "help_option") ms >>= (λ helps. outline_from ms >>= (λ outline.
     Some (record { name = name; words = words; language = language_from language; fixed = fixed; help_options = helps; outline = outline }))))))))
 
 abbrev pub description_of : DescriptionHead → WordsSaid → List OptSaid → LevelSaid → DescriptionSaid

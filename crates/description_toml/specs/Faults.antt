@@ -1,5 +1,5 @@
 -- Why a table gives no description.
-use Rattle.std.specs.Prelude.{◌≡◌, ⊤, Bool, true, false, List, [], ◌∷◌, ◌++◌, Option, Some, None, Result, Ok, Err}
+use Rattle.std.specs.Prelude.{◌≡◌, ⊤, ◌<◌, Bool, true, false, List, [], ◌∷◌, ◌++◌, length, Option, Some, None, Result, Ok, Err}
 use Rattle.description_toml.specs.declared.decode.faults.DescriptionError.{DescriptionError}
 use Rattle.description_toml.specs.declared.decode.faults.DescriptionError.TheVariants.{Memory, Content}
 use Rattle.description_toml.specs.declared.decode.teller.Refused.{Refused}
@@ -9,6 +9,11 @@ use Rattle.description_toml.specs.declared.decode.teller.Refused.TheVariants as 
 abbrev pub IsMemory : {A : Type 0} → DescriptionError A → Type 0
 IsMemory (Memory e) = ⊤
 IsMemory (Content faults) = ⊥
+
+-- some fault is told, unless an allocation failed
+abbrev pub TellsSome : {A : Type 0} → DescriptionError A → Type 0
+TellsSome (Memory e) = ⊤
+TellsSome (Content faults) = 0 < length faults.told.items
 
 abbrev pub IsRefusal : Refused → Type 0
 IsRefusal refused.Memory = ⊤

@@ -1,4 +1,3 @@
-pub mod Margins
 pub mod Syntax
 pub mod Described
 pub mod Faults

@@ -1,9 +1,9 @@
 -- The syntax of an option: one text that says how the option is written. What of it is a name, and when it is well formed.
 pub mod Steps
-use Rattle.std.specs.Prelude.{codes, ℕ, ◌-◌, List, [], ◌∷◌, ◌++◌, ◌==◌, length, take, map, filter, fold, count_by, Bool, true, false, not, ◌&&◌, ◌||◌, if◌then◌else◌, Option, Some, None}
+use Rattle.std.specs.Prelude.{chars, codes, ℕ, ◌-◌, List, [], ◌∷◌, ◌++◌, ◌==◌, length, take, filter, fold, count_by, Bool, true, false, not, ◌&&◌, ◌||◌, if◌then◌else◌, Option, Some, None}
+use Rattle.std.specs.Char.{is_whitespace}
 use Rattle.std.specs.List.{ends_with, list_all, list_any, onto_first, slice_get}
 use Rattle.description_toml.specs.Described.Texts.{begins, is_dash, is_empty_text}
-use Rattle.description_toml.specs.Margins.{without_margins}
 
 -- ---- bytes
 
@@ -118,12 +118,16 @@ parts_behind mark before (b ∷ bs) = onto_parts (b == mark && is_outside before
 abbrev pub parts : (mark : ℕ) → List ℕ → List (List ℕ)
 parts mark = parts_behind mark []
 
--- what the commas outside brackets part, without the blanks at its ends, and the newlines, which no TOML text gives
+-- what the commas outside brackets part
 abbrev pub pieces : List ℕ → List (List ℕ)
-pieces text = map without_margins (parts 44 text)
+pieces = parts 44
 
 -- ---- what may stand in a TOML text
 
--- brackets in pairs, and no empty piece
+-- a character that is no white space
+abbrev pub has_ink : List ℕ → Bool
+has_ink text = list_any (λ c. not (is_whitespace c)) (chars text)
+
+-- brackets in pairs, and ink in each piece
 abbrev pub is_well_formed : List ℕ → Bool
-is_well_formed text = are_paired text && list_all (λ piece. not (is_empty_text piece)) (pieces text)
+is_well_formed text = are_paired text && list_all has_ink (pieces text)

@@ -7,7 +7,7 @@ ghost use Rattle.description_toml.specs.Described.{commands_at, described, descr
 ghost use Rattle.description_toml.specs.Described.{each_group, groups_at, language_from, section_from, title_words};
 ghost use Rattle.description_toml.specs.Described.Steps.{description_head_seen, words_seen};
 ghost use Rattle.description_toml.specs.Described.Values.{as_date, optional_at, text_of_date};
-ghost use Rattle.description_toml.specs.Faults.{IsMemory, Reads};
+ghost use Rattle.description_toml.specs.Faults.{IsMemory, Reads, TellsSome};
 
 mod faults;
 mod fixed;
@@ -61,13 +61,14 @@ const DESCRIPTION_KEYS: [&str; 19] = [
 ];
 
 /// The description that the table of a TOML text gives (`docs/description.md`). Its texts are those of the
-/// table; its names, its words for values and a TOML date are kept in `names` for good, also those that were
-/// read before an error.
+/// table; its names, its words for values, the text of `values`, and those of a TOML date and of a number are kept in
+/// `names` for good, also those that were read before an error.
 ///
 /// `Memory` says that an allocation failed, and nothing of the table. While memory lasts, `Content` comes
-/// exactly where the table is no description, and tells what is wrong in the order in which the table is read: of
-/// a table first the keys that are not known, then its keys in the order of `docs/description.md`, then the names
-/// that stand twice, then the tables inside it. Of what stands inside a table of the wrong kind it tells nothing.
+/// exactly where the table is no description, and tells the first 20 faults, at least one, and how many more there are, in
+/// the order in which the table is read: of a table first the keys that are not known, then its keys in the order of
+/// `docs/description.md`, then the names that stand twice, then the tables inside it. Of what stands inside a table of
+/// the wrong kind it tells nothing.
 pub fn description_from_table<'a, A: Allocator + Copy>(
     alloc: A,
     names: &mut Names,
@@ -75,6 +76,7 @@ pub fn description_from_table<'a, A: Allocator + Copy>(
 ) -> Result<Description<'a, A>, DescriptionError<'a, A>>
     ensures ok { IfOk result (λ d. described (table_view table.now) ≡ Some (description_said d)) }
     ensures refused { IfErr result (λ e. ¬ IsMemory e → described (table_view table.now) ≡ None) }
+    ensures told { IfErr result (λ e. TellsSome e) }
 {
     let mut teller = Teller::new(alloc);
     match description_of(&mut teller, names, table) {
@@ -178,7 +180,7 @@ fn description_head<'a, A: Allocator + Copy>(
         ≡ each_command (description_head_seen head).outline.lists.commands) }
 {
     let are_known = check_keys(teller, table, &DESCRIPTION_KEYS);
-    let name = required_word_at(teller, names, table, "name", Kind::Program);
+    let name = required_word_at(teller, names, table, "name", Kind::Command);
     let words = title_words(teller, names, table);
     let language = text_at(teller, table, "language", Kind::Language);
     let fixed = table_at(teller, table, "words");

@@ -2,7 +2,6 @@
 #![tactic(auto)]
 
 pub mod decode;
-mod margins;
 mod syntax;
 pub mod words;
 

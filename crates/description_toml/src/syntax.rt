@@ -6,13 +6,12 @@ ghost use Rattle.std.specs.List.{list_all, prefix_len, slice_index};
 ghost use Rattle.description.specs.View.{text_of};
 ghost use Rattle.description_toml.specs.Described.Steps.{words_of};
 ghost use Rattle.description_toml.specs.Described.Taken.{without_dashes};
-ghost use Rattle.description_toml.specs.Described.Texts.{begins, is_empty_text};
-ghost use Rattle.description_toml.specs.Syntax.{are_paired, closes, has_form_of_name, has_letter, is_bracket, is_closing};
+ghost use Rattle.description_toml.specs.Described.Texts.{begins};
+ghost use Rattle.description_toml.specs.Syntax.{are_paired, closes, has_form_of_name, has_ink, has_letter, is_bracket, is_closing};
 ghost use Rattle.description_toml.specs.Syntax.{is_lead, is_name, is_negated, is_opening, is_place, is_same, is_separator};
 ghost use Rattle.description_toml.specs.Syntax.{parts, pieces, stretch_names, stretches, syntax_names, with_bracket};
 ghost use Rattle.description_toml.specs.Syntax.Steps.{is_in};
 
-use crate::margins::without_margins;
 use std::alloc::{AllocError, Allocator};
 
 // What a long name begins with.
@@ -334,16 +333,23 @@ fn closes_last(left: &[u8], byte: u8) -> bool
     }
 }
 
-/// Whether no piece of a text is empty.
-pub fn are_pieces_full(text: &str) -> bool
-    ensures { result ≡ list_all (λ piece. not (is_empty_text piece)) (pieces text.now) }
+/// Whether a text holds something else than white space.
+pub fn has_ink(text: &str) -> bool
+    ensures { result ≡ has_ink text.now }
+{
+    text.chars().any(|character| !character.is_whitespace())
+}
+
+/// Whether each piece of a text does.
+pub fn have_pieces_ink(text: &str) -> bool
+    ensures { result ≡ list_all has_ink (pieces text.now) }
 {
     let mut rest = text;
     while let Some((piece, behind)) = split_piece(rest) {
-        if without_margins(piece).is_empty() {
+        if !has_ink(piece) {
             return false;
         }
         rest = behind;
     }
-    !without_margins(rest).is_empty()
+    has_ink(rest)
 }

@@ -1,9 +1,11 @@
 -- The texts and the names that a description may hold: the characters that stand in them, and the form that they have.
-use Rattle.std.specs.Prelude.{chars, ℕ, List, [], ◌∷◌, ◌==◌, ◌%◌, length, Bool, false, not, ◌&&◌, ◌||◌, if◌then◌else◌, nat_lt, Option, Some, None, option_and_then}
+use Rattle.std.specs.Prelude.{chars, ℕ, List, [], ◌∷◌, ◌==◌, ◌%◌, length, take, Bool, false, not, ◌&&◌, ◌||◌, if◌then◌else◌, nat_lt, Option, Some, None, option_and_then, nat_le}
 use Rattle.std.specs.Char.{is_ascii_alphanumeric, is_ascii_digit, is_control, is_whitespace}
 use Rattle.std.specs.Int.{is_in_range}
 use Rattle.std.specs.List.{list_all}
+use Rattle.std.specs.Str.{trim_end}
 use Rattle.toml.specs.Data.{Data, as_str}
+use Rattle.description_texts.specs.Texts.{is_empty}
 
 -- ---- characters
 
@@ -19,9 +21,21 @@ is_line_character c = not (is_control c) && not (is_noncharacter c)
 abbrev pub is_text_character : ℕ → Bool
 is_text_character c = (c == 10 || c == 9) || is_line_character c
 
+-- what shows nothing, or turns the direction of what stands beside it: U+200B, U+202A to U+202E, U+2060 to U+206F, U+FEFF, and the tags, U+E0000 to U+E007F
+abbrev pub is_hidden : ℕ → Bool
+is_hidden c = c == 0x200B || is_in_range 0x202A 0x202E c || is_in_range 0x2060 0x206F c || c == 0xFEFF || is_in_range 0xE_0000 0xE_007F c
+
+-- what joins letters of some scripts or parts them, and tells the direction of a letter beside it: U+200C to U+200F
+abbrev pub is_joiner : ℕ → Bool
+is_joiner = is_in_range 0x200C 0x200F
+
+-- of a word that stands for something, or above something: what is there is seen
+abbrev pub is_word_character : ℕ → Bool
+is_word_character c = not (is_hidden c) && is_line_character c
+
 -- of a name: no white space and no `=`
 abbrev pub is_name_character : ℕ → Bool
-is_name_character c = not (is_whitespace c || c == 61) && is_line_character c
+is_name_character c = not (is_whitespace c || c == 61) && (not (is_joiner c) && is_word_character c)
 
 -- a short name is no `-`
 abbrev pub is_short : ℕ → Bool
@@ -55,10 +69,14 @@ abbrev pub has_blank_end : List ℕ → Bool
 has_blank_end text = begins is_whitespace (chars text) || ends is_whitespace (chars text)
 
 -- the text without the colon at its end
+abbrev pub before_colon : List ℕ → List ℕ
+before_colon [] = []
+before_colon (b ∷ []) = if b == 58 then [] else b ∷ []
+before_colon (b ∷ c ∷ text) = b ∷ before_colon (c ∷ text)
+
+-- and without the white space in front of that
 abbrev pub without_colon : List ℕ → List ℕ
-without_colon [] = []
-without_colon (b ∷ []) = if b == 58 then [] else b ∷ []
-without_colon (b ∷ c ∷ text) = b ∷ without_colon (c ∷ text)
+without_colon text = take (length (trim_end (before_colon text))) text
 
 -- a digit, `n` or `l`
 abbrev pub begins_a_section : ℕ → Bool
@@ -73,9 +91,13 @@ is_language_byte b = is_ascii_alphanumeric b || is_dash b
 abbrev pub is_text : List ℕ → Bool
 is_text text = list_all is_text_character (chars text)
 
+-- a text that has a block
+abbrev pub has_block : List ℕ → Bool
+has_block text = not (is_empty text)
+
 -- the text of a topic
 abbrev pub is_body : List ℕ → Bool
-is_body text = is_text text && not (is_empty_text text)
+is_body text = is_text text && has_block text
 
 -- a text on one line, which may be empty
 abbrev pub is_line : List ℕ → Bool
@@ -83,11 +105,11 @@ is_line text = list_all is_line_character (chars text)
 
 -- the word for a value
 abbrev pub is_value : List ℕ → Bool
-is_value text = list_all is_line_character (chars text) && not (is_empty_text text)
+is_value text = list_all is_word_character (chars text) && not (is_empty_text text)
 
 -- a word of the title line of a manual page
 abbrev pub is_title : List ℕ → Bool
-is_title text = list_all is_line_character (chars text) && list_all is_read_once text
+is_title text = list_all is_word_character (chars text) && list_all is_read_once text
 
 -- a title that stands on a page, of a group or of a topic, or a fixed word
 abbrev pub is_heading : List ℕ → Bool
@@ -101,17 +123,19 @@ is_section text = list_all is_line_character (chars text) && (list_all is_ascii_
 abbrev pub is_language_tag : List ℕ → Bool
 is_language_tag text = list_all is_line_character (chars text) && (not (is_empty_text text) && list_all is_language_byte text)
 
+-- there is something of it, and no more than 200 bytes
+abbrev pub has_name_size : List ℕ → Bool
+has_name_size text = not (is_empty_text text) && nat_le (length text) 200
+
 -- the name of an environment variable
 abbrev pub is_name : List ℕ → Bool
-is_name text = list_all is_name_character (chars text) && not (is_empty_text text)
+is_name text = list_all is_name_character (chars text) && has_name_size text
 
 -- a long name
 abbrev pub is_long : List ℕ → Bool
 is_long text = is_name text && not (begins is_dash text)
 
-abbrev pub is_program_name : List ℕ → Bool
-is_program_name text = is_name text && list_all is_read_once text
-
+-- of the program or of a command
 abbrev pub is_command_name : List ℕ → Bool
 is_command_name text = is_long text && list_all is_read_once text
 
@@ -147,9 +171,6 @@ as_name = as_text_of is_name
 
 abbrev pub as_long : Data → Option (List ℕ)
 as_long = as_text_of is_long
-
-abbrev pub as_program_name : Data → Option (List ℕ)
-as_program_name = as_text_of is_program_name
 
 abbrev pub as_command_name : Data → Option (List ℕ)
 as_command_name = as_text_of is_command_name

@@ -99,14 +99,15 @@ fn write_option_name<W: fmt::Write>(f: &mut fmt::Formatter<W>, item: &Value) -> 
     }
 }
 
-// Nothing is written of an empty text, and no dashes before one that has some.
+// Nothing is written of a blank text, and no dashes before one that has some.
 fn write_text<W: fmt::Write>(
     f: &mut fmt::Formatter<W>,
     dashes: &str,
     text: Option<&str>,
 ) -> fmt::Result {
     match text {
-        None | Some("") => Ok(()),
+        None => Ok(()),
+        Some(text) if text.trim().is_empty() => Ok(()),
         Some(text) if text.as_bytes().first() == Some(&b'-') => write!(f, " ({})", Brief(text)),
         Some(text) => write!(f, " ({dashes}{})", Brief(text)),
     }

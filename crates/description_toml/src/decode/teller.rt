@@ -1,6 +1,6 @@
 //! What is told of a table while it is read.
 ghost use Rattle.std.specs.Prelude.{IfErr};
-ghost use Rattle.description_toml.specs.Faults.{IsMemory, IsRefusal, Joins};
+ghost use Rattle.description_toml.specs.Faults.{IsMemory, IsRefusal, Joins, TellsSome};
 
 use super::faults::{DescriptionError, Fault, Faults};
 use super::places::{Header, Place, Way, path_through};
@@ -253,18 +253,35 @@ impl<'a, A: Allocator + Copy> Teller<'a, A> {
         leads_to_a_key && self.told.iter().any(|fault| is_of(fault, path))
     }
 
+    // That something is told of each table that is refused is only tested. Else it is told that there is something.
+    fn tell_the_whole(&mut self) {
+        match String::from_str(self.alloc, "the table is no description") {
+            Ok(words) => self.put(Fault {
+                path: Vec::new(self.alloc),
+                earlier: Vec::new(self.alloc),
+                words,
+            }),
+            Err(_) => self.out_of_memory(),
+        };
+    }
+
     /// The error that tells all, where the whole could not be read.
     pub fn error(self, refused: Refused) -> DescriptionError<'a, A>
-        ensures { ¬ IsMemory result → ¬ IsRefusal refused }
+        ensures memory { ¬ IsMemory result → ¬ IsRefusal refused }
+        ensures told { TellsSome result }
     {
+        let mut teller = self;
+        if teller.told.is_empty() {
+            teller.tell_the_whole();
+        }
         let Teller {
             told,
             more,
             is_out_of_memory,
             ..
-        } = self;
+        } = teller;
         match refused {
-            Refused::Told if !is_out_of_memory => {
+            Refused::Told if !(is_out_of_memory || told.is_empty()) => {
                 DescriptionError::Content(Faults { told, more })
             }
             _ => DescriptionError::Memory(AllocError),

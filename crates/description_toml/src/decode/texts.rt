@@ -1,15 +1,19 @@
 //! The kinds of texts, and why one is none of its kind.
-ghost use Rattle.std.specs.Prelude.{◌≡◌, ◌&&◌, chars, is_none, not};
+ghost use Rattle.std.specs.Prelude.{◌≡◌, ◌&&◌, chars, is_none, length, nat_le, not};
 ghost use Rattle.std.specs.Char.{is_ascii_alphanumeric, is_whitespace};
+ghost use Rattle.std.specs.Int.{is_in_range};
 ghost use Rattle.std.specs.List.{list_all};
 ghost use Rattle.description_toml.specs.Described.Kinds.{allows, has_form, is_of};
-ghost use Rattle.description_toml.specs.Described.Texts.{begins, begins_a_section, ends, has_blank_end, if_passes};
-ghost use Rattle.description_toml.specs.Described.Texts.{is_dash, is_empty_text, is_language_byte, is_line_character};
-ghost use Rattle.description_toml.specs.Described.Texts.{is_name_character, is_noncharacter, is_read_once, is_short};
-ghost use Rattle.description_toml.specs.Described.Texts.{is_text_character, without_colon};
+ghost use Rattle.description_toml.specs.Described.Texts.{before_colon, begins, begins_a_section, ends};
+ghost use Rattle.description_toml.specs.Described.Texts.{has_blank_end, has_block, has_name_size, if_passes};
+ghost use Rattle.description_toml.specs.Described.Texts.{is_dash, is_empty_text, is_hidden, is_joiner};
+ghost use Rattle.description_toml.specs.Described.Texts.{is_language_byte, is_line_character, is_name_character};
+ghost use Rattle.description_toml.specs.Described.Texts.{is_noncharacter, is_read_once, is_short, is_text_character};
+ghost use Rattle.description_toml.specs.Described.Texts.{is_word_character, without_colon};
 ghost use Rattle.description_toml.specs.Faults.{Reads};
 
 use super::teller::{Refused, Teller};
+use description_texts::is_empty;
 use std::alloc::Allocator;
 
 /// What a text at a key is, which decides what it may hold.
@@ -17,7 +21,7 @@ use std::alloc::Allocator;
 pub enum Kind {
     /// Lines.
     Text,
-    /// Lines, of which there is something.
+    /// Lines, of which a page shows something.
     Body,
     /// One line, which may be empty.
     Line,
@@ -35,9 +39,7 @@ pub enum Kind {
     Name,
     /// The long name of an option.
     Long,
-    /// The name of a program.
-    Program,
-    /// The name of a command.
+    /// The name of the program or of a command.
     Command,
 }
 
@@ -73,6 +75,35 @@ fn refused_in_a_text(character: char) -> Refusal
     }
 }
 
+fn is_between(first: u32, last: u32, character: char) -> bool
+    ensures { result ≡ is_in_range first last character }
+{
+    let code = character as u32;
+    first <= code && code <= last
+}
+
+fn is_hidden(character: char) -> bool
+    ensures { result ≡ is_hidden character }
+{
+    character == '\u{200B}'
+        || is_between(0x202A, 0x202E, character)
+        || is_between(0x2060, 0x206F, character)
+        || character == '\u{FEFF}'
+        || is_between(0xE_0000, 0xE_007F, character)
+}
+
+const HIDDEN: &str = " holds a character that is not seen";
+
+fn refused_in_a_word(character: char) -> Refusal
+    ensures { is_none result ≡ is_word_character character }
+{
+    if is_hidden(character) {
+        Some(HIDDEN)
+    } else {
+        refused_on_a_line(character)
+    }
+}
+
 fn refused_in_a_name(character: char) -> Refusal
     ensures { is_none result ≡ is_name_character character }
 {
@@ -80,8 +111,10 @@ fn refused_in_a_name(character: char) -> Refusal
         Some(" holds a blank")
     } else if character == '=' {
         Some(" holds =")
+    } else if is_between(0x200C, 0x200F, character) {
+        Some(HIDDEN)
     } else {
-        refused_on_a_line(character)
+        refused_in_a_word(character)
     }
 }
 
@@ -96,10 +129,39 @@ pub fn refused_as_short(character: char) -> Refusal
     }
 }
 
+// How many bytes a name has at most.
+const MOST: usize = 200;
+
+fn refused_if_long(text: &str) -> Refusal
+    ensures { is_none result ≡ nat_le (length text.now) 200 }
+{
+    if text.len() > MOST {
+        Some(" is over 200 bytes long")
+    } else {
+        None
+    }
+}
+
+fn refused_by_size(text: &str) -> Refusal
+    ensures { is_none result ≡ has_name_size text.now }
+{
+    first_of(refused_if_empty(text), refused_if_long(text))
+}
+
 fn refused_if_empty(text: &str) -> Refusal
     ensures { is_none result ≡ not (is_empty_text text.now) }
 {
     if text.is_empty() {
+        Some(" is empty")
+    } else {
+        None
+    }
+}
+
+fn refused_without_blocks(text: &str) -> Refusal
+    ensures { is_none result ≡ has_block text.now }
+{
+    if is_empty(text) {
         Some(" is empty")
     } else {
         None
@@ -119,11 +181,17 @@ pub fn refused_as_character(text: &str) -> &'static str {
 
 // `told` is said of a dash.
 fn refused_with_a_dash(text: &str, told: &'static str) -> Refusal
-    ensures { is_none result ≡ not (is_empty_text text.now) && not (begins is_dash text.now) }
+    ensures { is_none result ≡ has_name_size text.now && not (begins is_dash text.now) }
 {
     match text.as_bytes().first() {
         None => Some(" is empty"),
-        Some(first) => { if *first == b'-' { Some(told) } else { None } }
+        Some(first) => {
+            if *first == b'-' {
+                Some(told)
+            } else {
+                refused_if_long(text)
+            }
+        }
     }
 }
 
@@ -146,9 +214,8 @@ fn ends_with_a_blank(text: &str) -> bool
     is_blank
 }
 
-/// A title without the colon at its end.
-pub fn without_colon(title: &str) -> &str
-    ensures { result.now ≡ without_colon title.now }
+fn before_colon(title: &str) -> &str
+    ensures { result.now ≡ before_colon title.now }
 {
     match title.strip_suffix(':') {
         None => title,
@@ -156,13 +223,20 @@ pub fn without_colon(title: &str) -> &str
     }
 }
 
+/// A title without the colon at its end, and without the white space in front of that.
+pub fn without_colon(title: &str) -> &str
+    ensures { result.now ≡ without_colon title.now }
+{
+    before_colon(title).trim_end()
+}
+
 fn refused_as_heading(text: &str) -> Refusal
     ensures { is_none result ≡ not (has_blank_end text.now) && not (is_empty_text (without_colon text.now)) }
 {
-    if without_colon(text).is_empty() {
-        Some(" is empty")
-    } else if begins_with_a_blank(text) {
+    if begins_with_a_blank(text) {
         Some(" begins with a blank")
+    } else if without_colon(text).is_empty() {
+        Some(" is empty")
     } else if ends_with_a_blank(text) {
         Some(" ends with a blank")
     } else {
@@ -258,15 +332,9 @@ impl Kind {
     {
         match self {
             Kind::Text | Kind::Body => refused_in_a_text(character),
-            Kind::Line
-            | Kind::Value
-            | Kind::Title
-            | Kind::Heading
-            | Kind::Section
-            | Kind::Language => refused_on_a_line(character),
-            Kind::Name | Kind::Long | Kind::Program | Kind::Command => {
-                refused_in_a_name(character)
-            }
+            Kind::Line | Kind::Section | Kind::Language => refused_on_a_line(character),
+            Kind::Value | Kind::Title | Kind::Heading => refused_in_a_word(character),
+            Kind::Name | Kind::Long | Kind::Command => refused_in_a_name(character),
         }
     }
 
@@ -279,8 +347,9 @@ impl Kind {
             Kind::Heading => first_of(refused_by_roff(text.as_bytes()), refused_as_heading(text)),
             Kind::Section => refused_as_section(text),
             Kind::Language => refused_as_language(text),
-            Kind::Body | Kind::Value | Kind::Name => refused_if_empty(text),
-            Kind::Program => first_of(refused_if_empty(text), refused_by_roff(text.as_bytes())),
+            Kind::Body => refused_without_blocks(text),
+            Kind::Value => refused_if_empty(text),
+            Kind::Name => refused_by_size(text),
             Kind::Long => refused_with_a_dash(text, WITHOUT_DASHES),
             Kind::Command => first_of(
                 refused_with_a_dash(text, " begins with -"),

@@ -3,7 +3,7 @@ use super::taken::{put_names_of, put_words_of, text_under};
 use super::teller::{Refused, Teller};
 use super::texts::{Kind, refused_as_short};
 use super::values::{only_character, tables_there};
-use crate::syntax::{are_paired, are_pieces_full};
+use crate::syntax::{are_paired, have_pieces_ink};
 use keyed::Step;
 use std::alloc::{AllocError, Allocator};
 use std::collections::BTreeMap;
@@ -231,6 +231,6 @@ fn is_syntax<A: Allocator>(alloc: A, syntax: Option<&str>) -> Result<bool, Alloc
     Ok(
         Kind::Value.refuses_text(text).is_none()
             && are_paired(alloc, text)?
-            && are_pieces_full(text),
+            && have_pieces_ink(text),
     )
 }

@@ -20,7 +20,7 @@ ghost use Rattle.description_toml.specs.Faults.{IsRefusal, Reads, Sees};
 
 use super::teller::{Refused, Teller};
 use super::texts::{Kind, checked, checked_in, refused_as_character, refused_as_short};
-use crate::syntax::{are_paired, are_pieces_full};
+use crate::syntax::{are_paired, has_ink, have_pieces_ink};
 use lasting_names::Names;
 use std::alloc::Allocator;
 use toml::{Table, Value};
@@ -349,10 +349,19 @@ fn well_formed<'a, A: Allocator + Copy>(
     if !are_paired {
         return Err(teller.tell("syntax", " holds a bracket that is in no pair"));
     }
-    if !are_pieces_full(text) {
-        return Err(teller.tell("syntax", " holds an empty piece"));
+    if !have_pieces_ink(text) {
+        return Err(teller.tell("syntax", refused_without_ink(text)));
     }
     Ok(text)
+}
+
+// Why a syntax is refused of which a piece has no ink.
+fn refused_without_ink(text: &str) -> &'static str {
+    if has_ink(text) {
+        " holds an empty piece"
+    } else {
+        " is blank"
+    }
 }
 
 /// The flag at a key.

@@ -1,5 +1,0 @@
-use Rattle.description_toml.proofs.Trimmed.{back_trimmed}
-use Rattle.description_toml.proofs.margins.without_back.Goals as goal
-
-pub returns : goal.returns
-returns c = back_trimmed c.args.text.now c.trim_end_matches.result.now c.trim_end_matches.ensures.matches
