@@ -1,0 +1,98 @@
+//! Why a text gives no table.
+ghost use Rattle.description_json.specs.Steps.{IsMemory};
+
+use std::alloc::AllocError;
+use std::fmt;
+use std::fmt::Display;
+use thiserror::Error;
+
+/// Why a text gives no table.
+#[derive(Clone, Copy, Debug, Drop, Error)]
+pub enum JsonError<'t> {
+    /// An allocation failed, which says nothing of the text.
+    #[error("no memory")]
+    Memory(AllocError),
+    /// The text gives none: where, and why.
+    #[error("{}", .0.why)]
+    Content(JsonFault<'t>),
+}
+
+impl From<AllocError> for JsonError<'_> {
+    ghost from_gives = { λ _ error. IsMemory error };
+
+    fn from(error: AllocError) -> Self {
+        JsonError::Memory(error)
+    }
+}
+
+/// What is wrong in a text, and where.
+#[derive(Clone, Copy, Debug, Drop)]
+pub struct JsonFault<'t> {
+    /// The text before the place of the fault.
+    pub before: &'t str,
+    pub why: Why,
+}
+
+/// What is wrong.
+#[derive(Clone, Copy, Debug, PartialEq, Eq, Drop)]
+pub enum Why {
+    /// The text is over, and this, which stands at the place, is still open.
+    NotClosed(char),
+    /// The text is no object.
+    NoObject,
+    /// A key has to stand here.
+    NoKey,
+    /// Behind this key has to stand a colon.
+    NoColon,
+    /// A value has to stand here.
+    NoValue,
+    /// A comma has to stand here, or this closing bracket.
+    NoComma(char),
+    /// A comma stands before this closing bracket.
+    LastComma,
+    /// The object at the top ends before this.
+    Behind,
+    /// This is no escape.
+    Escape,
+    /// This escape is half of a character, and the other half does not stand beside it.
+    Surrogate,
+    /// A string holds a control character that is not escaped.
+    Control,
+    /// The key stands in this object already.
+    Twice,
+    /// Too many arrays and objects stand in one another.
+    Deep,
+    /// Null is no value of a table.
+    Null,
+    /// This number is past 64 bits.
+    Number,
+    /// The text is no JSON. Where no more can be said.
+    NoJson,
+}
+
+impl Display for Why {
+    fn fmt<W: fmt::Write>(&self, f: &mut fmt::Formatter<W>) -> fmt::Result {
+        match self {
+            Why::NotClosed(mark) => write!(f, "{mark} is not closed"),
+            Why::NoObject => f.write_str("no object of JSON; { has to stand here"),
+            Why::NoKey => f.write_str("a key in double quotes has to stand here"),
+            Why::NoColon => f.write_str("a colon has to stand behind this key"),
+            Why::NoValue => f.write_str("a value of JSON has to stand here"),
+            Why::NoComma(closing) => write!(f, "a comma or {closing} has to stand here"),
+            Why::LastComma => f.write_str("no comma may stand before this bracket"),
+            Why::Behind => f.write_str("nothing may stand behind the object"),
+            Why::Escape => f.write_str("no escape of JSON"),
+            Why::Surrogate => f.write_str("half of a surrogate pair, without the other half"),
+            Why::Control => {
+                f.write_str(
+                    "a control character in a string; write \\n for a newline, \\t for a tab",
+                )
+            }
+            Why::Twice => f.write_str("this key stands in the object already"),
+            Why::Deep => f.write_str("arrays and objects may stand 80 deep in one another"),
+            Why::Null => f.write_str("null is no value here; leave the key out"),
+            Why::Number => f.write_str("this number does not fit 64 bits"),
+            Why::NoJson => f.write_str("no JSON"),
+        }
+    }
+}
