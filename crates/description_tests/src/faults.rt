@@ -143,6 +143,18 @@ value = "\ufffe"
 => positional 1 (￾): value holds a noncharacter
 
 name = 'a'
+[[option]]
+short = 'b'
+value = "A\u2066B"
+=> option 1 (-b): value holds a character that is not seen
+
+name = 'a'
+[[positional]]
+value = "A\u200c\u200d\u200e\u200f"
+default = "\u200b\u202e"
+=> read
+
+name = 'a'
 [[positional]]
 value = 'A "B\'
 => read
@@ -170,6 +182,22 @@ title = '\V[HOME]'
 name = 'a'
 title = "\uffff"
 => title holds a noncharacter
+
+name = 'a'
+title = "a\u202eb"
+=> title holds a character that is not seen
+
+name = 'a'
+date = "\ufeff"
+=> date holds a character that is not seen
+
+name = 'a'
+vendor = "\u206f"
+=> vendor holds a character that is not seen
+
+name = 'a'
+vendor = "\u205f\u2070\ufefe\ufefd\u2029\u202f\U000dfffd\U000e0080"
+=> read
 
 name = 'a'
 title = ''
@@ -210,8 +238,8 @@ group 1 (:): option, choice, positional or command is missing
 name = 'a'
 [[group]]
 title = " \u00a0\u3000"
-=> group 1 (  　): title begins with a blank
-group 1 (  　): option, choice, positional or command is missing
+=> group 1: title begins with a blank
+group 1: option, choice, positional or command is missing
 
 name = 'a'
 [[group]]
@@ -372,7 +400,7 @@ name = 'a'
 [[topic]]
 title = " \u00a0"
 text = 't'
-=> topic 1 (  ): title begins with a blank
+=> topic 1: title begins with a blank
 
 name = 'a'
 [[topic]]
@@ -408,6 +436,25 @@ name = 'a'
 [[topic]]
 title = 'T'
 text = "\n\t"
+=> topic 1 (T): text is empty
+
+name = 'a'
+[[topic]]
+title = 'T'
+text = ' '
+=> topic 1 (T): text is empty
+
+# A fence without lines is no block.
+name = 'a'
+[[topic]]
+title = 'T'
+text = "\n```sh\n```"
+=> topic 1 (T): text is empty
+
+name = 'a'
+[[topic]]
+title = 'T'
+text = "```\n\n"
 => read
 
 name = 'a'
@@ -476,6 +523,48 @@ name = 'a='
 name = "a\ufffe"
 => name holds a noncharacter
 
+name = 'aaaaaaaaaaaaaaaaaaaaaaaaaaaaaaaaaaaaaaaaaaaaaaaaaaaaaaaaaaaaaaaaaaaaaaaaaaaaaaaaaaaaaaaaaaaaaaaaaaaaaaaaaaaaaaaaaaaaaaaaaaaaaaaaaaaaaaaaaaaaaaaaaaaaaaaaaaaaaaaaaaaaaaaaaaaaaaaaaaaaaaaaaaaaaaaaaaaaaaaa'
+=> read
+
+name = 'aaaaaaaaaaaaaaaaaaaaaaaaaaaaaaaaaaaaaaaaaaaaaaaaaaaaaaaaaaaaaaaaaaaaaaaaaaaaaaaaaaaaaaaaaaaaaaaaaaaaaaaaaaaaaaaaaaaaaaaaaaaaaaaaaaaaaaaaaaaaaaaaaaaaaaaaaaaaaaaaaaaaaaaaaaaaaaaaaaaaaaaaaaaaaaaaaaaaaaaab'
+=> name is over 200 bytes long
+
+name = 'a'
+[[option]]
+short = 'b'
+env = 'aaaaaaaaaaaaaaaaaaaaaaaaaaaaaaaaaaaaaaaaaaaaaaaaaaaaaaaaaaaaaaaaaaaaaaaaaaaaaaaaaaaaaaaaaaaaaaaaaaaaaaaaaaaaaaaaaaaaaaaaaaaaaaaaaaaaaaaaaaaaaaaaaaaaaaaaaaaaaaaaaaaaaaaaaaaaaaaaaaaaaaaaaaaaaaaaaaaaaaaab'
+=> option 1 (-b): env is over 200 bytes long
+
+name = 'a'
+[[option]]
+short = 'b'
+long = 'aaaaaaaaaaaaaaaaaaaaaaaaaaaaaaaaaaaaaaaaaaaaaaaaaaaaaaaaaaaaaaaaaaaaaaaaaaaaaaaaaaaaaaaaaaaaaaaaaaaaaaaaaaaaaaaaaaaaaaaaaaaaaaaaaaaaaaaaaaaaaaaaaaaaaaaaaaaaaaaaaaaaaaaaaaaaaaaaaaaaaaaaaaaaaaaaaaaaaaaab'
+=> option 1 (--aaaaaaaaaaaaaaaaaaaaaaaaaaaaaaaaaaaaaaaaaaaaaaaaaaaaaaaaaaaa..): long is over 200 bytes long
+
+name = "a\u200b"
+=> name holds a character that is not seen
+
+name = "\u200cb"
+=> name holds a character that is not seen
+
+name = "b\u200f"
+=> name holds a character that is not seen
+
+name = "\U000e0061"
+=> name holds a character that is not seen
+
+name = "\U000e007f"
+=> name holds a character that is not seen
+
+name = "a\u2060"
+=> name holds a character that is not seen
+
+name = "\u2010\u200a"
+=> name holds a blank
+
+name = "\u2010\u2070\U000e0080"
+=> read
+
 name = 'a\'
 => name holds a backslash
 
@@ -483,7 +572,7 @@ name = 'a"'
 => name holds a double quote
 
 name = '-a'
-=> read
+=> name begins with -
 
 name = "a's"
 => read
@@ -579,7 +668,7 @@ short = '='
 name = 'a'
 [[option]]
 short = ' '
-=> option 1 (- ): short holds a blank
+=> option 1: short holds a blank
 
 name = 'a'
 [[option]]

@@ -51,7 +51,7 @@ pub const WORDS_ROWS: &[Row<'static>] = &[
     (
         WORDS,
         Form::Words,
-        "FixedWords { usage: \"Aufruf\", arguments: \"Argumente\", options: \"Optionen\", commands: \"Befehle\", contents: \"Inhalt\", notes: \"Hinweise:\", default: \"Vorgabe\", possible_values: \"mögliche Werte\", env: \"Umgebung\", aliases: \"auch\", command: \"BEFEHL\", name: \"Name\", synopsis: \"Übersicht \", description: \"Beschreibung\", see_also: \"Siehe auch\" }",
+        "FixedWords { usage: \"Aufruf\", arguments: \"Argumente\", options: \"Optionen\", commands: \"Befehle\", contents: \"Inhalt\", notes: \"Hinweise:\", default: \"Vorgabe\", possible_values: \"mögliche Werte\", env: \"Umgebung\", aliases: \"auch\", command: \"BEFEHL\", name: \"Name\", synopsis: \"Übersicht\", description: \"Beschreibung\", see_also: \"Siehe auch\" }",
     ),
     // What is left out stays English.
     (

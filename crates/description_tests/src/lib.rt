@@ -11,6 +11,8 @@ mod faults;
 #[cfg(test)]
 mod forms;
 #[cfg(test)]
+mod in_json;
+#[cfg(test)]
 mod keys;
 #[cfg(test)]
 mod paths;

@@ -38,7 +38,15 @@ syntax = ''
 
 [[option]]
 syntax = ' '
-=> option 1 ( ): syntax holds an empty piece
+=> option 1: syntax is blank
+
+[[option]]
+syntax = "\u3000 "
+=> option 1: syntax is blank
+
+[[option]]
+syntax = '-a, 　'
+=> option 1 (-a, 　): syntax holds an empty piece
 
 [[option]]
 syntax = '-a,'
