@@ -1,6 +1,6 @@
 //! Pages for a terminal.
 
-ghost use Rattle.std.specs.Prelude.{◌≡◌, IfOk, string_bytes};
+ghost use Rattle.std.specs.Prelude.{◌≡◌, IfOk, None, string_bytes};
 ghost use Rattle.description_pages.specs.LevelsView.{subject_of};
 ghost use Rattle.description.specs.Words.{words_said};
 ghost use Rattle.command_pages.specs.Pages.{FailsBy, console_page, console_page_fault};
@@ -17,7 +17,7 @@ use std::alloc::{Allocator, Global};
 
 /// The page of a level on a console of so many columns. `Character` comes where a text may not stand in a page, and
 /// `Refused` where an allocation failed.
-#[tactic(auto, using(crate::proofs::Failing::failing))]
+#[tactic(auto, using(crate::proofs::Failing::failing, crate::proofs::Failing::permitted))]
 pub fn console_page_of<'p, 'a: 'p, A: Allocator + Copy>(
     alloc: A,
     arena: &'p Bump,
@@ -28,6 +28,8 @@ pub fn console_page_of<'p, 'a: 'p, A: Allocator + Copy>(
 ) -> Result<String<A>, PageFault>
     ensures exact { IfOk result (λ made.
         string_bytes made ≡ console_page form width (words_said words.now) (subject_of level.entry)) }
+    ensures permitted { IfOk result (λ _.
+        console_page_fault form (words_said words.now) (subject_of level.entry) ≡ None) }
     ensures fails { FailsBy (console_page_fault form (words_said words.now) (subject_of level.entry)) result }
 {
     let detail = match form {

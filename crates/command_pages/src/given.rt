@@ -14,7 +14,7 @@ pub enum ConsoleForm {
     Usage,
     /// The help page, in full.
     Full,
-    /// The help page, each text up to its first paragraph break.
+    /// The help page, each text by its first block.
     Brief,
 }
 

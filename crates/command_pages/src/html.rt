@@ -1,6 +1,7 @@
 //! Pages in HTML.
 
-ghost use Rattle.std.specs.Prelude.{◌≡◌, ◌⊎◌, ◌++◌, Some, IfErr, IfOk, OnOk, alloc_error, codes, map, string_bytes};
+ghost use Rattle.std.specs.Prelude.{◌≡◌, ◌⊎◌, ◌++◌, Some, None, IfErr, IfOk, OnOk, alloc_error, codes, map};
+ghost use Rattle.std.specs.Prelude.{string_bytes};
 ghost use Rattle.web_page.specs.declared.errors.PageError.TheVariants.{Refused};
 ghost use Rattle.html_page.specs.View.{frame_of};
 ghost use Rattle.description.specs.View.{description_said};
@@ -72,7 +73,7 @@ fn frame<'p, 'a: 'p>(
 /// The page of a level with all levels below it, in HTML: a complete page, or what stands in its body.
 ///
 /// An error comes where an allocation failed, and else only where a text may not stand on a page in HTML.
-#[tactic(auto, using(crate::proofs::Failing::failing_html))]
+#[tactic(auto, using(crate::proofs::Failing::failing_html, crate::proofs::Failing::permitted_html))]
 pub fn html_page_of<'p, 'a: 'p, A: Allocator + Copy>(
     alloc: A,
     arena: &'p Bump,
@@ -83,6 +84,8 @@ pub fn html_page_of<'p, 'a: 'p, A: Allocator + Copy>(
 ) -> Result<String<A>, PageError>
     ensures reads { IfOk result (λ made. IsHtmlOf (description_said description.now) extent (title_said given.entry)
         (subject_of level.entry) (string_bytes made)) }
+    ensures permitted { IfOk result (λ _.
+        html_page_fault (description_said description.now) (title_said given.entry) (subject_of level.entry) ≡ None) }
     ensures fails { IfErr result (λ error. (error ≡ Refused alloc_error)
         ⊎ (html_page_fault (description_said description.now) (title_said given.entry) (subject_of level.entry)
         ≡ Some error)) }

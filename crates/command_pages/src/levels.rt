@@ -11,7 +11,7 @@ use description::Description;
 use description_pages::levels::LevelSubject;
 use std::alloc::{AllocError, Global};
 
-/// The top level.
+/// The top level, under the name of the program. An error comes only where an allocation failed.
 pub fn application<'p, 'a: 'p>(
     arena: &'p Bump,
     description: &'p Description<'a>,

@@ -1,6 +1,6 @@
 //! Manual pages.
 
-ghost use Rattle.std.specs.Prelude.{◌≡◌, ◌++◌, IfOk, OnOk, flat_map, map, string_bytes};
+ghost use Rattle.std.specs.Prelude.{◌≡◌, ◌++◌, IfOk, None, OnOk, flat_map, map, string_bytes};
 ghost use Rattle.page_model.specs.View.{part_of};
 ghost use Rattle.man_page.specs.View.{title_of};
 ghost use Rattle.description.specs.View.{description_said};
@@ -23,8 +23,9 @@ use man_page::{TitleLine, manual_page};
 use page_model::PageFault;
 use std::alloc::{AllocError, Allocator, Global};
 
-/// The manual page of a level, of it alone or with those below it.
-#[tactic(auto, using(crate::proofs::Failing::failing))]
+/// The manual page of a level, of it alone or with those below it. `Character` comes where a text of the page, or a word
+/// of its title line, may not stand in a page, and `Refused` where an allocation failed.
+#[tactic(auto, using(crate::proofs::Failing::failing, crate::proofs::Failing::permitted))]
 pub fn manual_page_of<'p, 'a: 'p, A: Allocator + Copy>(
     alloc: A,
     arena: &'p Bump,
@@ -37,6 +38,8 @@ pub fn manual_page_of<'p, 'a: 'p, A: Allocator + Copy>(
         (subject_of level.entry) (string_bytes made)) }
     ensures exact { IfOk result (λ made. string_bytes made
         ≡ manual_page (description_said description.now) depth (title_said given.entry) (subject_of level.entry)) }
+    ensures permitted { IfOk result (λ _. manual_page_fault (description_said description.now) depth
+        (title_said given.entry) (subject_of level.entry) ≡ None) }
     ensures fails { FailsBy (manual_page_fault (description_said description.now) depth (title_said given.entry)
         (subject_of level.entry)) result }
 {

@@ -1,6 +1,6 @@
 //! Pages in markdown.
 
-ghost use Rattle.std.specs.Prelude.{◌≡◌, ◌++◌, IfOk, OnOk, flat_map, map, string_bytes};
+ghost use Rattle.std.specs.Prelude.{◌≡◌, ◌++◌, IfOk, None, OnOk, flat_map, map, string_bytes};
 ghost use Rattle.page_model.specs.View.{part_of};
 ghost use Rattle.description_pages.specs.LevelsView.{subject_of};
 ghost use Rattle.description_pages.specs.Markdowns.{markdown_below};
@@ -19,8 +19,9 @@ use markdown_page::markdown_page;
 use page_model::PageFault;
 use std::alloc::{AllocError, Allocator, Global};
 
-/// The page of a level in markdown, of it alone or with those below it.
-#[tactic(auto, using(crate::proofs::Failing::failing))]
+/// The page of a level in markdown, of it alone or with those below it. `Character` comes where a text of the page, or
+/// its title, may not stand in a page, and `Refused` where an allocation failed.
+#[tactic(auto, using(crate::proofs::Failing::failing, crate::proofs::Failing::permitted))]
 pub fn markdown_page_of<'p, 'a: 'p, A: Allocator + Copy>(
     alloc: A,
     arena: &'p Bump,
@@ -32,6 +33,8 @@ pub fn markdown_page_of<'p, 'a: 'p, A: Allocator + Copy>(
         IsMarkdownOf depth (words_said words.now) (subject_of level.entry) (string_bytes made)) }
     ensures exact { IfOk result (λ made. string_bytes made
         ≡ markdown_page depth (words_said words.now) (subject_of level.entry)) }
+    ensures permitted { IfOk result (λ _.
+        markdown_page_fault depth (words_said words.now) (subject_of level.entry) ≡ None) }
     ensures fails { FailsBy (markdown_page_fault depth (words_said words.now) (subject_of level.entry)) result }
 {
     let title = title(arena, level.names)?;

@@ -63,7 +63,7 @@ greet \- Greets people
 .SH SYNOPSIS
 .SY greet
 [\fB\-l\fP]
-[\fICOMMAND\fP\~...]
+[\fICOMMAND\fP\~...]\&
 .YS
 .SH OPTIONS
 .TP
@@ -114,10 +114,6 @@ greet [-l] [COMMAND ...]
 
 - [`bye`](#greet-bye) — Say goodbye
 
-## See also
-
-[greet-bye](greet-bye.md)
-
 # greet bye
 
 Says goodbye.
@@ -133,7 +129,7 @@ greet bye
     ),
 ];
 
-fn greet(alloc: Global) -> Result<Description<'static>, AllocError> {
+fn greet(alloc: Global, name: &'static str) -> Result<Description<'static>, AllocError> {
     let loud = Opt::flag('l', "loud").help("In capital letters.\n\nAnd with a stop.");
     let mut level = Level::new(alloc)
         .about("Greets people.")
@@ -141,7 +137,7 @@ fn greet(alloc: Global) -> Result<Description<'static>, AllocError> {
     level.option(loud)?;
     let bye = Level::new(alloc).about("Says goodbye.");
     level.command(Command::new("bye", bye).help("Say goodbye"))?;
-    let mut greet = Description::new(alloc, "greet", level).date("May 2026");
+    let mut greet = Description::new(alloc, name, level).date("May 2026");
     greet.help_option(Opt::flag('h', "help").help("Print this page"))?;
     Ok(greet)
 }
@@ -181,7 +177,7 @@ fn is_whole(
 
 #[test]
 fn pages_of_a_command_line_are_written_so(rt: HostRuntime) {
-    let app = greet(rt.alloc()).expect(&rt, "a description");
+    let app = greet(rt.alloc(), "greet").expect(&rt, "a description");
     for wanted in PAGES {
         assert!(rt; is_whole(&rt, rt.alloc(), &app, *wanted, BYTES) == Some(true));
     }
@@ -205,8 +201,17 @@ fn is_made_with_more(
 
 #[test]
 fn refused_pages_of_a_command_line_are_made_with_more(rt: HostRuntime) {
-    let app = greet(rt.alloc()).expect(&rt, "a description");
+    let app = greet(rt.alloc(), "greet").expect(&rt, "a description");
     for wanted in PAGES {
         assert!(rt; is_made_with_more(&rt, rt.alloc(), &app, *wanted));
+    }
+}
+
+#[test]
+fn a_page_with_a_control_character_is_refused(rt: HostRuntime) {
+    let app = greet(rt.alloc(), "gr\u{1b}eet").expect(&rt, "a description");
+    for (asked, _) in PAGES {
+        let arena = roomy(&rt, rt.alloc());
+        assert!(rt; page_in(&arena, &app, *asked).err() == Some(PageFault::Character));
     }
 }

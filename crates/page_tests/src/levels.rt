@@ -141,6 +141,12 @@ fn one_level<'p>(alloc: Global) -> Result<Level<'p>, AllocError> {
     Ok(level)
 }
 
+fn more_level<'p>(alloc: Global) -> Result<Level<'p>, AllocError> {
+    let mut level: Level<'p> = one_level(alloc)?;
+    level.command(plain_command(alloc, "e", "Does more"))?;
+    Ok(level)
+}
+
 fn lists_level<'p>(alloc: Global) -> Level<'p> {
     Level::new(alloc).about("- a").header("- b")
 }
@@ -178,6 +184,11 @@ const ONE: Called = Called {
     help: Some("Does one"),
 };
 
+const MORE: Called = Called {
+    names: &["p", "c", "e"],
+    help: Some("Does more"),
+};
+
 const LISTS: Called = Called {
     names: &["p", "d"],
     help: None,
@@ -212,6 +223,9 @@ enum Levels {
     TideSave,
     One,
     Deep,
+    DeepBelow,
+    /// A level with a text in place of its usage.
+    Stated,
 }
 
 fn subjects_in<'p>(
@@ -225,10 +239,18 @@ fn subjects_in<'p>(
         Levels::Tide => push_level(store, &mut subjects, TIDE, tide_level(alloc)?, &help)?,
         Levels::TideSave => push_level(store, &mut subjects, TIDE_SAVE, save_level(alloc)?, &help)?,
         Levels::One => push_level(store, &mut subjects, ONE, one_level(alloc)?, &[])?,
+        Levels::Stated => {
+            let level = Level::new(alloc).usage("c FILE\nc [-n | -m]");
+            push_level(store, &mut subjects, ONE, level, &[])?;
+        }
         Levels::Deep => {
             push_level(store, &mut subjects, TOP, top_level(alloc)?, &[])?;
             push_level(store, &mut subjects, ONE, one_level(alloc)?, &[])?;
             push_level(store, &mut subjects, LISTS, lists_level(alloc), &[])?;
+        }
+        Levels::DeepBelow => {
+            push_level(store, &mut subjects, ONE, more_level(alloc)?, &[])?;
+            push_level(store, &mut subjects, MORE, Level::new(alloc), &[])?;
         }
     }
     Ok(subjects)
@@ -403,6 +425,8 @@ const ROWS: &[Row] = &[
         "",
     ),
     Row(Some("."), "It.", "p\\-c", ".SH DESCRIPTION\nIt.\n"),
+    Row(None, "It, and so on...", "p\\-c \\- It, and so on...", ""),
+    Row(None, "It ..", "p\\-c \\- It ..", ""),
     Row(Some(" \n"), "It.", "p\\-c \\- It", ""),
     Row(
         Some("    code"),
@@ -524,10 +548,6 @@ p COMMAND ...
 
 - [`d`](#p-d)
 
-## See also
-
-[p-c](p-c.md), [p-d](p-d.md)
-
 # p c
 
 Does one.
@@ -557,6 +577,39 @@ p d
 - b
 ";
 
+// The page above is named, and that of the command, which stands here, is not.
+const DEEP_BELOW: &str = "\
+# p c
+
+Does one.
+
+```
+p c [-n] COMMAND ...
+```
+
+In turn.
+
+## Options
+
+- `-n` — Not so
+
+## Commands
+
+- [`e`](#p-c-e) — Does more
+
+## See also
+
+`p(5)`
+
+[p](p.md)
+
+# p c e
+
+```
+p c e
+```
+";
+
 const BRIEF: &str = "\
 Does one.
 
@@ -574,8 +627,10 @@ See also:
 const WITH_MORE: &[Wanted] = &[
     Wanted(Levels::Deep, Medium::Manual("p"), DEEP),
     Wanted(Levels::Deep, Medium::Markdown("p"), DEEP_MARKDOWN),
+    Wanted(Levels::DeepBelow, Medium::Markdown("p c"), DEEP_BELOW),
     Wanted(Levels::One, Medium::Console(Detail::Brief), BRIEF),
     Wanted(Levels::One, Medium::Usage, "p c [-n]\n"),
+    Wanted(Levels::Stated, Medium::Usage, "c FILE\nc [-n | -m]\n"),
 ];
 
 // Whether a page is whole in so much room. None where it is another, or has another fault.

@@ -57,11 +57,15 @@ const ROWS: &[(Inline<'static>, &str)] = &[
     (Inline::Literal("`"), "`` ` ``"),
     (Inline::Literal("``"), "` `` `"),
     (Inline::Literal("a`b"), "``a`b``"),
+    (Inline::Literal("` `` ```"), "```` ` `` ``` ````"),
+    (Inline::Literal("a`b``c````"), "``` a`b``c```` ```"),
+    (Inline::Literal("``` `"), "`` ``` ` ``"),
     (Inline::Literal(" a"), "`  a `"),
     (Inline::Literal(" \n"), "`  `"),
     (Inline::Literal(""), "&#32;"),
     (Inline::Link("https://a.b/?c&d"), "<https://a.b/?c&amp;d>"),
     (Inline::Link("http://a b"), "http://a b"),
+    (Inline::Link("https://a.b/{{c}}"), "https://a.b/\\{\\{c}}"),
     (Inline::Page("a b_é"), "[a b\\_é](a%20b_%C3%A9.md)"),
 ];
 
@@ -172,27 +176,49 @@ fn other_texts_are_refused(rt: HostRuntime) {
 }
 
 // Whether a page is whole in so much room. None where it is another, or has another fault.
-fn is_whole(rt: &impl Abort, out: Global, parts: &[Part<'_>], room: usize) -> Option<bool> {
+fn is_whole(
+    rt: &impl Abort,
+    out: Global,
+    parts: &[Part<'_>],
+    want: &str,
+    room: usize,
+) -> Option<bool> {
     let arena = roomy(rt, out);
     let _rest = taken(rt, &arena, room);
     match markdown_page(&arena, "tide save", parts) {
-        Ok(page) => (page.as_str() == markdown_tide_save::WRITTEN).then_some(true),
+        Ok(page) => (page.as_str() == want).then_some(true),
         Err(fault) => (fault == PageFault::Refused(AllocError)).then_some(false),
     }
+}
+
+// Whether it is made in some room, and not before with less of it.
+fn is_made_with_more(rt: &impl Abort, out: Global, parts: &[Part<'_>], want: &str) -> bool {
+    for step in 0..BYTES / STEP {
+        let made = is_whole(rt, out, parts, want, step.saturating_mul(STEP));
+        if made != Some(false) {
+            return step > 0 && made == Some(true);
+        }
+    }
+    false
 }
 
 #[test]
 fn a_refused_page_in_markdown_is_made_with_more(rt: HostRuntime) {
     let parts = parts(rt.alloc(), markdown_tide_save::SAID).expect(&rt, "parts");
-    for step in 0..BYTES / STEP {
-        match is_whole(&rt, rt.alloc(), parts.as_slice(), step.saturating_mul(STEP)) {
-            Some(false) => {}
-            Some(true) => {
-                assert!(rt; step > 0);
-                return;
-            }
-            None => panic!(rt; "another page or fault at {step}"),
-        }
-    }
-    panic!(rt; "never made")
+    assert!(rt;
+        is_made_with_more(
+            &rt,
+            rt.alloc(),
+            parts.as_slice(),
+            markdown_tide_save::WRITTEN
+        )
+    );
+}
+
+#[test]
+fn a_refused_span_with_runs_is_made_with_more(rt: HostRuntime) {
+    let lines = one_line(rt.alloc(), Inline::Literal("` ``")).expect(&rt, "a line");
+    let parts = [Part::Block(Block::Paragraph(lines))];
+    let want = "# tide save\n\n``` ` `` ```\n";
+    assert!(rt; is_made_with_more(&rt, rt.alloc(), &parts, want));
 }
