@@ -4,4 +4,4 @@ mod Gathered
 mod Choosing
 mod Led
 mod Returns
-mod FileNames
+mod Valid

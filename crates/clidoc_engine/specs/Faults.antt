@@ -1,8 +1,6 @@
 -- Which fault an error is, and what is said of a fault.
 use Rattle.std.specs.Prelude.{⊤}
 use Rattle.toml.specs.declared.de.error.Error.{Error}
-use Rattle.watched.specs.declared.ReadError.{ReadError}
-use Rattle.watched.specs.declared.ReadError.TheVariants as reading
 use Rattle.web_page.specs.declared.errors.PageError.{PageError}
 use Rattle.web_page.specs.declared.errors.PageError.TheVariants as making
 use Rattle.page_model.specs.declared.fault.PageFault.{PageFault}
@@ -10,11 +8,6 @@ use Rattle.page_model.specs.declared.fault.PageFault.TheVariants as writing
 use Rattle.clidoc_engine.specs.declared.places.Place.{Place}
 use Rattle.clidoc_engine.specs.declared.faults.Fault.{Fault}
 use Rattle.clidoc_engine.specs.declared.faults.Fault.TheVariants.{NotUtf8, NotToml, NotDescription, NoCommand, NoPage, Read, Write, Memory}
-
-abbrev pub fault_of_read : ReadError → Fault
-fault_of_read (reading.Failed error) = Read
-fault_of_read reading.NotUtf8 = NotUtf8
-fault_of_read (reading.Refused error) = Memory
 
 abbrev pub fault_of_medium : PageFault → Fault
 fault_of_medium (writing.Refused error) = Memory
@@ -30,10 +23,21 @@ fault_of_page making.Id = NoPage making.Id
 fault_of_page making.Misplaced = NoPage making.Misplaced
 fault_of_page making.NoInk = NoPage making.NoInk
 
+-- where a fault says that the input is no text, this holds of the place that it tells
+abbrev pub IfNotUtf8 : Fault → (Place → Type 0) → Type 0
+IfNotUtf8 (NotUtf8 place) P = P place
+IfNotUtf8 (NotToml place error hint) P = ⊤
+IfNotUtf8 (NotDescription lines) P = ⊤
+IfNotUtf8 (NoCommand name path meant) P = ⊤
+IfNotUtf8 (NoPage error) P = ⊤
+IfNotUtf8 Read P = ⊤
+IfNotUtf8 Write P = ⊤
+IfNotUtf8 Memory P = ⊤
+
 -- where a fault says that the text is no TOML, this holds of the place and of the error that it tells
 abbrev pub IfNotToml : Fault → (Place → Error → Type 0) → Type 0
 IfNotToml (NotToml place error hint) P = P place error
-IfNotToml NotUtf8 P = ⊤
+IfNotToml (NotUtf8 place) P = ⊤
 IfNotToml (NotDescription lines) P = ⊤
 IfNotToml (NoCommand name path meant) P = ⊤
 IfNotToml (NoPage error) P = ⊤
@@ -44,7 +48,7 @@ IfNotToml Memory P = ⊤
 -- where a fault says that the TOML is no description, this holds
 abbrev pub IfNotDescription : Fault → Type 0 → Type 0
 IfNotDescription (NotDescription lines) P = P
-IfNotDescription NotUtf8 P = ⊤
+IfNotDescription (NotUtf8 place) P = ⊤
 IfNotDescription (NotToml place error hint) P = ⊤
 IfNotDescription (NoCommand name path meant) P = ⊤
 IfNotDescription (NoPage error) P = ⊤
@@ -57,7 +61,7 @@ abbrev pub IfNoCommand : Fault → Type 0 → Type 0
 IfNoCommand (NoCommand name path meant) P = P
 IfNoCommand (NotDescription lines) P = ⊤
 IfNoCommand (NoPage error) P = ⊤
-IfNoCommand NotUtf8 P = ⊤
+IfNoCommand (NotUtf8 place) P = ⊤
 IfNoCommand (NotToml place error hint) P = ⊤
 IfNoCommand Read P = ⊤
 IfNoCommand Write P = ⊤
@@ -68,7 +72,7 @@ abbrev pub IfNoPage : Fault → (PageError → Type 0) → Type 0
 IfNoPage (NoPage error) P = P error
 IfNoPage (NoCommand name path meant) P = ⊤
 IfNoPage (NotDescription lines) P = ⊤
-IfNoPage NotUtf8 P = ⊤
+IfNoPage (NotUtf8 place) P = ⊤
 IfNoPage (NotToml place error hint) P = ⊤
 IfNoPage Read P = ⊤
 IfNoPage Write P = ⊤

@@ -1,7 +1,5 @@
 -- The files of all pages of a description.
-use Rattle.std.specs.Prelude.{codes, ◌≡◌, ℕ, ⊤, string_bytes, ◌==◌, ◌&&◌, nat_le, List, [], ◌∷◌, ◌++◌, length, map, flat_map, Bool, true, not, bytes_eq, slice_index}
-use Rattle.std.specs.Char.{to_ascii_lowercase}
-use Rattle.std.specs.List.{list_any}
+use Rattle.std.specs.Prelude.{codes, ◌≡◌, ℕ, ⊤, string_bytes, List, [], ◌∷◌, ◌++◌, map, flat_map}
 use Rattle.description.specs.Content.{DescriptionSaid}
 use Rattle.html_page.specs.declared.frame.Extent.TheVariants.{Page}
 use Rattle.description_pages.specs.Levels.{SubjectSaid}
@@ -61,28 +59,7 @@ pub record HasFiles (text : List ℕ) (given : TitleGiven) (files : List FileSai
   pub described : Describes text description
   pub whole : AreFiles description given files
 
--- ---- which names they may have
-
-abbrev pub is_slash : ℕ → Bool
-is_slash byte = byte == 47
-
--- of at most 200 bytes, without a slash, and not hidden by a dot
-abbrev pub is_file_name : List ℕ → Bool
-is_file_name name = not (list_any is_slash name) && not (slice_index name 0 == 46) && nat_le (length name) 200
-
--- the same but for the case of ASCII letters: some folders take them for one
-abbrev pub are_alike : List ℕ → List ℕ → Bool
-are_alike name other = bytes_eq (map to_ascii_lowercase name) (map to_ascii_lowercase other)
-
--- each is one that a file may have, and no two are alike
-abbrev pub are_file_names : List (List ℕ) → Bool
-are_file_names [] = true
-are_file_names (name ∷ names) = is_file_name name && not (list_any (are_alike name) names) && are_file_names names
-
--- the first is one that a file may have, and none behind it is like it
-abbrev pub is_first_name : List (List ℕ) → Bool
-is_first_name [] = true
-is_first_name (name ∷ names) = is_file_name name && not (list_any (are_alike name) names)
+-- ---- their names
 
 abbrev pub names_of : List FileSaid → List (List ℕ)
 names_of = map (λ file. file.name)

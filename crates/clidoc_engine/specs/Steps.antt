@@ -11,11 +11,22 @@ use Rattle.command_pages.specs.Pages.{level_at}
 use Rattle.clidoc_engine.specs.Rendering.{IsUnwritable}
 use Rattle.clidoc_engine.specs.Words.{PageSaid}
 
+-- the fault is one of a reader and of bytes, and not of a text
+abbrev pub IsOfInput : Fault → Type 0
+IsOfInput Read = ⊤
+IsOfInput (NotUtf8 place) = ⊤
+IsOfInput Memory = ⊤
+IsOfInput (NotToml place error hint) = ⊥
+IsOfInput (NotDescription lines) = ⊥
+IsOfInput (NoCommand name path meant) = ⊥
+IsOfInput (NoPage error) = ⊥
+IsOfInput Write = ⊥
+
 -- the fault says that the text is no TOML, and where; or that an allocation failed
 abbrev pub IsSyntaxFault : (text : List ℕ) → Fault → Type 0
 IsSyntaxFault text (NotToml place error hint) = IsNoTomlText text place error
 IsSyntaxFault text Memory = ⊤
-IsSyntaxFault text NotUtf8 = ⊥
+IsSyntaxFault text (NotUtf8 place) = ⊥
 IsSyntaxFault text (NotDescription lines) = ⊥
 IsSyntaxFault text (NoCommand name path meant) = ⊥
 IsSyntaxFault text (NoPage error) = ⊥
@@ -26,7 +37,7 @@ IsSyntaxFault text Write = ⊥
 abbrev pub IsOfData : Members → Fault → Type 0
 IsOfData table (NotDescription lines) = described table ≡ None
 IsOfData table Memory = ⊤
-IsOfData table NotUtf8 = ⊥
+IsOfData table (NotUtf8 place) = ⊥
 IsOfData table (NotToml place error hint) = ⊥
 IsOfData table (NoCommand name path meant) = ⊥
 IsOfData table (NoPage error) = ⊥
@@ -40,7 +51,7 @@ IsOfContent (NotDescription lines) = ⊤
 IsOfContent (NoCommand name path meant) = ⊤
 IsOfContent (NoPage error) = ⊤
 IsOfContent Memory = ⊤
-IsOfContent NotUtf8 = ⊥
+IsOfContent (NotUtf8 place) = ⊥
 IsOfContent Read = ⊥
 IsOfContent Write = ⊥
 
@@ -48,7 +59,7 @@ IsOfContent Write = ⊥
 abbrev pub IsLost : (commands : List (List ℕ)) → DescriptionSaid → Fault → Type 0
 IsLost commands d (NoCommand name path meant) = level_at commands d ≡ None
 IsLost commands d Memory = ⊤
-IsLost commands d NotUtf8 = ⊥
+IsLost commands d (NotUtf8 place) = ⊥
 IsLost commands d (NotToml place error hint) = ⊥
 IsLost commands d (NotDescription lines) = ⊥
 IsLost commands d (NoPage error) = ⊥
@@ -60,7 +71,7 @@ abbrev pub IsUnmade : PageSaid → DescriptionSaid → Fault → Type 0
 IsUnmade p d (NoCommand name path meant) = level_at (commands_of p) d ≡ None
 IsUnmade p d (NoPage error) = IsUnwritable p d error
 IsUnmade p d Memory = ⊤
-IsUnmade p d NotUtf8 = ⊥
+IsUnmade p d (NotUtf8 place) = ⊥
 IsUnmade p d (NotToml place error hint) = ⊥
 IsUnmade p d (NotDescription lines) = ⊥
 IsUnmade p d Read = ⊥
@@ -69,7 +80,7 @@ IsUnmade p d Write = ⊥
 abbrev pub IsNoCommand : Fault → Type 0
 IsNoCommand (NoCommand name path meant) = ⊤
 IsNoCommand Memory = ⊥
-IsNoCommand NotUtf8 = ⊥
+IsNoCommand (NotUtf8 place) = ⊥
 IsNoCommand (NotToml place error hint) = ⊥
 IsNoCommand (NotDescription lines) = ⊥
 IsNoCommand (NoPage error) = ⊥
@@ -79,7 +90,7 @@ IsNoCommand Write = ⊥
 -- the fault is one of reading a description: of the reader, of its text, or of memory
 abbrev pub IsOfReading : Fault → Type 0
 IsOfReading Read = ⊤
-IsOfReading NotUtf8 = ⊤
+IsOfReading (NotUtf8 place) = ⊤
 IsOfReading (NotToml place error hint) = ⊤
 IsOfReading (NotDescription lines) = ⊤
 IsOfReading Memory = ⊤
@@ -92,7 +103,7 @@ abbrev pub IsOfText : Fault → Type 0
 IsOfText (NotToml place error hint) = ⊤
 IsOfText (NotDescription lines) = ⊤
 IsOfText Memory = ⊤
-IsOfText NotUtf8 = ⊥
+IsOfText (NotUtf8 place) = ⊥
 IsOfText (NoCommand name path meant) = ⊥
 IsOfText (NoPage error) = ⊥
 IsOfText Read = ⊥
@@ -101,7 +112,7 @@ IsOfText Write = ⊥
 -- the fault is one of making all files: one of reading a description, or a page is not written
 abbrev pub IsOfFiles : Fault → Type 0
 IsOfFiles Read = ⊤
-IsOfFiles NotUtf8 = ⊤
+IsOfFiles (NotUtf8 place) = ⊤
 IsOfFiles (NotToml place error hint) = ⊤
 IsOfFiles (NotDescription lines) = ⊤
 IsOfFiles (NoPage error) = ⊤
@@ -115,7 +126,7 @@ IsOfFilesText (NotToml place error hint) = ⊤
 IsOfFilesText (NotDescription lines) = ⊤
 IsOfFilesText (NoPage error) = ⊤
 IsOfFilesText Memory = ⊤
-IsOfFilesText NotUtf8 = ⊥
+IsOfFilesText (NotUtf8 place) = ⊥
 IsOfFilesText (NoCommand name path meant) = ⊥
 IsOfFilesText Read = ⊥
 IsOfFilesText Write = ⊥
@@ -124,7 +135,7 @@ IsOfFilesText Write = ⊥
 abbrev pub IsOfPages : Fault → Type 0
 IsOfPages (NoPage error) = ⊤
 IsOfPages Memory = ⊤
-IsOfPages NotUtf8 = ⊥
+IsOfPages (NotUtf8 place) = ⊥
 IsOfPages (NotToml place error hint) = ⊥
 IsOfPages (NotDescription lines) = ⊥
 IsOfPages (NoCommand name path meant) = ⊥

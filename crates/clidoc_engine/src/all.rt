@@ -1,24 +1,25 @@
 //! All pages of a description, as files.
 
 ghost use Rattle.std.specs.Prelude.{◌≡◌, ◌↔◌, ◌++◌, ◌∷◌, [], IfOk, IfErr, IsErrOf, OnOk, flat_map, map};
-ghost use Rattle.watched.specs.Calls.{GivesNoText, GivesText, ReadFails};
-ghost use Rattle.watched.specs.Watched.{IsMarked, IsUnmarked, ReadsText, ReadsNoText};
+ghost use Rattle.watched.specs.Calls.{GivesText, ReadFails, ReadsToEnd};
+ghost use Rattle.watched.specs.Watched.{IsMarked, IsUnmarked, ReadsAll, ReadsText};
 ghost use Rattle.description.specs.View.{description_said};
 ghost use Rattle.description_pages.specs.LevelsView.{subject_of};
 ghost use Rattle.description_pages.specs.Subjects.{all_from};
 ghost use Rattle.description_pages.specs.declared.levels.Depth.TheVariants.{Alone};
 ghost use Rattle.command_pages.specs.View.{title_said};
 ghost use Rattle.command_pages.specs.Readings.{IsManualOf, IsMarkdownOf};
-ghost use Rattle.clidoc_engine.specs.Faults.{IfNotDescription, IfNotToml};
+ghost use Rattle.clidoc_engine.specs.Faults.{IfNotDescription, IfNotToml, IfNotUtf8};
 ghost use Rattle.clidoc_engine.specs.Files.{AreAllRead, AreFiles, AreRead, HasFiles, IsWebFile, file_said};
 ghost use Rattle.clidoc_engine.specs.Files.{level_files, manual_file, markdown_file};
-ghost use Rattle.clidoc_engine.specs.Inputs.{IsNoDescription, IsNoToml};
+ghost use Rattle.clidoc_engine.specs.Inputs.{IsNoDescription, IsNoText, IsNoToml};
 ghost use Rattle.command_pages.specs.Pages.{application};
 ghost use Rattle.clidoc_engine.specs.Steps.{IsOfFiles, IsOfFilesText, IsOfPages};
 
 use crate::engine::{description_of, table_of};
 use crate::faults::Fault;
 use crate::files::PageFile;
+use crate::utf8::text_from;
 use crate::words::TitleGiven;
 use bumpalo::Bump;
 use command_pages::{Extent, application, html_page_of, manual_page_of, markdown_page_of};
@@ -50,8 +51,8 @@ pub fn make_files<A: Allocator + Copy, R: Source>(
         HasFiles input (title_said given.entry) (map file_said files.items))) }
     ensures read_failed { IsErrOf result Fault.Read →
         (error : _) × ReadFails R.reads reader.old.end error reader.new.end }
-    ensures no_text { IsErrOf result Fault.NotUtf8 →
-        GivesNoText R.reads reader.old.end reader.new.end }
+    ensures no_text { IfErr result (λ fault. IfNotUtf8 fault (λ place.
+        (input : _) × ReadsToEnd R.reads reader.old.end input reader.new.end × IsNoText input place)) }
     ensures no_toml { IfErr result (λ fault. IfNotToml fault (λ place error.
         GivesText R.reads reader.old.end reader.new.end (λ input. IsNoToml input place error))) }
     ensures no_description { IfErr result (λ fault. IfNotDescription fault (
@@ -61,15 +62,15 @@ pub fn make_files<A: Allocator + Copy, R: Source>(
     ensures ok { IfOk result (λ files.
         ReadsText (R.remaining reader.old.end) (R.remaining reader.new.end) (λ input.
         HasFiles input (title_said given.entry) (map file_said files.items))) }
-    ensures not_utf8 { IsErrOf result Fault.NotUtf8 →
-        ReadsNoText (R.remaining reader.old.end) (R.remaining reader.new.end) }
+    ensures not_utf8 { IfErr result (λ fault. IfNotUtf8 fault (λ place. (input : _)
+        × ReadsAll (R.remaining reader.old.end) (R.remaining reader.new.end) input × IsNoText input place)) }
     ensures not_toml { IfErr result (λ fault. IfNotToml fault (λ place error.
         ReadsText (R.remaining reader.old.end) (R.remaining reader.new.end) (λ input.
         IsNoToml input place error))) }
     ensures not_description { IfErr result (λ fault. IfNotDescription fault (
         ReadsText (R.remaining reader.old.end) (R.remaining reader.new.end) IsNoDescription)) }
 {
-    let text = reader.read_text(alloc)?;
+    let text = text_from(alloc, reader)?;
     files_in(alloc, global, given, text.as_str())
 }
 

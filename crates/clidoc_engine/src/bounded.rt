@@ -1,21 +1,22 @@
-//! Readers that give no more than so many bytes.
+//! Ends that give or take no more than so many bytes.
 
 ghost use Rattle.std.specs.Prelude.{◌≡◌, IfOk};
 
 use std::io;
-use std::io::{ErrorKind, Read};
+use std::io::{ErrorKind, Read, Write};
 
-/// A reader that fails where it would give more bytes than these.
+/// A reader that fails where it would give more bytes than these, or a writer that fails where it is to take more, and
+/// then takes none.
 #[derive(Drop)]
-pub struct Bounded<R> {
-    inner: R,
+pub struct Bounded<E> {
+    inner: E,
     left: usize,
     is_over: bool,
 }
 
-impl<R> Bounded<R> {
-    /// The reader, which gives so many bytes at most.
-    pub fn new(inner: R, most: usize) -> Bounded<R> {
+impl<E> Bounded<E> {
+    /// The end, which gives or takes so many bytes at most.
+    pub fn new(inner: E, most: usize) -> Bounded<E> {
         Bounded {
             inner,
             left: most,
@@ -23,7 +24,7 @@ impl<R> Bounded<R> {
         }
     }
 
-    /// Whether there were more bytes than it may give.
+    /// Whether there were more bytes than it may give or take.
     pub fn is_over(&self) -> bool {
         self.is_over
     }
@@ -51,5 +52,21 @@ impl<R: Read> Read for Bounded<R> {
         let taken = self.inner.read(&mut buf[..room])?;
         self.left -= taken;
         Ok(taken)
+    }
+}
+
+impl<W: Write> Write for Bounded<W> {
+    fn write(&mut self, buf: &[u8]) -> io::Result<usize> {
+        if buf.len() > self.left {
+            self.is_over = true;
+            return Err(ErrorKind::FileTooLarge.into());
+        }
+        let taken = self.inner.write(buf)?;
+        self.left -= taken;
+        Ok(taken)
+    }
+
+    fn flush(&mut self) -> io::Result<()> {
+        self.inner.flush()
     }
 }

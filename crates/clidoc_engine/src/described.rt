@@ -1,16 +1,16 @@
 //! Why a text gives no description, and what a description would better say, line by line.
 
-ghost use Rattle.std.specs.Prelude.{◌≡◌, IfOk, length};
+ghost use Rattle.std.specs.Prelude.{◌≡◌, ◌==◌, IfOk, length};
 ghost use Rattle.description.specs.View.{description_said};
 ghost use Rattle.description_hints.specs.Hints.{warnings};
-ghost use Rattle.clidoc_engine.specs.Inputs.{count_of};
+ghost use Rattle.clidoc_engine.specs.Inputs.{TellsTheFirst, count_of};
 
+use crate::echoed::Echoed;
 use crate::newlines::without_returns;
 use crate::places::{Place, TOP, place_behind};
 use bumpalo::Bump;
 use description::Description;
 use description_hints::{Warning, warnings_of};
-use description_toml::words::Shown;
 use description_toml::{Fault, Faults};
 use keyed::{Step, text_before};
 use std::alloc::{AllocError, Global};
@@ -74,11 +74,18 @@ pub struct Warned<'l> {
 impl Display for Warned<'_> {
     fn fmt<W: fmt::Write>(&self, f: &mut fmt::Formatter<W>) -> fmt::Result {
         self.warnings
-            .write_in(f, Shown(self.file), Severity::Warning)
+            .write_in(f, Echoed(self.file), Severity::Warning)
     }
 }
 
 impl Lines {
+    /// Whether there is none, told or counted.
+    pub fn is_empty(&self) -> bool
+        ensures { result ≡ (count_of self.now == 0) }
+    {
+        self.told.is_empty() && self.more == 0
+    }
+
     /// What is told of warnings about the description in this file.
     pub fn warned<'l>(&'l self, file: &'l str) -> Warned<'l> {
         Warned {
@@ -91,7 +98,7 @@ impl Lines {
     pub(crate) fn write_in<W: fmt::Write>(
         &self,
         f: &mut fmt::Formatter<W>,
-        file: Shown<'_>,
+        file: Echoed<'_>,
         severity: Severity,
     ) -> fmt::Result {
         let (mark, name) = (severity.mark(), severity.name());
@@ -151,7 +158,8 @@ pub(crate) fn warnings_in(
     text: &str,
     description: &Description<'_>,
 ) -> Result<Lines, AllocError>
-    ensures { IfOk result (λ lines. count_of lines ≡ length (warnings (description_said description.now))) }
+    ensures each { IfOk result (λ lines. count_of lines ≡ length (warnings (description_said description.now))) }
+    ensures told { IfOk result TellsTheFirst }
 {
     let arena = Bump::new(global);
     let found = warnings_of(&arena, description)?;
@@ -161,7 +169,8 @@ pub(crate) fn warnings_in(
 
 // The lines of warnings. Those of the first are told, by their places.
 fn first_lines(global: Global, text: &str, warnings: &[Warning<'_>]) -> Result<Lines, AllocError>
-    ensures { IfOk result (λ lines. count_of lines ≡ length warnings.now) }
+    ensures each { IfOk result (λ lines. count_of lines ≡ length warnings.now) }
+    ensures told { IfOk result TellsTheFirst }
 {
     let (first, others) = warnings.split_at(warnings.len().min(MOST_TOLD));
     let mut told = warned_lines(global, text, first)?;

@@ -7,12 +7,12 @@ ghost use Rattle.toml.specs.Parse.{parse_document};
 ghost use Rattle.toml.specs.View.{table_view};
 ghost use Rattle.description.specs.View.{description_said};
 ghost use Rattle.description_toml.specs.Described.{described};
-ghost use Rattle.watched.specs.Calls.{GivesNoText, GivesText, Moves, ReadFails, WriteFails};
-ghost use Rattle.watched.specs.Watched.{IsMarked, IsUnmarked, ReadsText, ReadsNoText};
+ghost use Rattle.watched.specs.Calls.{GivesText, Moves, ReadFails, ReadsToEnd, WriteFails};
+ghost use Rattle.watched.specs.Watched.{IsMarked, IsUnmarked, ReadsAll, ReadsText};
 ghost use Rattle.clidoc_engine.specs.Chosen.{page_said};
-ghost use Rattle.clidoc_engine.specs.Faults.{IfNoCommand, IfNoPage, IfNotDescription, IfNotToml};
+ghost use Rattle.clidoc_engine.specs.Faults.{IfNoCommand, IfNoPage, IfNotDescription, IfNotToml, IfNotUtf8};
 ghost use Rattle.clidoc_engine.specs.Newlines.{without_returns};
-ghost use Rattle.clidoc_engine.specs.Inputs.{HasWarnings, IsNoDescription, IsNoToml, count_of};
+ghost use Rattle.clidoc_engine.specs.Inputs.{HasWarnings, IsNoDescription, IsNoText, IsNoToml, TellsTheFirst, count_of};
 ghost use Rattle.clidoc_engine.specs.Runs.{HasNoCommand, HasPage, HasUnwritablePage, MakesPage};
 ghost use Rattle.clidoc_engine.specs.Runs.{WritesBeginning, WritesPage};
 ghost use Rattle.clidoc_engine.specs.Steps.{IsOfContent, IsOfData, IsOfReading, IsOfText};
@@ -24,6 +24,7 @@ use crate::hints::hint_of;
 use crate::newlines::without_returns;
 use crate::pages::rendered;
 use crate::places::place_behind;
+use crate::utf8::text_from;
 use crate::words::Page;
 use description::Description;
 use description_toml::{DescriptionError, Faults, description_from_table};
@@ -40,7 +41,7 @@ use watched::{Sink, Source, Watched};
 ///
 /// `Read` comes exactly where the reader's mark is then set, since its last read failed, `Write` exactly
 /// where the writer's is, since its last write failed or took none, and the faults of the input only where
-/// all was read: `NotUtf8` where it is no text, `NotToml` where it is no TOML, `NotDescription` where its data is
+/// all was read: `NotUtf8` where it is no text, and from which place on, `NotToml` where it is no TOML, `NotDescription` where its data is
 /// no description, `NoCommand` where the commands of the page lead nowhere, and `NoPage` where a text of the page has a
 /// control character but newline and tab, or a noncharacter, or it is a page in HTML, in which a name or a text cannot
 /// stand. `Memory` comes only where an allocation failed, which no clause can say.
@@ -70,8 +71,8 @@ pub fn run_description<A: Allocator + Copy, B: Allocator, R: Source, W: Sink>(
         GivesText R.reads reader.old.end reader.new.end (λ input.
         MakesPage (page_said page.now) input (λ text.
         (error : _) × WriteFails W.writes writer.old.end text error writer.new.end)) }
-    ensures no_text { IsErrOf result Fault.NotUtf8 →
-        GivesNoText R.reads reader.old.end reader.new.end }
+    ensures no_text { IfErr result (λ fault. IfNotUtf8 fault (λ place.
+        (input : _) × ReadsToEnd R.reads reader.old.end input reader.new.end × IsNoText input place)) }
     ensures no_toml { IfErr result (λ fault. IfNotToml fault (λ place error.
         GivesText R.reads reader.old.end reader.new.end (λ input. IsNoToml input place error))) }
     ensures no_description { IfErr result (λ fault. IfNotDescription fault (
@@ -88,8 +89,8 @@ pub fn run_description<A: Allocator + Copy, B: Allocator, R: Source, W: Sink>(
     ensures cut_short { IsErrOf result Fault.Write →
         ReadsText (R.remaining reader.old.end) (R.remaining reader.new.end) (λ input.
         WritesBeginning (page_said page.now) input (W.contents writer.old.end) (W.contents writer.new.end)) }
-    ensures not_utf8 { IsErrOf result Fault.NotUtf8 →
-        ReadsNoText (R.remaining reader.old.end) (R.remaining reader.new.end) }
+    ensures not_utf8 { IfErr result (λ fault. IfNotUtf8 fault (λ place. (input : _)
+        × ReadsAll (R.remaining reader.old.end) (R.remaining reader.new.end) input × IsNoText input place)) }
     ensures not_toml { IfErr result (λ fault. IfNotToml fault (λ place error.
         ReadsText (R.remaining reader.old.end) (R.remaining reader.new.end) (λ input.
         IsNoToml input place error))) }
@@ -102,7 +103,7 @@ pub fn run_description<A: Allocator + Copy, B: Allocator, R: Source, W: Sink>(
         ReadsText (R.remaining reader.old.end) (R.remaining reader.new.end)
         (HasUnwritablePage (page_said page.now) error))) }
 {
-    let input = reader.read_text(alloc)?;
+    let input = text_from(alloc, reader)?;
     let text = page_of(alloc, global, page, input.as_str())?;
     writer.write_all(text.as_bytes()).map_err(|_| Fault::Write)
 }
@@ -120,12 +121,13 @@ pub fn check_description<A: Allocator + Copy, R: Source>(
     // Over all streams.
     ensures read { IsErrOf result Fault.Read ↔ IsMarked reader.new }
     ensures fault { IfErr result IsOfReading }
+    ensures told { IfOk result TellsTheFirst }
     ensures given { IfOk result (λ lines.
         GivesText R.reads reader.old.end reader.new.end (HasWarnings (count_of lines))) }
     ensures read_failed { IsErrOf result Fault.Read →
         (error : _) × ReadFails R.reads reader.old.end error reader.new.end }
-    ensures no_text { IsErrOf result Fault.NotUtf8 →
-        GivesNoText R.reads reader.old.end reader.new.end }
+    ensures no_text { IfErr result (λ fault. IfNotUtf8 fault (λ place.
+        (input : _) × ReadsToEnd R.reads reader.old.end input reader.new.end × IsNoText input place)) }
     ensures no_toml { IfErr result (λ fault. IfNotToml fault (λ place error.
         GivesText R.reads reader.old.end reader.new.end (λ input. IsNoToml input place error))) }
     ensures no_description { IfErr result (λ fault. IfNotDescription fault (
@@ -134,21 +136,22 @@ pub fn check_description<A: Allocator + Copy, R: Source>(
     // Over streams that tell their bytes.
     ensures ok { IfOk result (λ lines.
         ReadsText (R.remaining reader.old.end) (R.remaining reader.new.end) (HasWarnings (count_of lines))) }
-    ensures not_utf8 { IsErrOf result Fault.NotUtf8 →
-        ReadsNoText (R.remaining reader.old.end) (R.remaining reader.new.end) }
+    ensures not_utf8 { IfErr result (λ fault. IfNotUtf8 fault (λ place. (input : _)
+        × ReadsAll (R.remaining reader.old.end) (R.remaining reader.new.end) input × IsNoText input place)) }
     ensures not_toml { IfErr result (λ fault. IfNotToml fault (λ place error.
         ReadsText (R.remaining reader.old.end) (R.remaining reader.new.end) (λ input.
         IsNoToml input place error))) }
     ensures not_description { IfErr result (λ fault. IfNotDescription fault (
         ReadsText (R.remaining reader.old.end) (R.remaining reader.new.end) IsNoDescription)) }
 {
-    let text = reader.read_text(alloc)?;
+    let text = text_from(alloc, reader)?;
     judge(global, text.as_str())
 }
 
 // The warnings about the description that the text gives.
 fn judge(global: Global, text: &str) -> Result<Lines, Fault>
     ensures ok { IfOk result (λ lines. HasWarnings (count_of lines) text.now) }
+    ensures told { IfOk result TellsTheFirst }
     ensures fault { IfErr result IsOfText }
     ensures not_toml { IfErr result (λ fault. IfNotToml fault (IsNoToml text.now)) }
     ensures not_description { IfErr result (λ fault.

@@ -4,22 +4,22 @@ ghost use Rattle.std.specs.Prelude.{◌≡◌};
 ghost use Rattle.clidoc_engine.specs.declared.faults.Fault.TheVariants.{Memory};
 
 use crate::described::{Lines, Severity};
+use crate::echoed::Echoed;
 use crate::hints::Hint;
 use crate::meant::{Meant, Named};
 use crate::places::Place;
 use command_pages::PageError;
-use description_toml::words::Shown;
+use description_toml::words::Brief;
 use page_model::PageFault;
 use std::alloc::AllocError;
 use std::fmt;
 use std::fmt::Display;
-use watched::ReadError;
 
 /// Why a run fails.
 #[derive(Debug, Drop)]
 pub enum Fault {
-    /// What was read is no text.
-    NotUtf8,
+    /// What was read is no text: the place of the first byte that is of no character.
+    NotUtf8(Place),
     /// The text is no TOML: the place where the error begins, and why.
     NotToml {
         place: Place,
@@ -62,9 +62,9 @@ pub struct Told<'f> {
 
 impl Display for Told<'_> {
     fn fmt<W: fmt::Write>(&self, f: &mut fmt::Formatter<W>) -> fmt::Result {
-        let file = Shown(self.file);
+        let file = Echoed(self.file);
         match self.fault {
-            Fault::NotUtf8 => write!(f, "{file}: the input is not UTF-8"),
+            Fault::NotUtf8(place) => write!(f, "{file}:{place}: the text is not UTF-8"),
             Fault::NotToml { place, error, hint } => match hint {
                 Hint::Nothing => write!(f, "{file}:{place}: {}", error.message()),
                 Hint::Open { place, mark } => write!(f, "{file}:{place}: {mark} is not closed"),
@@ -79,7 +79,7 @@ impl Display for Told<'_> {
             },
             Fault::NotDescription(lines) => lines.write_in(f, file, Severity::Fault),
             Fault::NoCommand { name, path, meant } => {
-                let (name, path) = (Named(name.as_str()), path.as_str());
+                let (name, path) = (Named(name.as_str()), Brief(path.as_str()));
                 write!(f, "clidoc: no command {name} in {path}{meant}")
             }
             Fault::NoPage(error) => write!(f, "clidoc: no page: {error}"),
@@ -95,20 +95,6 @@ impl From<AllocError> for Fault {
 
     fn from(_error: AllocError) -> Fault {
         Fault::Memory
-    }
-}
-
-impl From<ReadError> for Fault {
-    ghost use Rattle.clidoc_engine.specs.Faults.{fault_of_read};
-
-    ghost from_gives = { λ error fault. fault ≡ fault_of_read error };
-
-    fn from(error: ReadError) -> Fault {
-        match error {
-            ReadError::Failed(_) => Fault::Read,
-            ReadError::NotUtf8 => Fault::NotUtf8,
-            ReadError::Refused(_) => Fault::Memory,
-        }
     }
 }
 

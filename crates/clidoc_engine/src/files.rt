@@ -1,17 +1,14 @@
 //! Files of pages, and which names they may have.
 
-ghost use Rattle.std.specs.Prelude.{◌≡◌, ◌≤◌, ◌&&◌, IfOk, drop, is_ok, length, map, not};
-ghost use Rattle.std.specs.List.{list_any};
-ghost use Rattle.clidoc_engine.specs.Files.{are_alike, are_file_names, file_said, is_file_name, is_first_name};
-ghost use Rattle.clidoc_engine.specs.Files.{names_of};
+ghost use Rattle.std.specs.Prelude.{◌≡◌, IfOk, is_ok, map};
+ghost use Rattle.file_names.specs.Names.{are_file_names, names_said};
+ghost use Rattle.clidoc_engine.specs.Files.{file_said, names_of};
 
-use description_toml::words::Shown;
+use description_toml::words::Brief;
+use file_names::NameFault;
 use std::alloc::{AllocError, Allocator, Global};
-use std::collections::BTreeSet;
-use thiserror::Error;
-
-/// How many bytes a name has at most. On the way there it has one before it and 13 behind it, too (`name_beside`).
-const MOST: usize = 200;
+use std::fmt;
+use std::fmt::Display;
 
 /// The name of a file, and the page that it holds.
 #[derive(Drop)]
@@ -21,116 +18,74 @@ pub struct PageFile<A: Allocator = Global> {
     pub page: String<A>,
 }
 
-/// Why files are not written. It is shown as the line that the program writes on standard error.
-#[derive(Clone, Copy, Debug, Error)]
-pub enum NameFault<'f> {
-    #[error("clidoc: file name {} holds a slash", Shown(.0))]
-    Slash(&'f str),
-    #[error("clidoc: file name {} begins with a dot", Shown(.0))]
-    Dot(&'f str),
-    #[error("clidoc: file name {} is over 200 bytes long", Shown(.0))]
-    Long(&'f str),
-    #[error("clidoc: two files have the name {}", Shown(.0))]
-    Twice(&'f str),
-    #[error("clidoc: file names {} and {} differ in case alone", Shown(.0), Shown(.1))]
-    Alike(&'f str, &'f str),
+/// Why files are not written, shown as the line that the program writes on standard error.
+#[derive(Clone, Copy, Debug)]
+pub struct NoFiles<'f>(pub NameFault<'f>);
+
+impl Display for NoFiles<'_> {
+    fn fmt<W: fmt::Write>(&self, f: &mut fmt::Formatter<W>) -> fmt::Result {
+        let NoFiles(fault) = self;
+        let (name, why) = match fault {
+            NameFault::Slash(name) => (*name, "holds a slash"),
+            NameFault::Foreign(name) => (
+                *name,
+                "holds one of \" * : < > ? \\ |, which other systems refuse",
+            ),
+            NameFault::Dot(name) => (*name, "begins with a dot"),
+            NameFault::Dash(name) => (*name, "begins with -"),
+            NameFault::Long(name) => (*name, "is over 200 bytes long"),
+            NameFault::Device(name) => (*name, "is a device of other systems"),
+            NameFault::Index(name) => (*name, "is that of the page of the folder itself"),
+            NameFault::Twice(name) => {
+                return write!(f, "clidoc: two files have the name {}", Brief(*name));
+            }
+            NameFault::Alike(one, other) => {
+                return write_two(f, *one, *other, "differ in case alone");
+            }
+            NameFault::Same(one, other) => {
+                return write_two(f, *one, *other, "are one to some systems");
+            }
+        };
+        write!(f, "clidoc: file name {} {why}", Brief(name))
+    }
 }
 
-/// Refuses a name that no file may have, and two that some folders take for one. The first that is refused is told.
+fn write_two<W: fmt::Write>(
+    f: &mut fmt::Formatter<W>,
+    one: &str,
+    other: &str,
+    why: &str,
+) -> fmt::Result {
+    let (one, other) = (Brief(one), Brief(other));
+    write!(f, "clidoc: file names {one} and {other} {why}")
+}
+
+/// Refuses files of which one has a name that no file may have, or two have names that some folders take for one. The
+/// first that is refused is told. The names are kept in `alloc`, and what they are compared by in `global`.
 /// `AllocError` where an allocation failed.
 pub fn check_names<'f, A: Allocator, B: Allocator + Copy>(
     alloc: B,
+    global: Global,
     files: &'f [PageFile<A>],
-) -> Result<Result<(), NameFault<'f>>, AllocError>
+) -> Result<Result<(), NoFiles<'f>>, AllocError>
     ensures { IfOk result (λ judged. is_ok judged ≡ are_file_names (names_of (map file_said files.now))) }
 {
-    let first = first_refused(alloc, files)?;
-    Ok(check_first(&files[first..]))
+    let names = names_of(alloc, files)?;
+    match file_names::check_names(alloc, global, names.as_slice())? {
+        Ok(()) => Ok(Ok(())),
+        Err(fault) => Ok(Err(NoFiles(fault))),
+    }
 }
 
-// Where the first file stands whose name is refused: at the end, where there is none. It goes from the last name to the
-// first, so that it knows those behind each.
-fn first_refused<A: Allocator, B: Allocator + Copy>(
+fn names_of<'f, A: Allocator, B: Allocator>(
     alloc: B,
-    files: &[PageFile<A>],
-) -> Result<usize, AllocError>
-    ensures within { IfOk result (λ first. first ≤ length files.now) }
-    ensures judged { IfOk result (λ first. is_first_name (names_of (map file_said (drop first files.now)))
-        ≡ are_file_names (names_of (map file_said files.now))) }
+    files: &'f [PageFile<A>],
+) -> Result<Vec<&'f str, B>, AllocError>
+    ensures { IfOk result (λ names. names_said names.items ≡ names_of (map file_said files.now)) }
 {
-    let mut behind = BTreeSet::new(alloc);
-    let mut first = files.len();
-    let mut index = files.len();
-    while index > 0 {
-        index -= 1;
-        let name = files[index].name.as_str();
-        let is_alone = behind.insert(name.to_ascii_lowercase(alloc)?)?;
-        if is_refused(name, is_alone) {
-            first = index;
-        }
+    let mut names = Vec::new(alloc);
+    for file in files {
+        names.push(file.name.as_str())?;
     }
-    Ok(first)
-}
-
-fn is_refused(name: &str, is_alone: bool) -> bool
-    ensures { result ≡ not (is_file_name name.now && is_alone) }
-{
-    !(check_name(name).is_ok() && is_alone)
-}
-
-// Refuses the name of the first file: one that no file may have, or that one behind it has too.
-fn check_first<A: Allocator>(files: &[PageFile<A>]) -> Result<(), NameFault<'_>>
-    ensures { is_ok result ≡ is_first_name (names_of (map file_said files.now)) }
-{
-    let Some((file, others)) = files.split_first() else {
-        return Ok(());
-    };
-    check_name(&file.name)?;
-    check_others(&file.name, others)
-}
-
-fn check_name(name: &str) -> Result<(), NameFault<'_>>
-    ensures { is_ok result ≡ is_file_name name.now }
-{
-    if name.as_bytes().contains(&b'/') {
-        Err(NameFault::Slash(name))
-    } else if name.as_bytes().first() == Some(&b'.') {
-        Err(NameFault::Dot(name))
-    } else if name.len() > MOST {
-        Err(NameFault::Long(name))
-    } else {
-        Ok(())
-    }
-}
-
-// Refuses a name that one of the others has too.
-#[tactic(auto, using(crate::proofs::FileNames::other_differs, crate::proofs::FileNames::other_is_alike, crate::proofs::FileNames::no_other_left))]
-fn check_others<'f, A: Allocator>(
-    name: &'f str,
-    others: &'f [PageFile<A>],
-) -> Result<(), NameFault<'f>>
-    ensures { is_ok result ≡ not (list_any (are_alike name.now) (names_of (map file_said others.now))) }
-{
-    for other in others {
-        if are_alike(name, &other.name) {
-            return Err(clash(name, &other.name));
-        }
-    }
-    Ok(())
-}
-
-// The fault of two names that are alike.
-fn clash<'f>(name: &'f str, other: &'f str) -> NameFault<'f> {
-    if name == other {
-        NameFault::Twice(name)
-    } else {
-        NameFault::Alike(name, other)
-    }
-}
-
-#[tactic(auto, using(crate::proofs::FileNames::tells_same))]
-fn are_alike(name: &str, other: &str) -> bool
-    ensures { result ≡ are_alike name.now other.now }
-{
-    name.as_bytes().eq_ignore_ascii_case(other.as_bytes())
+    Ok(names)
 }

@@ -1,6 +1,6 @@
 //! Headers of tables in a text that is no TOML.
 
-use description_toml::words::Shown;
+use description_toml::words::Brief;
 use std::fmt;
 use std::fmt::Display;
 
@@ -13,7 +13,7 @@ pub struct Header<'t> {
 
 impl Display for Header<'_> {
     fn fmt<W: fmt::Write>(&self, f: &mut fmt::Formatter<W>) -> fmt::Result {
-        let key = Shown(self.key);
+        let key = Brief(self.key);
         if self.is_of_array {
             write!(f, "[[{key}]]")
         } else {

@@ -4,7 +4,7 @@ use bumpalo::Bump;
 use command_pages::LevelSubject;
 use description::{Command, Level};
 use description_pages::subjects::enter;
-use description_toml::words::{Brief, nearest};
+use description_toml::words::{Brief, Quoted, nearest};
 use std::alloc::{AllocError, Global};
 use std::fmt;
 use std::fmt::Display;
@@ -64,7 +64,7 @@ impl Display for Named<'_> {
     fn fmt<W: fmt::Write>(&self, f: &mut fmt::Formatter<W>) -> fmt::Result {
         let Named(word) = self;
         if word.contains(' ') {
-            write!(f, "{word:?}")
+            write!(f, "{}", Quoted(*word))
         } else {
             write!(f, "{}", Brief(*word))
         }

@@ -1,6 +1,7 @@
 //! What the program says of itself.
 
-/// The line of its version, which `./release` reads here. It is greater than that of the Rust crate whose pages it makes, which it had before.
+/// The line of its version, which `./release` reads here. It is greater than that of the Rust crate bpaf, which it had
+/// before.
 pub const VERSION: &str = "clidoc 1.0.0\n";
 
 /// Its description: the text of `examples/clidoc.toml`.
@@ -10,6 +11,10 @@ about = "Makes pages of the description of a command line."
 header = """
 The description is read from FILE, or else from standard input, in TOML, and the page is written to standard output.
 The program that is described may be written in any language."""
+usage = """
+clidoc FORM [--command NAME]... [--deep] [--width COLUMNS] [--fragment] [--date DATE] [--vendor TEXT] [FILE]
+clidoc all --into FOLDER [--date DATE] [--vendor TEXT] [FILE]
+clidoc check [--strict] [FILE]"""
 footer = """
 The status is 0 if the page was written, 2 if the words are wrong, and 1 if anything else went wrong, which a line on standard error tells.
 
@@ -106,7 +111,7 @@ What is made of the description.
 
 - `usage`: the usage alone.
 - `full`: the help page.
-- `brief`: the help page, with the first paragraph of each text.
+- `brief`: the help page, with the first block of each text.
 - `man`: a manual page.
 - `markdown`: a page in markdown.
 - `html`: an HTML page with all commands below.
@@ -117,6 +122,12 @@ What is made of the description.
 value = "FILE"
 help = "Where the description stands; `-` is standard input"
 required = false
+
+[[topic]]
+title = "Environment"
+text = """
+- `CLIDOC_INPUT_MIB`: so many MiB are read at most, 16 where it is not set.
+- `CLIDOC_OUTPUT_MIB`: so many MiB are written at most, 256 where it is not set."""
 
 [[topic]]
 title = "Examples"

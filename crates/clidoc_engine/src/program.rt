@@ -5,16 +5,17 @@ ghost use Rattle.watched.specs.Watched.{IsUnmarked};
 use crate::all::make_files;
 use crate::bounded::Bounded;
 use crate::described::Lines;
+use crate::echoed::Echoed;
 use crate::engine::{check_description, page_of, run_description};
 use crate::faults::Fault;
-use crate::files::check_names;
+use crate::files::{PageFile, check_names};
 use crate::own::{DESCRIPTION, VERSION};
 use crate::reading::WordFault;
 use crate::words::{Choice, Console, ConsoleForm, Page, TitleGiven, choose, terminal_width};
 use crate::wrong::line_of;
-use description_toml::words::Shown;
 use folder::{enter, tell_left, tell_written, write_files};
-use std::alloc::{AllocError, Global};
+use limits::{Limit, Limits};
+use std::alloc::{AllocError, Allocator, Global};
 use std::env::VarError;
 use std::fmt::Display;
 use std::fs::OpenFile;
@@ -29,9 +30,7 @@ pub use watched::program::WRONG_WORDS;
 use watched::program::{expecting, garbled_word, status_of, with_words};
 
 mod folder;
-
-/// How many bytes are read at most: 16 MiB.
-const MOST_INPUT: usize = 16 << 20;
+mod limits;
 
 /// The name of standard input.
 const STANDARD_INPUT: &str = "-";
@@ -43,16 +42,16 @@ pub(crate) enum Failure {
     #[error("{0}")]
     Told(String),
     /// A file, or a folder, cannot be opened.
-    #[error("clidoc: can't open {}: {reason}", Shown(name.as_str()))]
+    #[error("clidoc: can't open {}: {reason}", Echoed(name.as_str()))]
     NotOpened { name: String, reason: Reason },
     /// What is to be read is a folder.
-    #[error("clidoc: {} is a folder", Shown(.0.as_str()))]
+    #[error("clidoc: {} is a folder", Echoed(.0.as_str()))]
     Folder(String),
     /// What is to be written into is none.
-    #[error("clidoc: {} is no folder", Shown(.0.as_str()))]
+    #[error("clidoc: {} is no folder", Echoed(.0.as_str()))]
     NoFolder(String),
     /// A file cannot be written.
-    #[error("clidoc: can't write {}: {reason}", Shown(name.as_str()))]
+    #[error("clidoc: can't write {}: {reason}", Echoed(name.as_str()))]
     NotWritten { name: String, reason: Reason },
     /// Standard output takes nothing.
     #[error("clidoc: write failed")]
@@ -87,8 +86,8 @@ impl From<AllocError> for Failure {
 }
 
 /// Does what the words after the program's name choose, and answers the status: success, `WRONG_WORDS` where they
-/// choose nothing, and failure where the run failed. On standard error it says why it was no success. The TOML and
-/// the description are kept in `global`, and all else in the runtime's memory. No clause can say what a runtime
+/// choose nothing, and failure where the run failed. On standard error it says why it was no success. The words,
+/// what is read and the pages are kept in the runtime's memory, and all else in `global`. No clause can say what a runtime
 /// reads and prints.
 pub fn run<R: Alloc + Env + Files + Input + Print + Eprint + RandomSource>(
     rt: &R,
@@ -183,39 +182,86 @@ where
     R::A: Copy,
 {
     match choice {
-        Choice::Page(page, None | Some(STANDARD_INPUT)) => {
-            write_page(rt, global, page, STANDARD_INPUT, rt.reader())
-        }
-        Choice::Page(page, Some(file)) => {
-            write_page(rt, global, page, *file, opened(rt, global, *file)?)
-        }
-        Choice::Check { strict, file } => match file {
-            None | Some(STANDARD_INPUT) => check(rt, global, *strict, STANDARD_INPUT, rt.reader()),
-            Some(file) => check(rt, global, *strict, *file, opened(rt, global, *file)?),
-        },
+        Choice::Page(page, file) => write_page_of(rt, global, page, *file),
+        Choice::Check { strict, file } => check_file(rt, global, *strict, *file),
         Choice::All {
             folder,
             title,
-            file: None | Some(STANDARD_INPUT),
-        } => write_all(rt, global, (*folder, *title), STANDARD_INPUT, rt.reader()),
-        Choice::All {
-            folder,
-            title,
-            file: Some(file),
-        } => write_all(
-            rt,
-            global,
-            (*folder, *title),
-            *file,
-            opened(rt, global, *file)?,
-        ),
+            file,
+        } => write_all_of(rt, global, (*folder, *title), *file),
         Choice::Help => {
             let page = own_page(global, ConsoleForm::Full, terminal);
-            let written = write_page(rt, global, &page, STANDARD_INPUT, DESCRIPTION.as_bytes());
+            let input = (STANDARD_INPUT, DESCRIPTION.as_bytes());
+            let written = write_page(rt, global, Limits::USUAL, &page, input);
             drop(page);
             written
         }
         Choice::Version => write_version(rt),
+    }
+}
+
+fn write_page_of<R: Alloc + Env + Files + Input + Print>(
+    rt: &R,
+    global: Global,
+    page: &Page<'_, Global>,
+    file: Option<&str>,
+) -> Result<(), Failure>
+where
+    R::A: Copy,
+{
+    let limits = Limits::said(rt, global)?;
+    match named(file) {
+        None => write_page(rt, global, limits, page, (STANDARD_INPUT, rt.reader())),
+        Some(file) => {
+            let input = opened(rt, global, file)?;
+            write_page(rt, global, limits, page, (file, input))
+        }
+    }
+}
+
+fn check_file<R: Alloc + Env + Files + Input + Eprint>(
+    rt: &R,
+    global: Global,
+    strict: bool,
+    file: Option<&str>,
+) -> Result<(), Failure>
+where
+    R::A: Copy,
+{
+    let limits = Limits::said(rt, global)?;
+    match named(file) {
+        None => check(rt, global, limits, strict, (STANDARD_INPUT, rt.reader())),
+        Some(file) => {
+            let input = opened(rt, global, file)?;
+            check(rt, global, limits, strict, (file, input))
+        }
+    }
+}
+
+fn write_all_of<R: Alloc + Env + Files + Input + Eprint + RandomSource>(
+    rt: &R,
+    global: Global,
+    place: (&str, TitleGiven<'_>),
+    file: Option<&str>,
+) -> Result<(), Failure>
+where
+    R::A: Copy,
+{
+    let limits = Limits::said(rt, global)?;
+    match named(file) {
+        None => write_all(rt, global, limits, place, (STANDARD_INPUT, rt.reader())),
+        Some(file) => {
+            let input = opened(rt, global, file)?;
+            write_all(rt, global, limits, place, (file, input))
+        }
+    }
+}
+
+// The file, where it is none of the names of standard input.
+fn named(file: Option<&str>) -> Option<&str> {
+    match file {
+        None | Some(STANDARD_INPUT) => None,
+        named => named,
     }
 }
 
@@ -252,36 +298,49 @@ fn reason_of(error: io::Error) -> Reason {
 fn write_page<R: Alloc + Print, S: Read + Drop>(
     rt: &R,
     global: Global,
+    limits: Limits,
     page: &Page<'_, Global>,
-    file: &str,
-    input: S,
+    (file, input): (&str, S),
 ) -> Result<(), Failure>
 where
     R::A: Copy,
 {
-    let mut reader = bounded(input);
-    let mut writer = Watched::new(io::writer(rt));
+    let mut reader = bounded(input, limits.input);
+    let mut writer = bounded(io::writer(rt), limits.output);
     let outcome = run_description(rt.alloc(), global, page, &mut reader, &mut writer);
-    within(global, outcome, file, reader)
+    if writer.into_inner().is_over() {
+        drop(outcome);
+        return Err(too_much(global, "the page is", limits.output));
+    }
+    within(global, limits.input, outcome, file, reader)
 }
 
-// A reader of no more bytes than may be read.
-fn bounded<S: Read>(input: S) -> Watched<Bounded<S>>
+// An end of no more bytes than this.
+fn bounded<E>(end: E, limit: Limit) -> Watched<Bounded<E>>
     ensures { IsUnmarked result }
 {
-    Watched::new(Bounded::new(input, MOST_INPUT))
+    Watched::new(Bounded::new(end, limit.bytes()))
+}
+
+// More is to be written than may be.
+fn too_much(global: Global, what: &str, limit: Limit) -> Failure {
+    match format!(in global; "clidoc: {what} {limit}") {
+        Ok(line) => Failure::Told(line),
+        Err(AllocError) => Failure::Memory,
+    }
 }
 
 // What is told of a run over such a reader, of a file of this name.
 fn within<T: Drop, S: Drop>(
     global: Global,
+    limit: Limit,
     outcome: Result<T, Fault>,
     file: &str,
     reader: Watched<Bounded<S>>,
 ) -> Result<T, Failure> {
     if reader.into_inner().is_over() {
         drop(outcome);
-        let line = format!(in global; "{}: the input is over 16 MiB long", Shown(file))?;
+        let line = format!(in global; "{}: the input is {limit}", Echoed(file))?;
         return Err(Failure::Told(line));
     }
     match outcome {
@@ -301,16 +360,16 @@ fn told(global: Global, fault: &Fault, file: &str) -> Failure {
 fn check<R: Alloc + Eprint, S: Read + Drop>(
     rt: &R,
     global: Global,
+    limits: Limits,
     strict: bool,
-    file: &str,
-    input: S,
+    (file, input): (&str, S),
 ) -> Result<(), Failure>
 where
     R::A: Copy,
 {
-    let mut reader = bounded(input);
+    let mut reader = bounded(input, limits.input);
     let outcome = check_description(rt.alloc(), global, &mut reader);
-    let warnings = within(global, outcome, file, reader)?;
+    let warnings = within(global, limits.input, outcome, file, reader)?;
     warn(rt, global, strict, file, &warnings)
 }
 
@@ -322,7 +381,7 @@ fn warn<R: Eprint>(
     file: &str,
     warnings: &Lines,
 ) -> Result<(), Failure> {
-    if warnings.told.is_empty() {
+    if warnings.is_empty() {
         return Ok(());
     }
     let lines = format!(in global; "{}", warnings.warned(file))?;
@@ -337,24 +396,36 @@ fn warn<R: Eprint>(
 fn write_all<R: Alloc + Env + Files + Eprint + RandomSource, S: Read + Drop>(
     rt: &R,
     global: Global,
+    limits: Limits,
     (folder, given): (&str, TitleGiven<'_>),
-    file: &str,
-    input: S,
+    (file, input): (&str, S),
 ) -> Result<(), Failure>
 where
     R::A: Copy,
 {
     enter(rt, global, folder)?;
-    let mut reader = bounded(input);
+    let mut reader = bounded(input, limits.input);
     let outcome = make_files(rt.alloc(), global, given, &mut reader);
-    let files = within(global, outcome, file, reader)?;
-    if let Err(fault) = check_names(global, &files)? {
+    let files = within(global, limits.input, outcome, file, reader)?;
+    if bytes_of(&files) > limits.output.bytes() {
+        return Err(too_much(global, "the pages are", limits.output));
+    }
+    if let Err(fault) = check_names(global, global, &files)? {
         return Err(Failure::Told(format!(in global; "{fault}")?));
     }
     tell_left(rt, folder);
     write_files(rt, global, folder, &files)?;
     tell_written(rt, folder, &files);
     Ok(())
+}
+
+// How many bytes the pages have.
+fn bytes_of<A: Allocator>(files: &[PageFile<A>]) -> usize {
+    let mut bytes = 0usize;
+    for file in files {
+        bytes = bytes.saturating_add(file.page.len());
+    }
+    bytes
 }
 
 // A page of the program itself.

@@ -427,7 +427,8 @@ fn width_of<'w>(terminal: usize, texts: &[&'w str]) -> Result<usize, WordFault<'
     }
 }
 
-fn columns(text: &str) -> Result<usize, WordFault<'_>>
+/// The number from 1 on that a text is, in decimal digits alone.
+pub(crate) fn columns(text: &str) -> Result<usize, WordFault<'_>>
     ensures ok { IfOk result (λ n. IsColumns text.now n) }
     ensures err { IfErr result (λ _. (n : _) → ¬ IsColumns text.now n) }
 {

@@ -33,8 +33,14 @@ pub fn line_of(global: Global, fault: &WordFault<'_>) -> Result<String, AllocErr
         WordFault::FormBehind { word, form } => put_turned(&mut line, word, form)?,
         WordFault::NoSuchOption(word) => put(&mut line, "no option ", word)?,
         WordFault::NoValue(option) => put(&mut line, "no value behind ", valued_word(*option))?,
-        WordFault::NoColumns(word) => put(&mut line, "no number of columns: ", word)?,
-        WordFault::NoFolder => line.push_str("all goes with --into FOLDER")?,
+        WordFault::NoColumns(word) => {
+            put(
+                &mut line,
+                "--width is a number of columns from 1 on, and not ",
+                word,
+            )?
+        }
+        WordFault::NoFolder => line.push_str("all needs a folder: --into FOLDER")?,
         WordFault::Twice(option) => {
             line.push_str(word_of(*option))?;
             line.push_str(" stands twice")?;

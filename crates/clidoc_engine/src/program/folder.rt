@@ -1,9 +1,9 @@
 //! Pages as files of a folder that others may write into too. No clause can say what a folder then holds.
 
 use crate::beside::{is_beside, name_beside};
+use crate::echoed::Echoed;
 use crate::files::PageFile;
 use crate::program::{Failure, Reason};
-use description_toml::words::Shown;
 use std::alloc::{Allocator, Global};
 use std::fs::{Metadata, OpenFile, OpenOptions, Permissions};
 use std::io::{ErrorKind, Write};
@@ -47,10 +47,10 @@ fn reason_of(kind: ErrorKind) -> Reason {
 
 /// Says how many files were written into the folder, and which of them, the last, leads to all that the others hold.
 pub fn tell_written<R: Eprint, A: Allocator>(rt: &R, folder: &str, files: &[PageFile<A>]) {
-    let (count, inside) = (files.len(), Shown(folder.trim_end_matches('/')));
+    let (count, inside) = (files.len(), Echoed(folder.trim_end_matches('/')));
     let _ = match files.last() {
         Some(page) => {
-            let (folder, name) = (Shown(folder), Shown(page.name.as_str()));
+            let (folder, name) = (Echoed(folder), Echoed(page.name.as_str()));
             eprintln!(rt; "clidoc: wrote {count} files to {folder}; see {inside}/{name}")
         }
         None => Ok(()),
@@ -68,7 +68,7 @@ pub fn tell_left<R: Alloc + Files + Eprint>(rt: &R, folder: &str) {
         if let Ok(entry) = entry {
             if told < MOST_TOLD && is_beside(entry.file_name()) {
                 told += 1;
-                let (folder, name) = (Shown(folder), Shown(entry.file_name()));
+                let (folder, name) = (Echoed(folder), Echoed(entry.file_name()));
                 let _ = eprintln!(rt; "clidoc: {folder}/{name} is of a run that was stopped");
             }
         }

@@ -6,5 +6,5 @@ pub returns-clause-ok : goal.returns-clause-ok
 returns-clause-ok c = record {
   description = description_said c.in_ok-description.description;
   described = record { table = table_view c.in_ok-data.data; toml = c.in_ok-data.ensures.ok; gives = c.in_ok-description.ensures.ok };
-  each = c.in_ok-warnings.ensures;
+  each = c.in_ok-warnings.ensures.each;
 }
