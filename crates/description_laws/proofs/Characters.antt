@@ -1,18 +1,18 @@
 -- The characters of each kind of text are those of a text of lines.
-use Rattle.std.proofs.Common.{◌≡◌, ◌==◌, ℕ, zero, suc, ◌+◌, ◌*◌, ◌-◌, ◌<◌, ◌≤◌, ◌/◌, List, [], ◌∷◌, ◌++◌, Bool, true, false, refl, ap, ◌∙◌, arith}
+use Rattle.std.proofs.Common.{◌≡◌, ◌==◌, ℕ, zero, suc, length, take, ◌+◌, ◌*◌, ◌-◌, ◌<◌, ◌≤◌, ◌/◌, List, [], ◌∷◌, ◌++◌, Bool, true, false, refl, ap, ◌∙◌, arith}
 use Rattle.std.specs.Prelude.{codes, ◌&&◌, ◌||◌, not, nat_lt, if◌then◌else◌, flat_map}
 use Rattle.std.specs.Char.{is_whitespace}
 use Rattle.std.specs.Int.{is_in_range}
 use Rattle.std.specs.List.{list_all}
 use Rattle.std.specs.Fmt.{digits, digits_onto, digit_glyph}
-use Rattle.std.specs.Str.{IsAscii, chars, chars_after, continuation_len, lead_bits}
+use Rattle.std.specs.Str.{IsAscii, chars, chars_after, continuation_len, lead_bits, trim_end}
 use Rattle.std.proofs.lemmas.Bool.{and_parts, and_from, or_right}
 use Rattle.std.proofs.lemmas.Bool.Decides.{nat_tests}
 use Rattle.std.proofs.lemmas.List.Folds.{list_all-append}
 use Rattle.std.proofs.lemmas.Str.{chars-IsAscii}
 use Rattle.toml_datetime.specs.Text.{two_wide, date_text}
 use Rattle.toml_datetime.specs.declared.datetime.Date.{Date}
-use Rattle.description_toml.specs.Described.Texts.{has_blank_end, without_colon, begins, is_body, is_dash, is_empty_text, is_text, is_value, is_title, is_heading, is_section, is_name, is_long, is_program_name, is_command_name, is_line_character, is_name_character, is_read_once, is_short, is_text_character, is_line, is_language_byte, is_language_tag}
+use Rattle.description_toml.specs.Described.Texts.{before_colon, has_blank_end, has_block, without_colon, begins, is_body, is_dash, is_empty_text, is_text, is_value, is_title, is_heading, is_section, is_name, is_long, is_command_name, is_line_character, is_name_character, is_read_once, is_short, is_text_character, is_line, is_language_byte, is_language_tag, has_name_size, is_hidden, is_joiner, is_word_character}
 use Rattle.description_toml.proofs.Each.{Each}
 
 -- each of the characters may stand in a text
@@ -44,8 +44,14 @@ weaker p q h (c ∷ cs) k = let both = and_parts (p c) (list_all p cs) k in and_
 line : (c : ℕ) → is_line_character c ≡ true → PlainCharacter c
 line c h = or_right (c == 10 || c == 9) (is_line_character c) h
 
+word : (c : ℕ) → is_word_character c ≡ true → PlainCharacter c
+word c h = let both = and_parts (not (is_hidden c)) (is_line_character c) h in line c both.1
+
 name : (c : ℕ) → is_name_character c ≡ true → PlainCharacter c
-name c h = let both = and_parts (not (is_whitespace c || c == 61)) (is_line_character c) h in line c both.1
+name c h =
+    let both = and_parts (not (is_whitespace c || c == 61)) (not (is_joiner c) && is_word_character c) h in
+    let seen = and_parts (not (is_joiner c)) (is_word_character c) both.1 in
+    word c seen.1
 
 pub short_plain : (c : ℕ) → is_short c ≡ true → PlainCharacter c
 short_plain c h = let both = and_parts (not (c == 45)) (is_name_character c) h in name c both.1
@@ -54,39 +60,38 @@ low : (c : ℕ) → 32 ≤ c → c < 127 → PlainCharacter c
 low c h k = grind (arith, nat_tests)
 
 pub body_plain : (text : List ℕ) → is_body text ≡ true → PlainText text
-body_plain text h = let both = and_parts (is_text text) (not (is_empty_text text)) h in both.0
+body_plain text h = let both = and_parts (is_text text) (has_block text) h in both.0
 
 pub line_plain : (text : List ℕ) → is_line text ≡ true → PlainText text
 line_plain text h = weaker is_line_character is_text_character line (chars text) h
 
 pub value_plain : (text : List ℕ) → is_value text ≡ true → PlainText text
-value_plain text h = let both = and_parts (list_all is_line_character (chars text)) (not (is_empty_text text)) h in weaker is_line_character is_text_character line (chars text) both.0
+value_plain text h = let both = and_parts (list_all is_word_character (chars text)) (not (is_empty_text text)) h in weaker is_word_character is_text_character word (chars text) both.0
 
 pub title_plain : (text : List ℕ) → is_title text ≡ true → PlainText text
-title_plain text h = let both = and_parts (list_all is_line_character (chars text)) (list_all is_read_once text) h in weaker is_line_character is_text_character line (chars text) both.0
+title_plain text h = let both = and_parts (list_all is_word_character (chars text)) (list_all is_read_once text) h in weaker is_word_character is_text_character word (chars text) both.0
 
 pub heading_plain : (text : List ℕ) → is_heading text ≡ true → PlainText text
 heading_plain text h = let both = and_parts (is_title text) (not (has_blank_end text) && not (is_empty_text (without_colon text))) h in title_plain text both.0
 
--- the characters of a text without its colon are the first ones of the text
-colon_behind : (n c : ℕ) (text : List ℕ) → Plain (chars_after n c text) → Plain (chars_after n c (without_colon text))
-colon_behind n c [] h = h
-colon_behind zero c (b ∷ []) h = grind (arith, and_parts, plain_cons)
-colon_behind zero c (b ∷ d ∷ text) h = let both = and_parts (is_text_character c) (list_all is_text_character (chars_after (continuation_len b) (lead_bits b) (d ∷ text))) h in
-    plain_cons c (chars_after (continuation_len b) (lead_bits b) (without_colon (d ∷ text))) both.0 (colon_behind (continuation_len b) (lead_bits b) (d ∷ text) both.1)
-colon_behind (suc n) c (b ∷ []) h = grind (arith)
-colon_behind (suc n) c (b ∷ d ∷ text) h = colon_behind n (c * 64 + (b - 128)) (d ∷ text) h
+-- the characters of the first bytes of a text are the first ones of the text
+taken_behind : (k n c : ℕ) (text : List ℕ) → Plain (chars_after n c text) → Plain (chars_after n c (take k text))
+taken_behind zero zero c [] h = h
+taken_behind zero zero c (b ∷ text) h = let both = and_parts (is_text_character c) (list_all is_text_character (chars_after (continuation_len b) (lead_bits b) text)) h in plain_cons c [] both.0 refl
+taken_behind zero (suc n) c text h = refl
+taken_behind (suc k) n c [] h = h
+taken_behind (suc k) zero c (b ∷ text) h = let both = and_parts (is_text_character c) (list_all is_text_character (chars_after (continuation_len b) (lead_bits b) text)) h in
+    plain_cons c (chars_after (continuation_len b) (lead_bits b) (take k text)) both.0 (taken_behind k (continuation_len b) (lead_bits b) text both.1)
+taken_behind (suc k) (suc n) c (b ∷ text) h = taken_behind k n (c * 64 + (b - 128)) text h
 
-one_plain : (is_colon : Bool) (b : ℕ) → PlainText (b ∷ []) → PlainText (if is_colon then [] else b ∷ [])
+taken_plain : (k : ℕ) (text : List ℕ) → PlainText text → PlainText (take k text)
 unfolding chars
-one_plain true b h = refl
-one_plain false b h = h
+taken_plain zero text h = refl
+taken_plain (suc k) [] h = h
+taken_plain (suc k) (b ∷ text) h = taken_behind k (continuation_len b) (lead_bits b) text h
 
 pub colon_plain : (text : List ℕ) → PlainText text → PlainText (without_colon text)
-unfolding chars
-colon_plain [] h = h
-colon_plain (b ∷ []) h = one_plain (b == 58) b h
-colon_plain (b ∷ d ∷ text) h = colon_behind (continuation_len b) (lead_bits b) (d ∷ text) h
+colon_plain text h = taken_plain (length (trim_end (before_colon text))) text h
 
 pub section_plain : (text : List ℕ) → is_section text ≡ true → PlainText text
 section_plain text h = grind (arith, and_parts, weaker, line)
@@ -101,13 +106,10 @@ pub english_plain : PlainText (codes "en")
 english_plain = ap (list_all is_text_character) (chars-IsAscii (codes "en") english)
 
 pub name_plain : (text : List ℕ) → is_name text ≡ true → PlainText text
-name_plain text h = let both = and_parts (list_all is_name_character (chars text)) (not (is_empty_text text)) h in weaker is_name_character is_text_character name (chars text) both.0
+name_plain text h = let both = and_parts (list_all is_name_character (chars text)) (has_name_size text) h in weaker is_name_character is_text_character name (chars text) both.0
 
 pub long_plain : (text : List ℕ) → is_long text ≡ true → PlainText text
 long_plain text h = let both = and_parts (is_name text) (not (begins is_dash text)) h in name_plain text both.0
-
-pub program_plain : (text : List ℕ) → is_program_name text ≡ true → PlainText text
-program_plain text h = let both = and_parts (is_name text) (list_all is_read_once text) h in name_plain text both.0
 
 pub command_plain : (text : List ℕ) → is_command_name text ≡ true → PlainText text
 command_plain text h = let both = and_parts (is_long text) (list_all is_read_once text) h in long_plain text both.0

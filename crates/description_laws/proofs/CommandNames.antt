@@ -9,7 +9,7 @@ use Rattle.html_page.proofs.Apart.{Distinct, distinct_append, test_among}
 use Rattle.description.specs.Content.{GroupsSaid, GroupSaid, CommandsSaid, CommandSaid, DescriptionSaid}
 use Rattle.description_toml.specs.Described.{choice_from, command_head, command_keys, command_of, CommandHead, commands_at, described, description_head, description_of, DescriptionHead, fixed_in, group_head, group_of, GroupHead, groups_at, help_option_keys, level_of, option_from, option_keys, Outline, outline_from, positional_from, topic_from}
 use Rattle.description_toml.specs.Described.Taken.{are_distinct, command_words, distinct, has_distinct_names, level_commands, level_options, option_names, tables_under, text_under, texts_under}
-use Rattle.description_toml.specs.Described.Texts.{as_command_name, as_text, begins, if_passes, is_command_name, is_dash, is_long, is_name, is_program_name, is_read_once}
+use Rattle.description_toml.specs.Described.Texts.{as_command_name, as_text, begins, if_passes, is_command_name, is_dash, is_long, is_name, is_read_once}
 use Rattle.description_toml.specs.Described.Values.{as_short, each_table, flag_at, has_only, optional_at, required_at, value_or, words_at}
 use Rattle.description_toml.proofs.Gives.{Gives, Whatever, given, gives_if, gives_map, gives_required, gives_text, gives_then, gives_whatever}
 use Rattle.description_laws.proofs.Paths.{distinct_apart, distinct_left, distinct_right}
@@ -50,9 +50,6 @@ IsName text = is_name text ≡ true
 
 command_name : (text : List ℕ) → is_command_name text ≡ true → IsName text
 command_name text h = let both = and_parts (is_long text) (list_all is_read_once text) h in let parts = and_parts (is_name text) (not (begins is_dash text)) both.0 in parts.0
-
-program_name : (text : List ℕ) → is_program_name text ≡ true → IsName text
-program_name text h = let both = and_parts (is_name text) (list_all is_read_once text) h in both.0
 
 -- the name of a command's table, and those of the commands in a table
 abbrev own : Members → List (List ℕ)
@@ -167,7 +164,7 @@ record HeadTold (ms : Members) (h : DescriptionHead) : Type 0 where
 
 head_there : (ms : Members) → Gives (HeadTold ms) (description_head ms)
 unfolding description_head
-head_there ms = grind (arith, gives_if, gives_then, gives_required, gives_text, program_name, gives_whatever, outline_there)
+head_there ms = grind (arith, gives_if, gives_then, gives_required, gives_text, command_name, gives_whatever, outline_there)
 
 abbrev DescriptionTells : DescriptionSaid → Type 0
 DescriptionTells d = IsName d.name × TellsApart IsName d.level

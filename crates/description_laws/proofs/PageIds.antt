@@ -2,14 +2,14 @@
 use Rattle.std.proofs.Common.{◌≡◌, ℕ, Bool, true, false, cond, not, ◌||◌, ◌&&◌, ◌==◌, List, [], ◌∷◌, Option, Some, refl}
 use Rattle.std.specs.Char.{is_whitespace}
 use Rattle.std.specs.List.{find, list_all}
-use Rattle.std.specs.Prelude.{chars}
+use Rattle.std.specs.Prelude.{chars, length, nat_le}
 use Rattle.std.specs.Str.{is_utf8}
 use Rattle.std.proofs.lemmas.Bool.{and_parts, false≢true}
 use Rattle.std.proofs.lemmas.Str.{IsUtf8-from_is_utf8}
 use Rattle.html_page.proofs.Among.{Each, each_append}
 use Rattle.html_page.proofs.Apart.{each_test}
 use Rattle.html_page.proofs.OwnIds as pages
-use Rattle.description_toml.specs.Described.Texts.{is_empty_text, is_line_character, is_name_character}
+use Rattle.description_toml.specs.Described.Texts.{has_name_size, is_empty_text, is_joiner, is_name_character, is_word_character}
 use Rattle.description_toml.proofs.Gives.{Gives, given, gives_then}
 use Rattle.description.specs.Content.{LevelSaid, level, GroupsSaid, no_groups, groups, group, CommandsSaid, no_commands, commands, CommandSaid, command}
 use Rattle.description_pages.specs.Chapters.{chapter_from}
@@ -28,7 +28,7 @@ abbrev IsText : List ℕ → Type 0
 IsText name = is_utf8 name ≡ true
 
 no_white : (c : ℕ) → is_name_character c ≡ true → not (is_whitespace c) ≡ true
-no_white c h = by (is_whitespace c) (c == 61) (is_line_character c) h where
+no_white c h = by (is_whitespace c) (c == 61) (not (is_joiner c) && is_word_character c) h where
   by : (white equals rest : Bool) → (not (white || equals) && rest) ≡ true → not white ≡ true
   by true equals rest k = absurd (false≢true k)
   by false equals rest k = refl
@@ -39,9 +39,10 @@ has_bytes (b ∷ name) h = tt
 
 word_of : (name : List ℕ) → IsName name → IsText name → IsWord name
 word_of name h k =
-    let both = and_parts (list_all is_name_character (chars name)) (not (is_empty_text name)) h in
+    let both = and_parts (list_all is_name_character (chars name)) (has_name_size name) h in
+    let size = and_parts (not (is_empty_text name)) (nat_le (length name) 200) both.1 in
     record {
-      bytes = has_bytes name both.1;
+      bytes = has_bytes name size.0;
       no_blank = no_blank_in is_whitespace refl name (IsUtf8-from_is_utf8 name k) (weaker is_name_character (λ c. not (is_whitespace c)) no_white (chars name) both.0);
     }
 

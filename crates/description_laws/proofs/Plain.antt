@@ -1,17 +1,17 @@
 -- Each text and each name of a description that a TOML text gives is plain, reader by reader.
 use Rattle.std.proofs.lemmas.Grind.{common_steps}
-use Rattle.std.proofs.Common.{ℕ, List, [], ◌++◌, Bool, true, false, Option, Some, refl, codes, arith}
-use Rattle.std.specs.Prelude.{flat_map}
+use Rattle.std.proofs.Common.{ℕ, List, [], ◌++◌, Bool, true, false, Option, Some, None, refl, codes, arith, ◌≡◌}
+use Rattle.std.specs.Prelude.{flat_map, if◌then◌else◌}
 use Rattle.std.specs.Str.{chars}
 use Rattle.toml.specs.Data.{Members}
 use Rattle.description.specs.Words.{WordsSaid, english}
 use Rattle.description.specs.Content.{NameSaid, SpellingSaid, OptSaid, ChoiceSaid, PositionalSaid, TopicSaid, TextsSaid, LevelSaid, GroupsSaid, GroupSaid, CommandsSaid, CommandSaid, DescriptionSaid}
 use Rattle.description_toml.specs.Described.{alternative_keys, choice_from, choice_keys, command_head, command_keys, command_of, CommandHead, commands_at, described, description_head, description_keys, description_of, DescriptionHead, group_of, GroupHead, groups_at, level_of, lists_from, name_from, option_from, option_keys, option_spelling, Outline, outline_from, positional_from, texts_from, title_words, topic_from, topic_keys, help_option_keys, fixed_in, is_syntax, spelling_from, unless_there, option_texts, option_value, positional_texts, required_beside, ValueSaid, language_from, TitleWords}
 use Rattle.description_toml.specs.Described.Taken.{has_distinct_names}
-use Rattle.description_toml.specs.Described.Texts.{as_body, as_command_name, as_heading, as_long, as_name, as_program_name, as_text, as_value, is_body, is_command_name, is_heading, is_long, is_name, is_program_name, is_text, is_value, if_passes, is_line, as_language, is_language_tag}
+use Rattle.description_toml.specs.Described.Texts.{as_body, as_command_name, as_heading, as_long, as_name, as_text, as_value, is_body, is_command_name, is_heading, is_long, is_name, is_short, is_text, is_value, if_passes, is_line, as_language, is_language_tag}
 use Rattle.description_toml.specs.Described.Values.{as_short, each_table, flag_at, if_short, is_empty, optional_at, required_at, table_at, tables_at, as_default, as_syntax, as_texts, as_values, default_text, listed_texts, words_at}
 use Rattle.description_laws.specs.Plain.{each_word, characters_of, choice_characters, command_characters, commands_characters, description_characters, group_characters, groups_characters, initial_characters, level_characters, name_characters, option_characters, spelling_characters, positional_characters, texts_characters, topic_characters, TextsArePlain}
-use Rattle.description_laws.proofs.Characters.{body_plain, colon_plain, command_plain, day_plain, digit_plain, english_plain, heading_plain, language_plain, long_plain, name_plain, Plain, plain_append, plain_cons, plain_each, PlainCharacter, PlainText, program_plain, section_plain, short_plain, title_plain, value_plain, line_plain}
+use Rattle.description_laws.proofs.Characters.{body_plain, colon_plain, command_plain, day_plain, digit_plain, english_plain, heading_plain, language_plain, long_plain, name_plain, Plain, plain_append, plain_cons, plain_each, PlainCharacter, PlainText, section_plain, short_plain, title_plain, value_plain, line_plain}
 use Rattle.description_toml.specs.Syntax.{is_well_formed}
 use Rattle.description_laws.proofs.Readers.{Holding, WordsAre, commands_hold, fixed_hold, group_title, groups_hold, words_there}
 use Rattle.description_toml.proofs.Each.{Each}
@@ -31,8 +31,12 @@ text_there = gives_optional PlainText as_text (gives_text PlainText is_text (λ 
 value_there : (key : List ℕ) (ms : Members) → Gives PlainOption (optional_at as_value key ms)
 value_there = gives_optional PlainText as_value (gives_text PlainText is_value value_plain)
 
+plain_if : (c : ℕ) (b : Bool) → (b ≡ true → PlainCharacter c) → Gives PlainCharacter (if b then Some c else None)
+plain_if c true h = h refl
+plain_if c false h = tt
+
 short_in : (c : ℕ) → Gives PlainCharacter (if_short c)
-short_in c = grind (arith, short_plain)
+short_in c = plain_if c (is_short c) (short_plain c)
 
 short_there : (key : List ℕ) (ms : Members) → Gives (Gives PlainCharacter) (optional_at as_short key ms)
 short_there = grind (arith, gives_optional, gives_then, gives_whatever, short_in)
@@ -268,7 +272,7 @@ pub record PlainHead (h : DescriptionHead) : Type 0 where
 head_there : (ms : Members) → Gives PlainHead (description_head ms)
 unfolding description_head
 head_there = gives_with_only PlainHead description_keys _ (λ ms.
-    gives_then PlainText PlainHead (required_at as_program_name (codes "name") ms) _ (gives_required PlainText as_program_name (gives_text PlainText is_program_name program_plain) (codes "name") ms) (λ name n.
+    gives_then PlainText PlainHead (required_at as_command_name (codes "name") ms) _ (gives_required PlainText as_command_name (gives_text PlainText is_command_name command_plain) (codes "name") ms) (λ name n.
     gives_then PlainWords PlainHead (title_words ms) _ (words_there PlainText section_plain digit_plain title_plain day_plain ms) (λ words w.
     gives_then PlainOption PlainHead (optional_at as_language (codes "language") ms) _ (gives_optional PlainText as_language (gives_text PlainText is_language_tag language_plain) (codes "language") ms) (λ language g.
     gives_then Whatever PlainHead (table_at (codes "words") ms) _ (gives_whatever (table_at (codes "words") ms)) (λ fixed v.

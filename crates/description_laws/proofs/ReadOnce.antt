@@ -1,9 +1,10 @@
 -- The title line and the headings of a description that a TOML text gives hold no backslash and no double quote, reader by reader.
 use Rattle.std.proofs.lemmas.Grind.{common_steps}
-use Rattle.std.proofs.Common.{◌≡◌, ℕ, ◌+◌, List, [], ◌∷◌, ◌++◌, true, false, Option, None, Some, refl, ◌∙◌, arith, codes, flat_map}
+use Rattle.std.proofs.Common.{◌≡◌, ℕ, zero, suc, ◌+◌, length, take, List, [], ◌∷◌, ◌++◌, true, false, Option, None, Some, refl, ◌∙◌, arith, codes, flat_map}
 use Rattle.std.specs.Prelude.{◌&&◌, chars, flat_map, not}
 use Rattle.std.specs.Char.{is_ascii_alphanumeric}
 use Rattle.std.specs.List.{list_all}
+use Rattle.std.specs.Str.{trim_end}
 use Rattle.std.proofs.lemmas.Bool.{and_parts, and_from}
 use Rattle.std.proofs.lemmas.Bool.Decides.{nat_tests}
 use Rattle.std.proofs.lemmas.List.Folds.{list_all-append}
@@ -12,7 +13,7 @@ use Rattle.toml_datetime.specs.Text.{date_text}
 use Rattle.description.specs.Words.{WordsSaid, english}
 use Rattle.description.specs.Content.{OptSaid, TopicSaid, LevelSaid, GroupsSaid, GroupSaid, CommandsSaid, CommandSaid}
 use Rattle.description_toml.specs.Described.{choice_from, command_head, command_keys, command_of, CommandHead, commands_at, described, description_head, description_keys, description_of, DescriptionHead, fixed_in, group_head, group_of, GroupHead, groups_at, level_of, option_from, Outline, outline_from, positional_from, title_words, topic_from, help_option_keys, option_keys, TitleWords}
-use Rattle.description_toml.specs.Described.Texts.{as_command_name, as_program_name, as_text, has_blank_end, is_command_name, is_empty_text, without_colon, is_heading, is_line_character, is_long, is_name, is_program_name, is_read_once, is_section, is_title, as_language}
+use Rattle.description_toml.specs.Described.Texts.{as_command_name, as_text, before_colon, has_blank_end, is_command_name, is_empty_text, without_colon, is_heading, is_long, is_name, is_read_once, is_section, is_title, as_language, is_word_character}
 use Rattle.description_toml.specs.Described.Values.{as_short, each_table, optional_at, required_at, table_at, tables_at, flag_at, words_at}
 use Rattle.description_laws.specs.Plain.{each_word}
 use Rattle.description_laws.specs.ReadOnce.{IsReadOnce, TitlesAreReadOnce, command_headings, commands_headings, given, group_headings, groups_headings, level_headings}
@@ -33,13 +34,10 @@ pub once_append : (xs ys : List ℕ) → Once xs → Once ys → Once (xs ++ ys)
 once_append xs ys h k = list_all-append is_read_once xs ys ∙ and_from (list_all is_read_once xs) (list_all is_read_once ys) h k
 
 title_once : (text : List ℕ) → is_title text ≡ true → Once text
-title_once text h = let both = and_parts (list_all is_line_character (chars text)) (list_all is_read_once text) h in both.1
+title_once text h = let both = and_parts (list_all is_word_character (chars text)) (list_all is_read_once text) h in both.1
 
 heading_once : (text : List ℕ) → is_heading text ≡ true → Once text
 heading_once text h = let both = and_parts (is_title text) (not (has_blank_end text) && not (is_empty_text (without_colon text))) h in title_once text both.0
-
-program_once : (text : List ℕ) → is_program_name text ≡ true → Once text
-program_once text h = let both = and_parts (is_name text) (list_all is_read_once text) h in both.1
 
 command_once : (text : List ℕ) → is_command_name text ≡ true → Once text
 command_once text h = let both = and_parts (is_long text) (list_all is_read_once text) h in both.1
@@ -141,7 +139,7 @@ pub record OnceHead (h : DescriptionHead) : Type 0 where
 head_there : (ms : Members) → Gives OnceHead (description_head ms)
 unfolding description_head
 head_there = gives_with_only OnceHead description_keys _ (λ ms.
-    gives_then Once OnceHead (required_at as_program_name (codes "name") ms) _ (gives_required Once as_program_name (gives_text Once is_program_name program_once) (codes "name") ms) (λ name n.
+    gives_then Once OnceHead (required_at as_command_name (codes "name") ms) _ (gives_required Once as_command_name (gives_text Once is_command_name command_once) (codes "name") ms) (λ name n.
     gives_then OnceWords OnceHead (title_words ms) _ (words_there Once section_once (λ n h. dates_once ((48 + n) ∷ []) (digit_bytes n h)) title_once (λ d. dates_once (date_text d) (date_bytes d)) ms) (λ words w.
     gives_then Whatever OnceHead (optional_at as_language (codes "language") ms) _ (gives_whatever (optional_at as_language (codes "language") ms)) (λ language g.
     gives_then Whatever OnceHead (table_at (codes "words") ms) _ (gives_whatever (table_at (codes "words") ms)) (λ fixed v.
@@ -162,10 +160,13 @@ english_once : OnceFixed english
 english_once = (refl, (refl, (refl, (refl, (refl, (refl, (refl, (refl, (refl, (refl, (refl, (refl, (refl, (refl, (refl, tt)))))))))))))))
 
 -- a text without its colon
+taken_once : (k : ℕ) (text : List ℕ) → Once text → Once (take k text)
+taken_once zero text h = refl
+taken_once (suc k) [] h = h
+taken_once (suc k) (b ∷ text) h = let both = and_parts (is_read_once b) (list_all is_read_once text) h in and_from (is_read_once b) (list_all is_read_once (take k text)) both.0 (taken_once k text both.1)
+
 colon_once : (text : List ℕ) → Once text → Once (without_colon text)
-colon_once [] h = h
-colon_once (b ∷ []) h = grind (arith)
-colon_once (b ∷ c ∷ text) h = let both = and_parts (is_read_once b) (list_all is_read_once (c ∷ text)) h in and_from (is_read_once b) (list_all is_read_once (without_colon (c ∷ text))) both.0 (colon_once (c ∷ text) both.1)
+colon_once text h = taken_once (length (trim_end (before_colon text))) text h
 
 words_once : (o : Option Members) → Gives OnceFixed (fixed_in o)
 words_once = fixed_hold Once english_once (λ text h. colon_once text (heading_once text h))
