@@ -10,9 +10,11 @@ WORDS = [
     "\t", "\"", "\"\"\"", "'''", "long-long-word-of-some-length", "a" * 40, "x", "", "name", "=", "$HOME", "{}", "%s",
 ]
 JOINTS = [" ", " ", " ", " ", "", "  ", "\n", "\n ", "\n\n", "\n\n\n", "\n    ", "\n```\n", "\n\n```text\n", "\n- ", ", "]
-LETTERS = "abcdefghijklmnopqrstuvwxyzABCXYZ0123456789-_.'\"\\<>&*`[]/:@éß日한ｆ😀❤\u0301\u200b#$%+~|"
+LETTERS = "abcdefghijklmnopqrstuvwxyzABCXYZ0123456789-_.'\"\\<>&*`[]/:@éß日한ｆ😀❤\u0301#$%+~|"
 SECTIONS = ["1", "2", "3", "4", "5", "6", "7", "8", "9", "0", "1p", "3posix2X", "n", "lx", 0, 1, 7, 9]
 TWICE = "\\\""
+# What is not seen. No word and no name holds it.
+HIDDEN = {0x200B, 0xFEFF, *range(0x202A, 0x202F), *range(0x2060, 0x2070), *range(0xE0000, 0xE0080)}
 # What a syntax is made of.
 PIECES = ["-", "--", "-x", "--word", "--[no-]", "FILE", "WHEN", "file", "N", "a_B", "...", "é", "日", " ", " ", ",", ", ", "=", "|", "[", "(", "<", "{", "[=", "0", "\\", "\"", "`", ".", "'"]
 CLOSING = {"[": "]", "(": ")", "<": ">", "{": "}"}
@@ -38,8 +40,8 @@ class Describer:
         return self.text().replace("\n", " ").replace("\t", " ")
 
     def word(self):
-        """A text on one line with something in it."""
-        return self.line() or "x"
+        """A text on one line with something in it, all of which is seen."""
+        return "".join(c for c in self.line() if ord(c) not in HIDDEN) or "x"
 
     def title(self):
         """A text that a macro of roff may read twice."""
@@ -201,7 +203,7 @@ class Describer:
         return others + ([table["name"]] if self.some(0.1) else [])
 
     def description(self):
-        table = {"name": self.random.choice(["app", "git-log", "-" + self.command_name(), self.command_name()])}
+        table = {"name": self.random.choice(["app", "git-log", self.command_name()])}
         self.maybe(table, "section", lambda: self.random.choice(SECTIONS))
         self.maybe(table, "date", lambda: self.random.choice(["November 2026", "", self.title(), Day(2026, 11, 23), Day(987, 1, 2)]))
         self.maybe(table, "vendor", self.title, 0.3)

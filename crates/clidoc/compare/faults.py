@@ -87,7 +87,7 @@ def values(table, kind, alternative):
 def syntaxes(table):
     """Faults in how an option is written, by a name that no other one has."""
     own = ["short", "long", "value", "syntax"]
-    for text, said in [("", "is empty"), ("-☃,", "holds an empty piece"), ("-☃[", "holds a bracket that is in no pair"), ("-☃ [X}", "holds a bracket that is in no pair"), ("-☃\tX", "holds a control character")]:
+    for text, said in [("", "is empty"), ("\u3000", "is blank"), ("-☃,", "holds an empty piece"), ("-☃, \u3000", "holds an empty piece"), ("-☃[", "holds a bracket that is in no pair"), ("-☃ [X}", "holds a bracket that is in no pair"), ("-☃\tX", "holds a control character")]:
         yield {"syntax": text}, own, f"syntax {said}"
     for key, text in [("short", "Q"), ("long", "q" * 40)]:
         yield {"syntax": "-☃ X", key: text}, own, f"syntax stands beside {key}"
@@ -109,6 +109,7 @@ def characters(kind):
         yield {key: "a\ufffeb"}, [], f"{key} holds a noncharacter"
     for key in WORDS.get(kind, []) + TITLES.get(kind, []):
         yield {key: "a\nb"}, [], f"{key} holds a control character"
+        yield {key: "a\u2066b"}, [], f"{key} holds a character that is not seen"
     for key in WORDS.get(kind, []):
         yield {key: ""}, [], f"{key} is empty"
     for key in TITLES.get(kind, []):
@@ -117,10 +118,11 @@ def characters(kind):
     if kind in ["group", "topic"]:
         yield {"title": " \u3000"}, [], "title begins with a blank"
     if kind == "topic":
-        yield {"text": ""}, [], "text is empty"
+        for text in ["", " \n\t", "```\n```"]:
+            yield {"text": text}, [], "text is empty"
 
 
-WHY = {"": "is empty", "a b": "holds a blank", "a\n": "holds a blank", "a\u0007": "holds a control character", "a=": "holds =", "a\ufdd0": "holds a noncharacter"}
+WHY = {"": "is empty", "a b": "holds a blank", "a\n": "holds a blank", "a\u0007": "holds a control character", "a=": "holds =", "a\ufdd0": "holds a noncharacter", "a\u202e": "holds a character that is not seen", "\u200da": "holds a character that is not seen"}
 
 
 def names(kind):
@@ -131,7 +133,7 @@ def names(kind):
         if key == "name":
             yield {key: "a\\"}, [], f"{key} holds a backslash"
             yield {key: "a\""}, [], f"{key} holds a double quote"
-        if key == "long" or kind == "command":
+        if key in ["long", "name"]:
             yield {key: "-a"}, [], f"{key} begins with -"
     if kind in ["option", "command"]:
         for text in ["", "ab", "日本"]:

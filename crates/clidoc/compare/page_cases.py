@@ -36,10 +36,12 @@ def fitting(key, text):
     if key in TEXTS:
         return text
     text = text.replace("\n", " ").replace("\t", " ")
+    if key != "default":
+        text = "".join(letter for letter in text if ord(letter) not in describing.HIDDEN)
     if key in TITLES or key in NAMES - {"long", "env"}:
         text = text.replace("\\", "").replace('"', "")
     if key in NAMES:
-        return "".join(letter for letter in text if not letter.isspace() and letter != "=").lstrip("-") or "x"
+        return "".join(letter for letter in text if not letter.isspace() and letter not in "=\u200c\u200d\u200e\u200f").lstrip("-") or "x"
     return text
 
 

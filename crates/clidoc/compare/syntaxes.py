@@ -41,7 +41,7 @@ def pieces(syntax):
 
 
 def is_syntax(syntax):
-    return depths(syntax) is not None and all(pieces(syntax))
+    return depths(syntax) is not None and all(piece.strip() for piece in pieces(syntax))
 
 
 def names(syntax):

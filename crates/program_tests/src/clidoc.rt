@@ -1,5 +1,6 @@
 //! Tests of `clidoc_engine`, and what is said of bad input and of input that would better say something otherwise.
 
+mod echoes;
 pub mod ends;
 mod faults;
 mod folders;

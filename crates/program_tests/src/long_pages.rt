@@ -27,8 +27,12 @@ const MAN_TEXT: Frame = (
 
 const TEXTS: &[Frame] = &[FULL_TEXT, BRIEF_TEXT, HTML_TEXT, MARKDOWN_TEXT, MAN_TEXT];
 
-// Around a name in a usage.
-const NAME: Frame = (Asked::Clidoc(Form::Usage), "name = \"@\"\n", "@\n");
+// Around a usage.
+const USAGE: Frame = (
+    Asked::Clidoc(Form::Usage),
+    "name = \"app\"\nusage = \"@\"\n",
+    "@\n",
+);
 
 // Around what a description says in short.
 const FULL: Frame = (
@@ -74,7 +78,7 @@ const BRIEF_HELP: Frame = (
     "Usage: app [--verbose-as-can]\n\nOptions:\n        --verbose-as-can  a@\n",
 );
 
-const FRAMES: &[Frame] = &[NAME, FULL, BRIEF, MARKDOWN, MAN, HTML];
+const FRAMES: &[Frame] = &[USAGE, FULL, BRIEF, MARKDOWN, MAN, HTML];
 
 // Whether the page of each form comes through drawn ends, with words of these sizes by turns.
 fn each_form_comes_through(global: Global, draws: &mut Draws, sizes: [usize; 2]) -> bool {
@@ -162,23 +166,28 @@ pub fn push_between(
     text.push_str(behind)
 }
 
-// A text with many names of their own, each of which fills a line, between these two.
-fn names(global: Global, head: &str, around: [&str; 2], back: &str) -> Result<String, AllocError> {
-    let name = "x".repeat(global, 1500)?;
+// A text with many words of their own, each of which fills a line, between these two.
+fn words_between(
+    global: Global,
+    head: &str,
+    around: [&str; 2],
+    back: &str,
+) -> Result<String, AllocError> {
+    let word = "X".repeat(global, 1500)?;
     let mut text = String::from_str(global, head)?;
     for size in 100..1500usize {
-        push_between(&mut text, around, front(&name, size))?;
+        push_between(&mut text, around, front(&word, size))?;
     }
     text.push_str(back)?;
     Ok(text)
 }
 
 // Whether a large page comes through whose description is large too.
-fn shows_names(global: Global) -> Result<bool, AllocError> {
-    let option = ["[[option]]\nlong = '", "'\nrequired = true\n"];
+fn shows_words(global: Global) -> Result<bool, AllocError> {
+    let positional = ["[[positional]]\nvalue = '", "'\n"];
     let head = "name = 'app'\n[[option]]\nshort = 'v'\nrequired = true\n";
-    let input = names(global, head, option, "")?;
-    let page = names(global, "app -v", ["\n    --", ""], "\n")?;
+    let input = words_between(global, head, positional, "")?;
+    let page = words_between(global, "app -v", ["\n    ", ""], "\n")?;
     let (input, page) = (input.as_bytes(), page.as_bytes());
     Ok(
         input.len() > LARGE
@@ -194,5 +203,5 @@ fn large_pages_come_through(rt: HostRuntime) {
         assert!(rt; shows.unwrap_or(false), "{shown}");
     }
     // A long description is read to its end.
-    assert!(rt; shows_names(rt.alloc()).unwrap_or(false));
+    assert!(rt; shows_words(rt.alloc()).unwrap_or(false));
 }

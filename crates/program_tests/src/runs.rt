@@ -9,8 +9,10 @@ use std::alloc::Global;
 
 // Wrong words with bars between them, and on the next line what says so. Behind each row stands an empty line.
 const WRONG: &str = "clidoc
-clidoc [--command=NAME]... [--deep] [--width=COLUMNS] [--fragment] [--strict] [--into=FOLDER]
-       [--date=DATE] [--vendor=TEXT] FORM [FILE]
+clidoc FORM [--command NAME]... [--deep] [--width COLUMNS] [--fragment] [--date DATE]
+       [--vendor TEXT] [FILE]
+clidoc all --into FOLDER [--date DATE] [--vendor TEXT] [FILE]
+clidoc check [--strict] [FILE]
 
 clidoc|--width=3
 clidoc: no form; forms are usage, full, brief, man, markdown, html, check and all
@@ -64,10 +66,10 @@ clidoc|full|-x
 clidoc: no option -x; options are --command, --deep, --width, --fragment, --strict, --into, --date, --vendor, --help and --version
 
 clidoc|full|--width|0
-clidoc: no number of columns: 0
+clidoc: --width is a number of columns from 1 on, and not 0
 
 clidoc|full|--width=+80
-clidoc: no number of columns: +80
+clidoc: --width is a number of columns from 1 on, and not +80
 
 clidoc|--width=1|full|--width=2
 clidoc: --width stands twice
@@ -175,7 +177,7 @@ clidoc|check|--date|x
 clidoc: --date is no option of check; it goes with man, html and all
 
 clidoc|all
-clidoc: all goes with --into FOLDER
+clidoc: all needs a folder: --into FOLDER
 
 clidoc|--into=a|all|--into|b
 clidoc: --into stands twice
@@ -375,8 +377,10 @@ clidoc|check|--strict|-
 clidoc|--help
 Makes pages of the description of a command line.
 
-Usage: clidoc [--command=NAME]... [--deep] [--width=COLUMNS] [--fragment] [--strict] [--into=FOLDER]
-              [--date=DATE] [--vendor=TEXT] FORM [FILE]
+Usage: clidoc FORM [--command NAME]... [--deep] [--width COLUMNS] [--fragment] [--date DATE]
+              [--vendor TEXT] [FILE]
+       clidoc all --into FOLDER [--date DATE] [--vendor TEXT] [FILE]
+       clidoc check [--strict] [FILE]
 
 The description is read from FILE, or else from standard input, in TOML, and the page is written to
 standard output. The program that is described may be written in any language.
@@ -386,7 +390,7 @@ Arguments:
 
                          - usage: the usage alone.
                          - full: the help page.
-                         - brief: the help page, with the first paragraph of each text.
+                         - brief: the help page, with the first block of each text.
                          - man: a manual page.
                          - markdown: a page in markdown.
                          - html: an HTML page with all commands below.
@@ -437,6 +441,10 @@ Options:
 
     -h, --help           Print this page
     -V, --version        Print the version
+
+Environment:
+    - CLIDOC_INPUT_MIB: so many MiB are read at most, 16 where it is not set.
+    - CLIDOC_OUTPUT_MIB: so many MiB are written at most, 256 where it is not set.
 
 Examples:
     On the terminal, of the description in greet.toml:
@@ -630,11 +638,13 @@ fn usage_fits(global: Global) -> bool {
     ends_with(global, &desk, 2, 0, true)
 }
 
-const NARROW_USAGE: &str = "clidoc [--command=NAME]... [--deep]
-       [--width=COLUMNS] [--fragment]
-       [--strict] [--into=FOLDER]
-       [--date=DATE] [--vendor=TEXT]
-       FORM [FILE]";
+const NARROW_USAGE: &str = "clidoc FORM [--command NAME]... [--deep]
+       [--width COLUMNS] [--fragment]
+       [--date DATE] [--vendor TEXT]
+       [FILE]
+clidoc all --into FOLDER [--date DATE]
+       [--vendor TEXT] [FILE]
+clidoc check [--strict] [FILE]";
 
 #[test]
 fn the_environment_says_the_columns(rt: HostRuntime) {
@@ -687,7 +697,7 @@ const ROWS: &[Row] = &[
         b"name = 'app\xff'\n",
         1,
         b"",
-        "-: the input is not UTF-8",
+        "-:1:12: the text is not UTF-8",
     ),
 ];
 
@@ -838,7 +848,7 @@ const FAULTY: &[Faulty] = &[
         FIRST,
         2,
         0,
-        "clidoc [--command=NAME]... [--deep] [--width=COLUMNS] [--fragment] [--strict] [--into=FOLDER]\n       [--date=DATE] [--vendor=TEXT] FORM [FILE]",
+        "clidoc FORM [--command NAME]... [--deep] [--width COLUMNS] [--fragment] [--date DATE]\n       [--vendor TEXT] [FILE]\nclidoc all --into FOLDER [--date DATE] [--vendor TEXT] [FILE]\nclidoc check [--strict] [FILE]",
     ),
     (
         "clidoc|full",
@@ -874,7 +884,7 @@ const FAULTY: &[Faulty] = &[
         FIRST,
         1,
         0,
-        "-: the input is not UTF-8",
+        "-:1:3: the text is not UTF-8",
     ),
     (
         "clidoc|full",

@@ -4,6 +4,8 @@
 writes this, and `keeps` is what of it a reader can give back: no ids, targets and small letters in titles, texts for
 links, and the terms of an entry in one line.
 """
+import re
+
 from pages.tree import element, is_a, joined, merged, one_line, plain
 
 GLYPHS = {"-": "\\-", "\\": "\\e", "'": "\\(aq", "`": "\\(ga", "^": "\\(ha", "~": "\\(ti", '"': "\\(dq"}
@@ -115,12 +117,17 @@ def guarded(line, is_code=False):
     return front + line + ("\\&" if line.endswith(" ") else "")
 
 
+def has_letter(text):
+    """Whether a text has a letter, as which any character counts that is not of ASCII."""
+    return any(letter.isalpha() or not letter.isascii() for letter in text)
+
+
 def shown(node, keeps_whole=False):
-    """What stands within a line. A literal with a letter is not hyphenated where the line is filled."""
+    """What stands within a line. A literal with a letter is not hyphenated where it is kept whole."""
     if isinstance(node, str):
         return escaped(node)
     text = plain(node.inside)
-    mark = "\\%" if keeps_whole and any(letter.isascii() and letter.isalpha() for letter in text) else ""
+    mark = "\\%" if keeps_whole and has_letter(text) else ""
     if node.kind == "reference":
         return f"\\fB{mark}{escaped(text)}\\fP({escaped(node.said['section'])})"
     return {
@@ -131,9 +138,20 @@ def shown(node, keeps_whole=False):
     }[node.kind]
 
 
+def last_letter(node):
+    """The last letter that a part of a line shows, if it shows one."""
+    if isinstance(node, str):
+        return node[-1:]
+    return {"reference": ")", "break": " "}.get(node.kind) or plain(node.inside)[-1:]
+
+
 def filled(nodes, keeps_whole=True):
-    """The input lines of a paragraph or an item."""
-    lines = "".join(shown(node, keeps_whole) for node in nodes).split("\n")
+    """The input lines of a paragraph or an item. Within a word the sign that keeps one whole would make a hyphen."""
+    written, last = "", " "
+    for node in nodes:
+        written += shown(node, keeps_whole and last == " ")
+        last = last_letter(node) or last
+    lines = written.split("\n")
     return joined([[guarded(line)] for line in lines], ".br")
 
 
@@ -169,10 +187,15 @@ def entry_lines(entry):
     return [".TP", *filled(terms, False), *body_lines(entry.child("body").inside)]
 
 
+def ends_sentence(text):
+    """Whether a text ends with a stop, and what may close behind one."""
+    return re.search(r"[.?!][)\]\"'* \u0080-\U0010ffff]*\Z", text) is not None
+
+
 def part_line(part):
-    """A part of a usage: it is broken at no blank, and its dots end no sentence."""
+    """A part of a usage: it is broken at no blank, and ends no sentence."""
     line = "".join(map(shown, part.inside)).replace(" ", "\\~")
-    return guarded(line + "\\&" if line.endswith(".") else line)
+    return guarded(line + "\\&" if ends_sentence(plain(part.inside)) else line)
 
 
 def usage_lines(usage):

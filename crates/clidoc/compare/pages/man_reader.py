@@ -69,11 +69,13 @@ def letter_of(match):
 
 def within(text):
     """What stands within a line: texts, and what is bold or italic."""
-    font, inside, at = None, [], 0
+    font, inside, at, last = None, [], 0, " "
     for match in ESCAPE.finditer(text):
         if match.start() != at:
             break
         at = match.end()
+        if match["one"] == "%" and last != " ":
+            raise Refused(f"a place to hyphenate in a word: {text}")
         if match["font"] and (match["font"] == "P") != bool(font):
             raise Refused(f"a font in a font, or the end of none: {text}")
         if match["font"] == "P":
@@ -83,6 +85,7 @@ def within(text):
             font = FONTS[match["font"]]
         else:
             letter = letter_of(match)
+            last = letter or last
             if font:
                 inside.append(letter)
             else:

@@ -26,12 +26,25 @@ def arranged(page):
                 found.append(element("heading", *part.inside, rank=1))
             elif is_a(part, "usage"):
                 found.append(element("code", "\n".join(map(form_line, part.inside))))
-            elif is_a(part, "section"):
+            elif is_a(part, "section") and (inside := beside(part.inside[1:], links.below)):
                 found.append(element("heading", *part.child("heading").inside, rank=rank))
-                found += [entry_list(child, links) if is_a(child, "entries") else child for child in part.inside[1:]]
+                found += [entry_list(child, links) if is_a(child, "entries") else child for child in inside]
             elif is_a(part, "about", "header"):
                 found += part.inside
     return element("page", *[links.resolved(block) for block in merged(found)])
+
+
+def beside(blocks, below):
+    """Blocks without references to levels that stand on this page."""
+    found = []
+    for block in blocks:
+        links = [node for node in block.inside if is_a(node, "reference")]
+        near = [[link] for link in links if link.said["to"] not in below]
+        if not links:
+            found.append(block)
+        elif near:
+            found.append(element("paragraph", *joined(near, ", ")))
+    return found
 
 
 def form_line(form):
@@ -73,6 +86,8 @@ class Links:
         inside = map(self.resolved, node.inside)
         if node.kind == "reference":
             return element("link", *inside, address=self.of_page(node.said["to"]))
+        if node.kind == "link" and "{" in node.said["address"]:
+            return plain(node.inside)
         return element(node.kind, *inside, **node.said)
 
 

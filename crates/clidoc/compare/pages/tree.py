@@ -69,9 +69,9 @@ def without_pieces(node):
 
 
 def one_line(nodes):
-    """What stands within a line, with blanks for line breaks, and without the full stop at its end."""
+    """What stands within a line, with blanks for line breaks, and without the full stop at its end, but behind another."""
     inside = [" " if is_a(node, "break") else node for node in nodes]
-    if inside and isinstance(inside[-1], str):
+    if inside and isinstance(inside[-1], str) and not inside[-1].endswith(".."):
         inside[-1] = inside[-1].removesuffix(".").rstrip(" ")
     return inside
 

@@ -20,8 +20,8 @@ WORDS = {
 
 
 def title(text):
-    """A title without the colon at its end."""
-    return text.removesuffix(":")
+    """A title without the colon at its end, and the white space in front of that."""
+    return text.removesuffix(":").rstrip()
 
 
 def words_of(top):

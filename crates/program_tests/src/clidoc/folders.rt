@@ -428,8 +428,8 @@ const FILES: &[(&str, &[u8], &str)] = &[
     ),
     (
         "clidoc|html|my.toml",
-        b"name = 'a\xff'",
-        "my.toml: the input is not UTF-8",
+        b"name = 'a'\r\n# \xc3\xa9\xc3\xff",
+        "my.toml:2:4: the text is not UTF-8",
     ),
 ];
 
@@ -546,15 +546,32 @@ fn a_refused_growth_makes_no_files(rt: HostRuntime) {
 // Names of files with bars between them, and behind an arrow the line that refuses them, if they are refused. The first
 // that is refused is told, with the first behind it that is like it.
 const NAMES: &str = "a.1|a-b.1|a.md
-\u{e9}.1|\u{c9}.1|\u{212a}.1|k.1
 aaaaaaaaaaaaaaaaaaaaaaaaaaaaaaaaaaaaaaaaaaaaaaaaaaaaaaaaaaaaaaaaaaaaaaaaaaaaaaaaaaaaaaaaaaaaaaaaaaaaaaaaaaaaaaaaaaaaaaaaaaaaaaaaaaaaaaaaaaaaaaaaaaaaaaaaaaaaaaaaaaaaaaaaaaaaaaaaaaaaaaaaaaaaaaaaaaaaaaaa
-aaaaaaaaaaaaaaaaaaaaaaaaaaaaaaaaaaaaaaaaaaaaaaaaaaaaaaaaaaaaaaaaaaaaaaaaaaaaaaaaaaaaaaaaaaaaaaaaaaaaaaaaaaaaaaaaaaaaaaaaaaaaaaaaaaaaaaaaaaaaaaaaaaaaaaaaaaaaaaaaaaaaaaaaaaaaaaaaaaaaaaaaaaaaaaaaaaaaaaaaa => clidoc: file name aaaaaaaaaaaaaaaaaaaaaaaaaaaaaaaaaaaaaaaaaaaaaaaaaaaaaaaaaaaaaaaaaaaaaaaaaaaaaaaaaaaaaaaaaaaaaaaaaaaaaaaaaaaaaaaaaaaaaaaaaaaaaaaaaaaaaaaaaaaaaaaaaaaaaaaaaaaaaaaaaaaaaaaaaaaaaaaaaaaaaaaaaaaaaaaaaaaaaaaaa is over 200 bytes long
+aaaaaaaaaaaaaaaaaaaaaaaaaaaaaaaaaaaaaaaaaaaaaaaaaaaaaaaaaaaaaaaaaaaaaaaaaaaaaaaaaaaaaaaaaaaaaaaaaaaaaaaaaaaaaaaaaaaaaaaaaaaaaaaaaaaaaaaaaaaaaaaaaaaaaaaaaaaaaaaaaaaaaaaaaaaaaaaaaaaaaaaaaaaaaaaaaaaaaaaaa => clidoc: file name aaaaaaaaaaaaaaaaaaaaaaaaaaaaaaaaaaaaaaaaaaaaaaaaaaaaaaaaaaaa.. is over 200 bytes long
 a.1|a/b.1 => clidoc: file name a/b.1 holds a slash
 .a.1 => clidoc: file name .a.1 begins with a dot
 a.1|b.1|a.1 => clidoc: two files have the name a.1
 b.1|a-B.1|c.1|A-b.1 => clidoc: file names a-B.1 and A-b.1 differ in case alone
 a.1|b/c.1|B.1|A.1|a.1 => clidoc: file names a.1 and A.1 differ in case alone
-b/c.1|a.1|a.1 => clidoc: file name b/c.1 holds a slash";
+b/c.1|a.1|a.1 => clidoc: file name b/c.1 holds a slash
+-a.1 => clidoc: file name -a.1 begins with -
+a-.1|a.-1|a1..2
+a:b.1 => clidoc: file name a:b.1 holds one of \" * : < > ? \\ |, which other systems refuse
+c.1|a<b>.1 => clidoc: file name a<b>.1 holds one of \" * : < > ? \\ |, which other systems refuse
+con.1 => clidoc: file name con.1 is a device of other systems
+Nul.tar.md => clidoc: file name Nul.tar.md is a device of other systems
+COM7.html => clidoc: file name COM7.html is a device of other systems
+lpt0 => clidoc: file name lpt0 is a device of other systems
+con-a.1|cons.1|co.1|com.1|coma.1|com10.1|lpd1.1|xcon.1|.con => clidoc: file name .con begins with a dot
+con-a.1|cons.1|co.1|com.1|coma.1|com10.1|lpd1.1|xcon.1
+index.1|index.md|index.html => clidoc: file name index.html is that of the page of the folder itself
+Index.HTML => clidoc: file name Index.HTML is that of the page of the folder itself
+index.1|index.htm|indexes.html|a-index.html
+\u{e9}.1|b.1|\u{c9}.1 => clidoc: file names \u{e9}.1 and \u{c9}.1 are one to some systems
+e\u{301}.1|\u{e9}.1 => clidoc: file names e\u{301}.1 and \u{e9}.1 are one to some systems
+k.1|\u{212a}.1 => clidoc: file names k.1 and \u{212a}.1 are one to some systems
+stra\u{df}e.1|STRASSE.1 => clidoc: file names stra\u{df}e.1 and STRASSE.1 are one to some systems
+\u{e9}.1|e.1|\u{e8}.1|\u{fb01}.1|fi.2";
 
 fn files_named(alloc: Global, names: &str) -> Result<Vec<PageFile>, AllocError> {
     let mut files = Vec::new(alloc);
@@ -572,7 +589,7 @@ fn pass_on(files: &[PageFile], global: Global, budget: usize) -> Option<bool> {
     let Ok(heap) = LocalHeap::new(global, budget) else {
         return Some(false);
     };
-    match check_names(&heap, files) {
+    match check_names(&heap, global, files) {
         Ok(judged) => Some(judged.is_ok()),
         Err(AllocError) => None,
     }
@@ -593,7 +610,7 @@ fn pass_when_ample(global: Global) -> Result<bool, AllocError> {
 fn are_judged(alloc: Global, row: &str) -> Result<bool, AllocError> {
     let (names, line) = row.split_once(" => ").unwrap_or((row, ""));
     let files = files_named(alloc, names)?;
-    let is_said = match check_names(alloc, &files)? {
+    let is_said = match check_names(alloc, alloc, &files)? {
         Ok(()) => line.is_empty(),
         Err(fault) => says(&fault, line),
     };

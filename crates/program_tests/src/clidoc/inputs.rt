@@ -39,17 +39,94 @@ fn no_more_is_read_than_may_be(rt: HostRuntime) {
     }
 }
 
-// Whether a byte more than may be read is said.
-fn is_said(global: Global) -> Result<bool, AllocError> {
-    let input = vec![in global; 0u8; (16 << 20) + 1]?;
-    let heap = LocalHeap::new(global, 64 << 20)?;
-    let line = "-: the input is over 16 MiB long";
-    let desk = Desk::new(global, "clidoc|check", Ends::new(&input, b""), line);
+// Whether the input is written where so many bytes may be, and else said to be over.
+fn is_written(global: Global, most: usize) -> Option<bool> {
+    let mut writer = Watched::new(Bounded::new(Vec::new(global), most));
+    let is_written = writer.write_all(INPUT).is_ok();
+    let is_over = writer.into_inner().is_over();
+    if is_over == is_written {
+        None
+    } else {
+        Some(is_written)
+    }
+}
+
+#[test]
+fn no_more_is_written_than_may_be(rt: HostRuntime) {
+    for most in 0..8usize {
+        let want = most >= INPUT.len();
+        assert!(rt; is_written(rt.alloc(), most) == Some(want), "{most}");
+    }
+}
+
+// How much memory a run has here.
+const ROOM: usize = 64 << 20;
+
+const MIB: usize = 1 << 20;
+
+// Whether a run of these words on the input, where the environment has this variable, fails with the line, and writes
+// nothing.
+fn is_told(
+    global: Global,
+    words: &str,
+    input: &[u8],
+    (variable, said): (&str, &str),
+    line: &str,
+) -> Result<bool, AllocError> {
+    let heap = LocalHeap::new(global, ROOM)?;
+    let desk = Desk::new(global, words, Ends::new(input, b""), line);
+    let desk = desk.with_variable(variable, said.as_bytes());
     let status = run(&(&desk, &heap), global);
     Ok(status == ExitCode::from(1) && desk.has_printed(0, true))
 }
 
+// Whether a byte more than may be read is said.
+fn is_long(
+    global: Global,
+    mib: usize,
+    variable: (&str, &str),
+    line: &str,
+) -> Result<bool, AllocError> {
+    let input = vec![in global; b'\n'; mib.saturating_mul(MIB).saturating_add(1)]?;
+    is_told(global, "clidoc|check", &input, variable, line)
+}
+
 #[test]
 fn a_long_input_is_said(rt: HostRuntime) {
-    assert!(rt; is_said(rt.alloc()) == Ok(true));
+    let usual = "-: the input is over 16 MiB long; CLIDOC_INPUT_MIB sets the bound";
+    assert!(rt; is_long(rt.alloc(), 16, ("OTHER", "1"), usual) == Ok(true));
+    let set = "-: the input is over 2 MiB long; CLIDOC_INPUT_MIB sets the bound";
+    assert!(rt; is_long(rt.alloc(), 2, ("CLIDOC_INPUT_MIB", "2"), set) == Ok(true));
+}
+
+// Whether a page of more than a MiB is said, and nothing of it written.
+fn is_large(global: Global) -> Result<bool, AllocError> {
+    let line = "clidoc: the page is over 1 MiB long; CLIDOC_OUTPUT_MIB sets the bound";
+    let mut input = String::from_str(global, "name = 'a'\nabout = '    ")?;
+    input.push_str(&"x".repeat(global, MIB)?)?;
+    input.push_str("'\n")?;
+    let variable = ("CLIDOC_OUTPUT_MIB", "1");
+    is_told(global, "clidoc|markdown", input.as_bytes(), variable, line)
+}
+
+#[test]
+fn a_large_page_is_said(rt: HostRuntime) {
+    assert!(rt; is_large(rt.alloc()) == Ok(true));
+}
+
+#[test]
+fn a_bound_that_is_no_number_is_said(rt: HostRuntime) {
+    for (said, shown) in [
+        ("0", "0"),
+        ("+1", "+1"),
+        ("", ""),
+        ("a\u{1b}", "\"a\\u{1b}\""),
+    ] {
+        for variable in ["CLIDOC_INPUT_MIB", "CLIDOC_OUTPUT_MIB"] {
+            let line = format!(in rt.alloc(); "clidoc: {variable} is no number of MiB: {shown}");
+            let line = line.unwrap();
+            let is_told = is_told(rt.alloc(), "clidoc|man", b"", (variable, said), &line);
+            assert!(rt; is_told == Ok(true), "{line}");
+        }
+    }
 }

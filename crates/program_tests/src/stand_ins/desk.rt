@@ -26,7 +26,7 @@ pub struct Desk<'a> {
     global: Global,
     pub words: &'a str,
     garbles_words: bool,
-    columns: Option<&'a [u8]>,
+    variable: Option<(&'a str, &'a [u8])>,
     input: ScriptedReader<'a>,
     output: Cell<ScriptedWriter<'a>>,
     said: Cell<Line<'a>>,
@@ -41,7 +41,7 @@ impl<'a> Desk<'a> {
             global,
             words,
             garbles_words: false,
-            columns: None,
+            variable: None,
             input: ends.reader(),
             output: Cell::new(ends.writer()),
             said: Cell::new(Line::new(line)),
@@ -62,8 +62,13 @@ impl<'a> Desk<'a> {
     }
 
     /// The same, with an environment whose variable COLUMNS has these bytes.
-    pub fn on_terminal(mut self, columns: &'a [u8]) -> Desk<'a> {
-        self.columns = Some(columns);
+    pub fn on_terminal(self, columns: &'a [u8]) -> Desk<'a> {
+        self.with_variable("COLUMNS", columns)
+    }
+
+    /// The same, with an environment that has this variable alone.
+    pub fn with_variable(mut self, name: &'a str, bytes: &'a [u8]) -> Desk<'a> {
+        self.variable = Some((name, bytes));
         self
     }
 
@@ -118,8 +123,8 @@ impl Env for Desk<'_> {
     }
 
     fn var(&self, name: &str, buf: &mut [u8]) -> Result<usize, FillError> {
-        match self.columns {
-            Some(columns) if name == "COLUMNS" => put_into(buf, columns),
+        match self.variable {
+            Some((variable, bytes)) if name == variable => put_into(buf, bytes),
             _ => Err(FillError::NotPresent),
         }
     }
