@@ -22,6 +22,9 @@ pub mod reading;
 // keyed
 pub mod places;
 
+// description_json
+pub mod json_reading;
+
 // description_texts
 pub mod text_entry;
 
@@ -40,8 +43,14 @@ pub mod command_help;
 // lasting_names
 pub mod naming;
 
+// file_names
+pub mod file_naming;
+
 // watched
 pub mod ends;
+
+// shown_words
+pub mod line_about;
 
 // web_page
 pub mod note;
