@@ -1,15 +1,11 @@
 #!/usr/bin/env python3
-"""Each row of the rules stands in docs/lists/ROWS.md with what runs it: a request of a program, an equation or a test.
-
-Prints the rows that are not there, and those that nothing runs. Ends with status 1 where there is any. `rows.py write` writes the page.
-"""
+"""Prints the rows of the rules, each with what runs it: a request of a program, an equation or a test."""
 import re
 import sys
 
 import common
 
 CRATES = common.TOP / "crates"
-PAGE = common.TOP / "docs" / "lists" / "ROWS.md"
 HEAD = """# Rows of the rules
 
 A row is an input with what comes of it. Each has a number here, in the order of the files that hold them, and what runs it in the gate:
@@ -19,8 +15,6 @@ A row is an input with what comes of it. Each has a number here, in the order of
 - a test function, which says in its name what holds;
 - a table of rows that a test goes through, listed there with what it shows;
 - a program: what it is run on and its golden file, beside its sources.
-
-`.ci/rows.py`, which `.ci/run` runs before the proofs, fails where a row of these files is not on this page; `.ci/rows.py write` writes it.
 
 | Row | What it shows | Run by |
 |---|---|---|
@@ -87,18 +81,8 @@ def rows():
     yield from programs()
 
 
-def main():
-    if sys.argv[1:] not in ([], ["write"]):
-        common.refuse("rows", "expected nothing, or write")
-    lines = [f"| {number} | {words.replace('|', chr(92) + '|')} | {run} |" for number, (words, run) in enumerate(rows(), 1)]
-    text = HEAD + "\n".join(lines) + "\n"
-    if sys.argv[1:] == ["write"]:
-        PAGE.write_text(text, encoding="utf-8")
-    held = PAGE.read_text(encoding="utf-8").splitlines() if PAGE.exists() else []
-    faults = [f"docs/lists/ROWS.md has not: {line}" for line in text.splitlines() if line not in held]
-    faults += [f"nothing runs: {line}" for line in held if line not in text.splitlines()]
-    print("\n".join(faults) if faults else f"{len(lines)} rows stand in docs/lists/ROWS.md")
-    sys.exit(1 if faults else 0)
-
-
-main()
+if sys.argv[1:]:
+    common.refuse("rows", "expected nothing")
+print(HEAD, end="")
+for number, (words, run) in enumerate(rows(), 1):
+    print(f"| {number} | {words.replace('|', chr(92) + '|')} | {run} |")

@@ -164,8 +164,8 @@ class Vendor(InFolder):
 class WrongWords(InFolder):
     WRONG = (
         (".ci/run", "x"),
-        (".ci/rows.py", "wirte"),
-        (".ci/rows.py", "write", "x"),
+        (".ci/rows.py", "write"),
+        (".ci/prose.py", "x"),
         (".ci/callers.py", "no_folder"),
         (".ci/refusals.py", ".", "x"),
         (".ci/mutants", "no_crate"),
@@ -215,7 +215,7 @@ class Run(OverStandIn):
         for path in ("test", ".ci/mutants"):
             (self.folder / path).write_text(f"#!/bin/sh\n{self.JOBS}\n")
             (self.folder / path).chmod(0o755)
-        for path in ("callers", "refusals", "rows", "scripts_test"):
+        for path in ("callers", "refusals", "prose", "scripts_test"):
             (self.folder / ".ci" / f"{path}.py").write_text("")
         self.stand_in("rt", "echo '9 passed, 0 failed'")
         # What tells the memory that is free.
@@ -269,10 +269,13 @@ class Tests(OverStandIn):
             (self.folder / path).parent.mkdir(parents=True, exist_ok=True)
             (self.folder / path).write_text(f"{path}\n")
         (self.folder / "crates.txt").write_text("clidoc:\n")
+        (self.folder / "docs").mkdir()
+        calls = "".join(f"```console\n$ clidoc full app.toml\n{page}\n```\n" for page in ("read:x", "another"))
+        (self.folder / "docs/guide.md").write_text(f"```toml\nx\n```\n{calls}")
         self.stand_in("rt", self.CASES % ("man", "ended status=1 runners=1"))
         status, told, _ = self.call(self.folder / "test")
-        self.assertEqual((status, told.splitlines()[-1]), (1, "21 passed, 2 failed"))
-        self.assertIn("it fails: one-man\n    it fails: two-man\n", told)
+        self.assertEqual((status, told.splitlines()[-1]), (1, "22 passed, 3 failed"))
+        self.assertIn("it fails: one-man\n    it fails: two-man\n    it fails: guide-1\n", told)
 
     def test_ends_hints_and_nothing_else(self):
         hints = "sleep 60 & names=$!; wait $tool; wait $names; echo $? > ended"
