@@ -3,7 +3,8 @@
 description of README.md in `examples/`. The description of the README's pictures is the one that the gate runs `clidoc` on, and that of
 `clidoc` itself the one that it holds.
 
-Prints what does not. Ends with status 1 where there is any.
+Prints what does not. Ends with status 1 where there is any. `callers.py write` first writes each caller that stands between marks, which name its
+file.
 """
 import difflib
 import re
@@ -11,7 +12,8 @@ import sys
 
 import common
 
-TOP = common.top_of("callers")
+WRITES = sys.argv[1:] == ["write"]
+TOP = common.TOP if WRITES else common.top_of("callers")
 CRATES, EXAMPLES = TOP / "crates", TOP / "examples"
 FIRST = "#![tactic(auto)]\n\n"
 
@@ -37,9 +39,21 @@ def nearest(caller, proved):
     return f"{name} is the most like it, with the line '{other.strip()}'"
 
 
+def write(page, proved):
+    """Writes the callers of a page that stand between marks."""
+
+    def fill(found):
+        return f"<!-- made: {found[1]} -->\n```rust\n{FIRST}{proved[found[1]]}```\n<!-- end -->"
+
+    text = page.read_text(encoding="utf-8")
+    page.write_text(re.sub(r"<!-- made: (\w+\.rt) -->\n.*?<!-- end -->", fill, text, flags=re.S), encoding="utf-8")
+
+
 def main():
     files = (CRATES / "callers" / "src").glob("*.rt")
     proved = {file.name: file.read_text(encoding="utf-8").split("\n\n", 1)[1] for file in files}
+    for page in CRATES.glob("*/CALLING.md") if WRITES else []:
+        write(page, proved)
     count, faults = 0, []
     for page in sorted(CRATES.glob("*/CALLING.md")):
         for number, caller in enumerate(re.findall(r"```rust\n(.*?)```", page.read_text(encoding="utf-8"), re.S), 1):

@@ -1,4 +1,5 @@
-"""What the scripts share: the crates of crates.txt, each of whose lines names a crate and those that it uses, and how wrong words are refused."""
+"""What the scripts share: the crates of crates.txt, each of whose lines names a crate and those that it uses; the modules of a library; and how
+wrong words are refused."""
 import pathlib
 import re
 import sys
@@ -30,6 +31,39 @@ def with_those_below(names, used):
     for name in names:
         visit(name)
     return found
+
+
+# Crates that are no libraries for others: tests, equations, and callers.
+NO_LIBRARIES = re.compile(r"\w+_tests|rows|callers")
+
+
+def libraries(top=TOP):
+    """The crates that others may call, in the order of crates.txt."""
+    return [name for name in lines(top) if (top / "crates" / name / "src" / "lib.rt").exists() and not NO_LIBRARIES.fullmatch(name)]
+
+
+def modules(library, top=TOP):
+    """Each file of a library with the words of its module's path, and whether all of that path is public."""
+    root = top / "crates" / library / "src"
+
+    def visit(file, path, public):
+        text = file.read_text(encoding="utf-8")
+        yield path, public, text
+        folder = root.joinpath(*path)
+        for word, name in re.findall(r"(?m)^(pub )?mod (\w+);", text):
+            yield from visit(folder / f"{name}.rt", path + [name], public and bool(word))
+
+    return list(visit(root / "lib.rt", [], True))
+
+
+def handed_on(files):
+    """The names that public modules hand on from private ones."""
+    names = set()
+    for _, public, text in files:
+        if public:
+            for group in re.findall(r"(?m)^pub use \w+(?:::\w+)*::(\{[^}]*\}|\w+);", text):
+                names.update(re.findall(r"\w+", group))
+    return names
 
 
 def refuse(script, why):

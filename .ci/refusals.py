@@ -11,44 +11,12 @@ import common
 
 TOP = common.top_of("refusals")
 PAGE = TOP / "docs" / "lists" / "REFUSALS.md"
-# Crates that are no libraries for others: tests, equations, and callers.
-NO_LIBRARIES = re.compile(r"\w+_tests|rows|callers")
 # These take their memory of `Global`, in which a test can make nothing fail.
 OF_GLOBAL = {"lasting_names"}
 # Errors that are no allocation failure: `from_names` of two empty lists, a misplaced item, a name that no file may have, and what a stream answers.
 OTHER_ERRORS = {"NoName", "&Item", "NameFault", "io::Error"}
 CALL = re.compile(r"(?m)^( *)pub fn (\w+)(?:<[^{}]*?>)?\(([^{}]*?)\)\s*->\s*(.*?)(?=\n\s*(?:where|requires|ensures|\{)|\s*\{)", re.S)
 ROW = re.compile(r"(?m)^\| `([\w:]+)` \| `(\w+)::((?:\w+::)*)(\w+)`")
-
-
-def libraries():
-    for name in common.lines(TOP):
-        if (TOP / "crates" / name / "src" / "lib.rt").exists() and not NO_LIBRARIES.fullmatch(name) and name not in OF_GLOBAL:
-            yield name
-
-
-def modules(library):
-    """Each file of a library with the words of its module's path, and whether all of that path is public."""
-    root = TOP / "crates" / library / "src"
-
-    def visit(file, path, public):
-        text = file.read_text(encoding="utf-8")
-        yield path, public, text
-        folder = root.joinpath(*path)
-        for word, name in re.findall(r"(?m)^(pub )?mod (\w+);", text):
-            yield from visit(folder / f"{name}.rt", path + [name], public and bool(word))
-
-    return list(visit(root / "lib.rt", [], True))
-
-
-def handed_on(files):
-    """The names that public modules hand on from private ones."""
-    names = set()
-    for _, public, text in files:
-        if public:
-            for group in re.findall(r"(?m)^pub use \w+(?:::\w+)*::(\{[^}]*\}|\w+);", text):
-                names.update(re.findall(r"\w+", group))
-    return names
 
 
 def arguments(text):
@@ -76,8 +44,8 @@ def error_of(result, aliases):
 
 
 def public_calls(library):
-    files = modules(library)
-    handed = handed_on(files)
+    files = common.modules(library, TOP)
+    handed = common.handed_on(files)
     aliases = dict(re.findall(r"(?m)^pub type (\w+)(?:<.*?>)? = (.*?);", "\n".join(text for _, _, text in files)))
     types = {
         name
@@ -99,7 +67,7 @@ def public_calls(library):
 
 
 def main():
-    calls = {call for library in libraries() for call in public_calls(library)}
+    calls = {call for library in common.libraries(TOP) if library not in OF_GLOBAL for call in public_calls(library)}
     rows = ROW.findall(PAGE.read_text(encoding="utf-8"))
     named = {call for call, *_ in rows}
     faults = [f"{call} has no row" for call in sorted(calls - named)]

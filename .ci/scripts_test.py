@@ -110,6 +110,197 @@ class Callers(InFolder):
         self.assertEqual(status, 1)
         self.assertIn("bpaf_help/CALLING.md: no file of callers has its caller 1", told)
 
+    def test_writes_callers_anew(self):
+        copy_script(self.folder, ".ci/callers.py")
+        self.change("crates/callers/src/usage.rt", "let mut doc", "let mut made")
+        self.assertEqual(self.told()[0], 1)
+        asked = subprocess.run([sys.executable, self.folder / ".ci" / "callers.py", "write"], capture_output=True, text=True)
+        self.assertEqual((asked.returncode, self.told()[0]), (0, 0), asked.stdout)
+
+
+class Keys(InFolder):
+    def setUp(self):
+        super().setUp()
+        copy_to(self.folder, ["description_toml"])
+
+    def told(self):
+        asked = subprocess.run([sys.executable, TOP / ".ci" / "keys.py", self.folder], capture_output=True, text=True)
+        return asked.returncode, asked.stdout
+
+    def change(self, path, old, new):
+        text = (self.folder / path).read_text(encoding="utf-8")
+        self.assertIn(old, text)
+        (self.folder / path).write_text(text.replace(old, new, 1), encoding="utf-8")
+
+    def test_finds_a_key_without_a_row_and_a_row_without_a_key(self):
+        self.assertEqual(self.told()[0], 0, self.told())
+        self.change("docs/keys.md", "| **`text`** |", "| **`body`** |")
+        self.assertEqual(self.told(), (1, "[[topic]]: text has no row\n[[topic]]: body is no key\n"))
+        self.change("crates/description_toml/src/decode/topics.rt", '["title", "text"]', '["title", "body"]')
+        self.assertEqual(self.told()[0], 0, self.told())
+
+    def test_finds_a_key_in_a_row_of_several(self):
+        self.change("docs/keys.md", "`help`, `env`, `required`, `repeated` |", "`help`, `env`, `repeated` |")
+        self.assertEqual(self.told(), (1, "[[help_option]]: required has no row\n"))
+
+    def test_finds_another_order(self):
+        self.change("docs/keys.md", "| `header` |", "| `footer_` |")
+        self.change("docs/keys.md", "| `footer` |", "| `header` |")
+        self.change("docs/keys.md", "| `footer_` |", "| `footer` |")
+        self.assertEqual(self.told(), (1, "The top: its keys are not in the order of DESCRIPTION_KEYS, or one has two rows\n"))
+
+    def test_finds_a_new_kind_of_table(self):
+        source = self.folder / "crates/description_toml/src/decode/fresh.rt"
+        source.write_text('const FRESH_KEYS: [&str; 1] = ["age"];\n\nfn fresh() {\n    check_keys(teller, table, &FRESH_KEYS);\n}\n')
+        self.assertEqual(self.told(), (1, "FRESH_KEYS is of no table of the page\n"))
+
+
+class InCopy(InFolder):
+    """Scripts that look at the repository that they stand in, on a small one."""
+
+    def setUp(self):
+        super().setUp()
+        for name in ("proved", "crates", "prose"):
+            copy_script(self.folder, f".ci/{name}.py")
+        self.write("crates.txt", "low:\nhigh: low toml\n")
+        self.write("crates/low/src/lib.rt", "//! What is\n//! low. More of it.\n\npub mod made;\nmod shut;\npub use shut::Held;\n")
+        self.write("crates/high/src/lib.rt", "//! High.\n\nfn none() {}\n")
+        self.write("crates/low/src/made.rt", self.MADE)
+        self.write("crates/low/src/shut.rt", self.SHUT)
+        self.write("docs/PROVED.md", "# Proved\n\n<!-- made: low -->\n<!-- end -->\n")
+        self.write("docs/ARCHITECTURE.md", "# Map\n\n<!-- made: crates -->\n<!-- end -->\n")
+        self.write("docs/lists/CONTRACTS.md", "")
+
+    MADE = """/// Says it.
+pub fn say(word: &str) -> Result<(), AllocError>
+    requires { is_free word }
+
+    // Why.
+    ensures ok { OnOk result (
+        said word.now) }
+    ensures err { OnErr result True }
+{
+    ensures_nothing()
+}
+
+pub fn plain() {}
+
+fn own()
+    ensures { True }
+{}
+"""
+    SHUT = """pub struct Held;
+
+struct Hidden;
+
+impl Held {
+    pub fn new() -> Held
+        ensures { True }
+    {
+        Held
+    }
+
+    pub fn kept(&self) -> bool
+        ensures { True }
+    {
+        true
+    }
+}
+
+impl From<u8> for Held {
+    ghost from_gives = { λ byte held. held ≡ byte };
+
+    fn from(byte: u8) -> Held {
+        Held
+    }
+}
+
+impl Hidden {
+    pub fn new() -> Hidden
+        ensures { True }
+    {
+        Hidden
+    }
+}
+"""
+
+    def write(self, path, text):
+        file = self.folder / path
+        file.parent.mkdir(parents=True, exist_ok=True)
+        file.write_text(text, encoding="utf-8")
+
+    def read(self, path):
+        return (self.folder / path).read_text(encoding="utf-8")
+
+    def told(self, name, *words):
+        asked = subprocess.run([sys.executable, self.folder / ".ci" / f"{name}.py", *words], capture_output=True, text=True)
+        return asked.returncode, asked.stdout
+
+
+class Proved(InCopy):
+    ROWS = ["| `made::say` | `requires` | `ok`, `err` |", "| `Held::new`, `kept` |  | `ensures` |", "| `From<u8> for Held` |  | `from_gives` |"]
+
+    def test_writes_what_the_sources_say(self):
+        self.assertEqual(self.told("proved")[0], 1)
+        self.assertEqual(self.told("proved", "write"), (0, "1 tables of clauses and 4 contracts are as the sources say\n"))
+        self.assertEqual(self.read("docs/PROVED.md").splitlines()[5:8], self.ROWS)
+        listed = self.read("docs/lists/CONTRACTS.md")
+        self.assertIn("// made\nfn say(word: &str) -> Result<(), AllocError>\n    requires { is_free word }\n", listed)
+        self.assertIn("    ensures ok { OnOk result (\n        said word.now) }\n    ensures err { OnErr result True }\n\n", listed)
+        self.assertIn("impl From<u8> for Held\n    ghost from_gives = { λ byte held. held ≡ byte };\n", listed)
+        self.assertEqual(self.told("proved")[0], 0)
+
+    def test_finds_what_is_stale(self):
+        self.told("proved", "write")
+        self.write("crates/low/src/made.rt", self.MADE.replace("ensures err", "ensures kept"))
+        status, told = self.told("proved")
+        self.assertEqual(status, 1)
+        self.assertIn("PROVED.md: stale: | `made::say` | `requires` | `ok`, `err` |\n", told)
+        self.assertIn("PROVED.md: missing: | `made::say` | `requires` | `ok`, `kept` |\n", told)
+        self.assertIn("CONTRACTS.md: stale:     ensures err { OnErr result True }\n", told)
+
+    def test_finds_a_crate_without_a_table(self):
+        self.write("crates/high/src/lib.rt", self.MADE)
+        self.assertIn("PROVED.md: crate high has no table\n", self.told("proved", "write")[1])
+
+
+class Crates(InCopy):
+    def test_writes_what_the_sources_say(self):
+        self.assertEqual(self.told("crates")[0], 1)
+        self.assertEqual(self.told("crates", "write"), (0, "2 crates stand in docs/ARCHITECTURE.md\n"))
+        rows = ["| `low` | What is low |  |", "| `high` | High | `low` |"]
+        self.assertEqual(self.read("docs/ARCHITECTURE.md").splitlines()[5:7], rows)
+        self.assertEqual(self.told("crates")[0], 0)
+        self.write("crates.txt", "low:\nhigh: toml\n")
+        self.assertEqual(self.told("crates"), (1, f"missing: {rows[1].replace('`low`', '')}\nstale: {rows[1]}\n"))
+
+
+class Prose(InCopy):
+    def test_finds_long_lines_and_odd_words(self):
+        self.assertEqual(self.told("prose")[0], 0, self.told("prose"))
+        code = "It is `behind` here, and ``told `it` ``.\n\n```text\nbehind\n```\n\n    behind\n"
+        self.write("docs/plain.md", f"# Plain\n\n{code}<!-- made: low -->\n| behind |\n<!-- end -->\n")
+        self.assertEqual(self.told("prose")[0], 0, self.told("prose"))
+        self.write("docs/plain.md", f"# Plain\n\n{code}\n| what is told |\n\nIt is\nhanded\non, {'far ' * 30}away.\n")
+        self.assertEqual(self.told("prose"), (1, "docs/plain.md:15: 129 columns\n"
+            "docs/plain.md:11: 'told'; write: reported, said\ndocs/plain.md:14: 'handed on'; write: pass on, re-export\n"))
+
+    def test_finds_links_that_lead_nowhere(self):
+        self.write("docs/plain.md", "# A `plain` [page]\n\n[a](PROVED.md) [b](#a-plain-page) [c](https://x.org) [d](../crates/low)\n")
+        self.assertEqual(self.told("prose")[0], 0, self.told("prose"))
+        self.write("docs/other.md", "[a](lost.md) [b](plain.md#plain) [c](plain.md#a-plain-page) `[d](code.md)`\n")
+        self.assertEqual(self.told("prose"), (1, "docs/other.md: lost.md leads nowhere\ndocs/other.md: plain.md#plain leads nowhere\n"))
+
+    def test_counts_words(self):
+        row = "| one - two | `three four` |\n"
+        self.write("docs/DECISIONS.md", f"# Made\n\n<!-- made: low -->\n{row * 900}<!-- end -->\n\n{row * 749}")
+        self.assertEqual(self.told("prose")[0], 0, self.told("prose"))
+        self.write("docs/DECISIONS.md", f"# Made\n\n{row * 750}")
+        self.assertEqual(self.told("prose"), (1, "docs/DECISIONS.md: 3001 words, and 3000 are the most\n"))
+        self.write("docs/DECISIONS.md", "# Made\n")
+        self.write("docs/more.md", f"# More\n\n{row * 9000}")
+        self.assertRegex(self.told("prose")[1], r"^all pages: 360\d\d words, and 34000 are the most\n$")
+
 
 class Vendor(InFolder):
     def setUp(self):
@@ -166,6 +357,9 @@ class WrongWords(InFolder):
         (".ci/run", "x"),
         (".ci/rows.py", "write"),
         (".ci/prose.py", "x"),
+        (".ci/proved.py", "x"),
+        (".ci/crates.py", "x"),
+        (".ci/keys.py", "no_folder"),
         (".ci/callers.py", "no_folder"),
         (".ci/refusals.py", ".", "x"),
         (".ci/mutants", "no_crate"),
@@ -215,7 +409,7 @@ class Run(OverStandIn):
         for path in ("test", ".ci/mutants"):
             (self.folder / path).write_text(f"#!/bin/sh\n{self.JOBS}\n")
             (self.folder / path).chmod(0o755)
-        for path in ("callers", "refusals", "prose", "scripts_test"):
+        for path in ("callers", "refusals", "keys", "proved", "crates", "prose", "scripts_test"):
             (self.folder / ".ci" / f"{path}.py").write_text("")
         self.stand_in("rt", "echo '9 passed, 0 failed'")
         # What tells the memory that is free.
