@@ -1,9 +1,9 @@
 -- Texts of characters that pass a test: joined, and cut beside a byte of ASCII, they are such texts again.
 use Rattle.std.proofs.Common.{◌≡◌, ◌⊎◌, ℕ, zero, suc, ◌<◌, ◌≤◌, Bool, true, false, ◌&&◌, List, [], ◌∷◌, ◌++◌, length, get_or, take, drop, replicate, map, nat_lt, refl, sym, ap, ap₂, ◌∙◌, subst, append_assoc, append-nil, add-one, arith, inl, inr}
-use Rattle.std.specs.Prelude.{if◌then◌else◌}
+use Rattle.std.specs.Prelude.{◌==◌, if◌then◌else◌}
 use Rattle.std.specs.List.{list_all, prefix_len, onto_first, slice_split}
-use Rattle.std.specs.Str.{IsAscii, IsCharBoundary, IsUtf8, chars, encode_utf8_all}
-use Rattle.std.specs.Char.{encode_utf8}
+use Rattle.std.specs.Str.{IsAscii, IsCharBoundary, IsUtf8, chars, drop_trailing_whitespace, encode_utf8_all, trim_end}
+use Rattle.std.specs.Char.{encode_utf8, is_whitespace}
 use Rattle.std.proofs.Math.Seq.{get_or-append_seam, take-append_seam, drop-append_seam}
 use Rattle.std.proofs.lemmas.Bool.{and_from, and_parts, cases_lt}
 use Rattle.std.proofs.lemmas.Bool.Decides.{nat_tests}
@@ -42,6 +42,32 @@ all_ascii good (b ∷ text) h (suc i) = all_ascii good text (and_parts (is_low g
 
 low_passes : (good : ℕ → Bool) (b : ℕ) → is_low good b ≡ true → good b ≡ true
 low_passes good b h = (and_parts (nat_lt b 128) (good b) h).1
+
+-- ---- without the white space at the end
+
+left_by : (good : ℕ → Bool) (t : Bool) (c : ℕ) (cs : List ℕ) → good c ≡ true → list_all good cs ≡ true → list_all good (if t then [] else c ∷ cs) ≡ true
+left_by good true c cs h k = refl
+left_by good false c cs h k = and_from (good c) (list_all good cs) h k
+
+left_pass : (good : ℕ → Bool) (cs : List ℕ) → list_all good cs ≡ true → list_all good (drop_trailing_whitespace cs) ≡ true
+left_pass good [] h = refl
+left_pass good (c ∷ cs) h =
+    let both = and_parts (good c) (list_all good cs) h in
+    left_by good (is_whitespace c && (length (drop_trailing_whitespace cs) == 0)) c (drop_trailing_whitespace cs) both.0 (left_pass good cs both.1)
+
+each_scalar : (cs : List ℕ) → scalars cs ≡ list_all scalar cs
+each_scalar [] = refl
+each_scalar (c ∷ cs) = ap (λ t. scalar c && t) (each_scalar cs)
+
+left_scalars : (cs : List ℕ) → scalars cs ≡ true → scalars (drop_trailing_whitespace cs) ≡ true
+left_scalars cs h = each_scalar (drop_trailing_whitespace cs) ∙ left_pass scalar cs (sym (each_scalar cs) ∙ h)
+
+pub clean_trimmed : (good : ℕ → Bool) (text : List ℕ) → Clean good text → Clean good (trim_end text)
+unfolding trim_end
+clean_trimmed good text h =
+    let cs : List ℕ = drop_trailing_whitespace (chars text) in
+    let all = left_scalars (chars text) (scalars-chars text h.utf8) in
+    record { utf8 = (cs, (all, refl)); characters = ap (list_all good) (chars-encodes cs all) ∙ left_pass good (chars text) h.characters }
 
 module _ (good : ℕ → Bool) where
   pub clean_nil : Clean good []

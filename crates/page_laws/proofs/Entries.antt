@@ -4,13 +4,14 @@ use Rattle.page_model.specs.Content.{words, Line, BlockSaid, paragraph, code, bu
 use Rattle.page_model.specs.Permitted.{is_permitted}
 use Rattle.description.specs.Content.{NameSaid, short, long, both, SpellingSaid, named, syntax, OptSaid, PositionalSaid, CommandNames, CommandSaid, command, LevelSaid}
 use Rattle.description.specs.Words.{WordsSaid}
-use Rattle.description_usage.specs.Entries.{alias_notes, behind_lines, body, command_entry, command_notes, entry_if_said, initial_terms, named_terms, note, noted, noted_body, option_entry, option_notes, positional_entry, positional_notes, positional_terms, spelled_terms}
+use Rattle.description_usage.specs.Entries.{alias_notes, behind_lines, body, command_entry, command_notes, entry_if_said, initial_terms, named_terms, named_word, note, noted, noted_body, option_entry, option_notes, option_word, positional_entry, positional_notes, positional_terms, spelled_terms}
 use Rattle.description_usage.specs.Lines.{joined}
+use Rattle.description_usage.specs.Names.{shown_value}
 use Rattle.description_usage.specs.Syntax.{syntax_line, ways}
 use Rattle.page_laws.proofs.Each.{Each, each_append, each_left, each_right}
 use Rattle.page_laws.specs.Texts.{command_texts, fixed_texts, initial_text, level_texts, spelling_texts, text_of}
 use Rattle.page_laws.proofs.Blocks.{BlockIs, LineIs, Permitted, PieceIs, each_changed}
-use Rattle.page_laws.proofs.Usage.{GivenIs, OptIs, PositionalIs, fixed, joined_is, long_is, short_is, syntax_is, value_is, ways_are}
+use Rattle.page_laws.proofs.Usage.{GivenIs, OptIs, PositionalIs, fixed, joined_is, long_is, short_is, syntax_is, syntax_word_is, value_is, ways_are}
 
 -- ---- the fixed words
 
@@ -19,6 +20,7 @@ pub record WordsAre (w : WordsSaid) : Type 0 where
   pub arguments : Permitted w.arguments
   pub options : Permitted w.options
   pub commands : Permitted w.commands
+  pub contents : Permitted w.contents
   pub notes : Permitted w.notes
   pub default : Permitted w.default
   pub possible_values : Permitted w.possible_values
@@ -32,13 +34,15 @@ pub record WordsAre (w : WordsSaid) : Type 0 where
 
 pub words_known : (w : WordsSaid) → Each Permitted (fixed_texts w) → WordsAre w
 words_known w h =
-    let notes = h.1.1.1.1.1 in
+    let contents = h.1.1.1.1 in
+    let notes = contents.1 in
     let command = notes.1.1.1.1.1 in
     record {
       usage = h.0;
       arguments = h.1.0;
       options = h.1.1.0;
       commands = h.1.1.1.0;
+      contents = contents.0;
       notes = notes.0;
       default = notes.1.0;
       possible_values = notes.1.1.0;
@@ -89,6 +93,17 @@ spelled_are (syntax text) word h k = each_changed Permitted LineIs syntax_line (
 initial_are : (initial : Option ℕ) → Each Permitted (initial_text initial) → Each LineIs (initial_terms initial)
 initial_are None h = tt
 initial_are (Some c) h = ((h.0, tt), tt)
+
+-- ---- what entries are called
+
+named_word_is : (name : NameSaid) → Each Permitted (spelling_texts (named name)) → Permitted (named_word name)
+named_word_is (short c) h = h.0
+named_word_is (long name) h = h.0
+named_word_is (both c name) h = h.1.0
+
+option_word_is : (spelling : SpellingSaid) → Each Permitted (spelling_texts spelling) → Permitted (option_word spelling)
+option_word_is (named name) h = named_word_is name h
+option_word_is (syntax text) h = syntax_word_is text h.0
 
 -- ---- notes
 
@@ -143,27 +158,33 @@ TargetIs (Some (to_heading title)) = Permitted title
 abbrev pub ContentIs : EntrySaid → Type 0
 ContentIs e = Each LineIs e.terms × Each BlockIs e.body
 
-abbrev pub EntryIs : EntrySaid → Type 0
-EntryIs e = TargetIs e.target × ContentIs e
+pub record EntryIs (e : EntrySaid) : Type 0 where
+  pub word : Permitted e.word
+  pub target : TargetIs e.target
+  pub content : ContentIs e
 
 module _ (w : WordsSaid) (h : WordsAre w) where
   pub option_is : (o : OptSaid) → OptIs o → (help : List BlockSaid) → Each BlockIs help → EntryIs (option_entry w o help)
-  option_is o k help b = (tt, (spelled_are o.spelling o.value k.spelling k.value, body_is (option_notes w o) help (option_notes_are w h o k) b))
+  option_is o k help b = record {
+    word = option_word_is o.spelling k.spelling;
+    target = tt;
+    content = (spelled_are o.spelling o.value k.spelling k.value, body_is (option_notes w o) help (option_notes_are w h o k) b);
+  }
 
   abbrev pub IfEntry : Option EntrySaid → Type 0
   IfEntry None = Unit {0}
   IfEntry (Some e) = EntryIs e
 
-  if_said : (word : List ℕ) (terms : List Line) (said : List BlockSaid) → Each LineIs terms → Each BlockIs said → IfEntry (entry_if_said word terms said)
-  if_said word terms [] t b = tt
-  if_said word terms (first ∷ others) t b = (tt, (t, b))
+  if_said : (word : List ℕ) (terms : List Line) (said : List BlockSaid) → Permitted word → Each LineIs terms → Each BlockIs said → IfEntry (entry_if_said word terms said)
+  if_said word terms [] k t b = tt
+  if_said word terms (first ∷ others) k t b = record { word = k; target = tt; content = (t, b) }
 
   pub positional_entry_is : (p : PositionalSaid) → PositionalIs p → (help : List BlockSaid) → Each BlockIs help → IfEntry (positional_entry w p help)
   positional_entry_is p k help b =
-      if_said _ (positional_terms p) (body (positional_notes w p) help) ((value_is p.value k.value, tt), tt) (body_is (positional_notes w p) help (positional_notes_are w h p k) b)
+      if_said (shown_value p.value) (positional_terms p) (body (positional_notes w p) help) (value_is p.value k.value) ((value_is p.value k.value, tt), tt) (body_is (positional_notes w p) help (positional_notes_are w h p k) b)
 
   pub command_content : (target : TargetSaid) (m : CommandSaid) → CommandIs m → (help : List BlockSaid) → Each BlockIs help → ContentIs (command_entry w target m help)
   command_content target (command called text l) k help b = (((k.name, tt), initial_are called.initial k.initial), body_is (command_notes w called) help (alias_notes_are w.aliases called.aliases h.aliases k.aliases) b)
 
   pub command_is : (target : TargetSaid) → TargetIs (Some target) → (m : CommandSaid) → CommandIs m → (help : List BlockSaid) → Each BlockIs help → EntryIs (command_entry w target m help)
-  command_is target t (command called text l) k help b = (t, command_content target (command called text l) k help b)
+  command_is target t (command called text l) k help b = record { word = k.name; target = t; content = command_content target (command called text l) k help b }

@@ -68,7 +68,7 @@ pub content_passes : (e : EntrySaid) → ContentIs e → has_permitted_content e
 content_passes e h = and_from (list_all is_permitted_line e.terms) (list_all is_permitted_block e.body) (lines_pass e.terms h.0) (all_pass BlockIs is_permitted_block block_passes e.body h.1)
 
 pub entry_passes : (e : EntrySaid) → EntryIs e → is_permitted_entry e ≡ true
-entry_passes e h = and_from (leads_to_permitted e.target) (has_permitted_content e) (target_passes e.target h.0) (content_passes e h.1)
+entry_passes e h = and_from (leads_to_permitted e.target) (has_permitted_content e) (target_passes e.target h.target) (content_passes e h.content)
 
 pub form_passes : (form : FormSaid) → FormIs form → is_permitted_form form ≡ true
 form_passes form h = and_from (are_permitted form.name) (list_all is_permitted_line form.items) (text_passes form.name h.0) (lines_pass form.items h.1)

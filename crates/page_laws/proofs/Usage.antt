@@ -1,7 +1,7 @@
 -- The usage of a level with permitted texts has permitted texts alone: its items, and the forms of a text that stands in their place.
 use Rattle.std.proofs.Common.{◌≡◌, ◌⊎◌, ℕ, zero, suc, ◌-◌, ◌<◌, ◌≤◌, Bool, true, false, cond, List, [], ◌∷◌, ◌++◌, length, get_or, take, drop, reverse, map, codes, flat_map, filter, Option, Some, None, refl, sym, ap, ◌∙◌, subst, arith, inl, inr, encode_utf8, nat_lt, true≢false}
-use Rattle.std.specs.Prelude.{if◌then◌else◌, ◌==◌, ◌&&◌, ◌||◌, not, unwrap_or, bytes_eq, option_and_then}
-use Rattle.std.specs.List.{find, list_all, prefix_len, suffix_len, slice_split}
+use Rattle.std.specs.Prelude.{if◌then◌else◌, ◌==◌, ◌&&◌, ◌||◌, not, unwrap_or, bytes_eq, option_and_then, option_map}
+use Rattle.std.specs.List.{find, list_all, prefix_len, slice_get, suffix_len, slice_split}
 use Rattle.std.specs.Str.{IsUtf8}
 use Rattle.std.proofs.lemmas.Bool.{and_from, and_parts}
 use Rattle.std.proofs.lemmas.Bool.Decides.{nat_tests}
@@ -17,9 +17,9 @@ use Rattle.description_usage.specs.Forms.{behind_colon, blank_for_tab, bracket_o
 use Rattle.description_usage.specs.Lines.{joined}
 use Rattle.description_usage.specs.Margins.{is_margin, without_back, without_front, without_margins}
 use Rattle.description_usage.specs.Names.{is_bare, long_line, short_line, shown_value, value_behind, value_piece}
-use Rattle.description_usage.specs.Syntax.{begins, first_way, is_closing, is_metavar, is_name, is_negated, is_one_name, is_opening, is_outside, is_same, is_separator, is_word_byte, onto_parts, onto_stretches, parts, parts_behind, pieces_behind, shown_line, stretch_pieces, stretches, syntax_line, way_of, ways, word_piece, word_pieces}
+use Rattle.description_usage.specs.Syntax.{begins, first_way, is_closing, is_dash, is_metavar, is_name, is_negated, is_one_name, is_opening, is_outside, is_same, is_separator, is_word_byte, names_behind, onto_parts, onto_stretches, parts, parts_behind, pieces_behind, shown_line, stretch_names, stretch_pieces, stretches, syntax_line, syntax_names, syntax_word, way_of, ways, without_dashes, word_piece, word_pieces}
 use Rattle.description_usage.specs.Usage.{called, called_spelling, choice_items, command_items, dots, dots_line, enclosed, group_items, group_list, group_positionals, in_round, in_square, level_shows_command, member_items, option_item, option_items, plain_item, positional_item, positional_items, positionals_behind, repeated_value, shown_options, shown_positionals, strict_item, strict_value, usage_items}
-use Rattle.page_laws.proofs.Each.{Each, each_append, each_left, each_right, each_weaker}
+use Rattle.page_laws.proofs.Each.{Each, each_append, each_if, each_left, each_right, each_weaker}
 use Rattle.page_laws.specs.Texts.{choice_texts, commands_texts, group_texts, groups_texts, level_texts, option_texts, own_texts, positional_texts, spelling_texts, text_of, topic_texts}
 use Rattle.page_laws.proofs.Clean.{Clean, Halves, Parts, back_again, clean_append, clean_before, clean_behind_front, clean_drop, clean_low, clean_mapped, clean_weaker, cut_before, cut_behind, cut_out, each_part, each_split, is_low, new_part, next, onto_part}
 use Rattle.page_laws.proofs.Clean as clean
@@ -144,6 +144,26 @@ pub shown_is : (text : List ℕ) → Permitted text → LineIs (shown_line text)
 shown_is text h =
     let all = ways_are text h in
     syntax_is is_permitted (way_of (ways text)) (found_is Permitted (λ way. not (is_one_name way)) (first_way (ways text)) (first_is (ways text) all) (ways text) all)
+
+-- ---- what a syntax is called
+
+dash_ascii : (b : ℕ) → is_dash b ≡ true → b < 128
+dash_ascii b h = grind (arith, nat_tests)
+
+names_are : (before : List ℕ) (texts : List (List ℕ)) → Each Permitted texts → Each Permitted (names_behind before texts)
+names_are before [] h = tt
+names_are before (text ∷ texts) h =
+    each_append Permitted (stretch_names before text) (names_behind (before ++ text) texts) (each_if Permitted (is_outside before && (is_name before text || is_negated before text)) (text ∷ []) (h.0, tt))
+    (names_are (before ++ text) texts h.1)
+
+first_name_is : (names : List (List ℕ)) (text : List ℕ) → Each Permitted names → Permitted text → Permitted (unwrap_or (option_map without_dashes (slice_get names 0)) text)
+first_name_is [] text h k = k
+first_name_is (name ∷ names) text h k = clean_behind_front is_permitted is_dash dash_ascii name (prefix_len is_dash name) (omega arith) h.0
+
+pub syntax_word_is : (text : List ℕ) → Permitted text → Permitted (syntax_word text)
+syntax_word_is text h =
+    let all = each_stretch is_permitted is_separator (separator_ascii is_permitted) text h in
+    first_name_is (syntax_names text) text (names_are [] (stretches is_separator text) all) h
 
 -- ---- names and values
 
