@@ -4,7 +4,7 @@ use Rattle.std.specs.Prelude.{codes, ◌&&◌, ◌||◌, not, nat_lt, if◌then�
 use Rattle.std.specs.Char.{is_whitespace}
 use Rattle.std.specs.Int.{is_in_range}
 use Rattle.std.specs.List.{list_all}
-use Rattle.std.specs.Fmt.{digits, digits_onto, digit_glyph}
+use Rattle.std.specs.Fmt.{decimal, digits, digits_onto, digit_glyph}
 use Rattle.std.specs.Str.{IsAscii, chars, chars_after, continuation_len, lead_bits, trim_end}
 use Rattle.std.proofs.lemmas.Bool.{and_parts, and_from, or_right}
 use Rattle.std.proofs.lemmas.Bool.Decides.{nat_tests}
@@ -141,6 +141,10 @@ either b xs ys h3 h4 = grind arith
 onto : (k n : ℕ) (acc : List ℕ) → Dates acc → Dates (digits_onto k 10 false n acc)
 onto zero n acc h = h
 onto (suc k) n acc h = grind (arith, onto k (n / 10), dates_cons, glyph, either)
+
+pub number_dates : (n : ℕ) → Dates (decimal n)
+unfolding digits
+number_dates n = onto 64 n [] refl
 
 two : (n : ℕ) → Dates (two_wide n)
 unfolding two_wide digits

@@ -10,3 +10,6 @@ pub mod Told
 pub mod Paths
 pub mod CommandNames
 pub mod PageIds
+pub mod HtmlTexts
+pub mod Written
+mod Rows

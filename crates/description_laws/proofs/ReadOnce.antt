@@ -13,7 +13,7 @@ use Rattle.toml_datetime.specs.Text.{date_text}
 use Rattle.description.specs.Words.{WordsSaid, english}
 use Rattle.description.specs.Content.{OptSaid, TopicSaid, LevelSaid, GroupsSaid, GroupSaid, CommandsSaid, CommandSaid}
 use Rattle.description_toml.specs.Described.{choice_from, command_head, command_keys, command_of, CommandHead, commands_at, described, description_head, description_keys, description_of, DescriptionHead, fixed_in, group_head, group_of, GroupHead, groups_at, level_of, option_from, Outline, outline_from, positional_from, title_words, topic_from, help_option_keys, option_keys, TitleWords}
-use Rattle.description_toml.specs.Described.Texts.{as_command_name, as_text, before_colon, has_blank_end, is_command_name, is_empty_text, without_colon, is_heading, is_long, is_name, is_read_once, is_section, is_title, as_language, is_word_character}
+use Rattle.description_toml.specs.Described.Texts.{as_command_name, as_text, before_colon, has_blank_end, is_command_name, is_empty_text, without_colon, is_heading, is_long, is_read_once, is_section, is_title, as_language, is_word_character}
 use Rattle.description_toml.specs.Described.Values.{as_short, each_table, optional_at, required_at, table_at, tables_at, flag_at, words_at}
 use Rattle.description_laws.specs.Plain.{each_word}
 use Rattle.description_laws.specs.ReadOnce.{IsReadOnce, TitlesAreReadOnce, command_headings, commands_headings, given, group_headings, groups_headings, level_headings}

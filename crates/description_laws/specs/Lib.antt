@@ -1,3 +1,4 @@
 pub mod HtmlPages
 pub mod Plain
 pub mod ReadOnce
+pub mod Written

@@ -1,11 +1,12 @@
-//! Laws of the description that a TOML text gives, and of its pages in HTML: nothing to call, but statements that the
-//! check proves. No page rests on them, so they stand above `description_toml` and `command_pages`, and who reads a
-//! description or makes pages need not have them proved.
+//! Laws of the description that a TOML text gives, and of its pages: nothing to call, but statements that the check
+//! proves. No page rests on them, so they stand above `description_toml` and `command_pages`, and who reads a description
+//! or makes pages need not have them proved.
 #![tactic(auto)]
 
 ghost use Rattle.description_laws.specs.HtmlPages.{HtmlIdsAreDistinct, HtmlLinksHaveTargets};
 ghost use Rattle.description_laws.specs.Plain.{TextsArePlain};
 ghost use Rattle.description_laws.specs.ReadOnce.{TitlesAreReadOnce};
+ghost use Rattle.description_laws.specs.Written.{PagesAreWritten};
 
 /// No text and no name of a description that a TOML text gives holds a control character but newline and tab, nor a
 /// noncharacter of Unicode.
@@ -30,4 +31,12 @@ pub fn html_links_have_targets()
 /// command, have one id, where there are fewer than 2^64 of them and the names are UTF-8, as those of every value are.
 pub fn html_ids_are_distinct()
     ensures { HtmlIdsAreDistinct }
+{}
+
+/// No medium refuses a text of a page of a description that a TOML text gives: no page on a console, as a manual page or
+/// in markdown has a fault, of the application or of a command, alone or with the levels below it, and none in HTML has
+/// the fault `Character`. The texts are UTF-8, as those of every value are. A date and a vendor that are given in the
+/// place of its own are permitted too.
+pub fn pages_are_written()
+    ensures { PagesAreWritten }
 {}
