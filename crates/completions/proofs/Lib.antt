@@ -1,0 +1,9 @@
+pub mod Reading
+pub mod Writing
+pub mod Syntaxes
+pub mod Commas
+pub mod Tags
+pub mod Apart
+pub mod Members
+pub mod Whole
+pub mod Rows

@@ -1,0 +1,51 @@
+-- What each shell reads of quoted words, of what it reads nothing, and names, values and tags.
+use Rattle.std.specs.Prelude.{◌≡◌, List, ℕ, [], ◌∷◌, flat_map, Some, None, codes}
+use Rattle.std.proofs.Common.{refl}
+use Rattle.completions.specs.Reader.{read}
+use Rattle.completions.specs.Scripts.{tag}
+use Rattle.completions.specs.Syntax.{syntax_how, syntax_words, word_names}
+use Rattle.completions.specs.Values.{listed_values}
+use Rattle.completions.specs.declared.shells.Shell.TheVariants as shell
+use Rattle.completions.specs.declared.syntax.How.TheVariants as how
+
+pub words_read_of :
+    (read shell.Bash (codes "  'a b' ''\n'$(x) \\'\n") ≡ Some (codes "a b" ∷ [] ∷ codes "$(x) \\" ∷ []))
+    × (read shell.Zsh (codes "'it'\\''s'\\' 'b'") ≡ Some (codes "it's'" ∷ codes "b" ∷ []))
+    × (read shell.Fish (codes "'it\\'s \\\\ \\n' \\\n''") ≡ Some (codes "it's \\ \\n" ∷ [] ∷ []))
+words_read_of = (refl, refl, refl)
+
+-- a word without quotes, one that has no end, a command that ends, and a quote behind a backslash between two words
+pub nothing_read_of :
+    (read shell.Bash (codes "'a' $b") ≡ None)
+    × (read shell.Zsh (codes "'a' 'b") ≡ None)
+    × (read shell.Fish (codes "'a'\n'b'") ≡ None)
+    × (read shell.Fish (codes "'a'\\''b'") ≡ None)
+nothing_read_of = (refl, refl, refl, refl)
+
+abbrev names_in : List ℕ → List (List ℕ)
+names_in text = flat_map word_names (syntax_words text)
+
+pub names_of_syntaxes :
+    (names_in (codes "-n, --line") ≡ codes "-n" ∷ codes "--line" ∷ [])
+    × (names_in (codes "-o FILE, --output=FILE") ≡ codes "-o" ∷ codes "--output" ∷ [])
+    × (names_in (codes "--[no-]edit") ≡ codes "--edit" ∷ codes "--no-edit" ∷ [])
+    × (names_in (codes "-x|-y [-z, -w] --") ≡ codes "-x" ∷ codes "-y" ∷ [])
+    × (names_in (codes "if=FILE") ≡ [])
+names_of_syntaxes = (refl, refl, refl, refl, refl)
+
+pub values_of_syntaxes :
+    (syntax_how (codes "-n, --line") ≡ how.Flag)
+    × (syntax_how (codes "-o FILE, --output=FILE") ≡ how.Word)
+    × (syntax_how (codes "-s, --store=FOLDER") ≡ how.Value)
+    × (syntax_how (codes "-c, --color[=WHEN]") ≡ how.Optional)
+values_of_syntaxes = (refl, refl, refl, refl)
+
+pub values_in_lists :
+    (listed_values (codes "never") ≡ codes "never" ∷ [])
+    × (listed_values (codes "very fast, a,b, c") ≡ codes "very fast" ∷ codes "a,b" ∷ codes "c" ∷ [])
+values_in_lists = (refl, refl)
+
+pub tags_of_names :
+    (tag (codes "a-b_C1") ≡ codes "a_2db_5fC1")
+    × (tag (195 ∷ 169 ∷ []) ≡ codes "_c3_a9")
+tags_of_names = (refl, refl)

@@ -1,0 +1,181 @@
+//! Levels: groups and commands, and what these have.
+ghost use Rattle.std.specs.Prelude.{◌≡◌, ◌++◌, ◌∷◌, [], codes, map, OnOk, string_bytes};
+ghost use Rattle.description.specs.View.{command_said, commands_said, description_said, group_said, groups_said};
+ghost use Rattle.description.specs.View.{level_said};
+ghost use Rattle.completions.specs.Table.{alias_entries, command_entries, command_head, command_head_entries};
+ghost use Rattle.completions.specs.Table.{commands_entries, group_entries, groups_entries, initial_entries};
+ghost use Rattle.completions.specs.Table.{level_entries, lone, table};
+ghost use Rattle.completions.specs.Written.{Writes};
+
+use crate::entries::{Entry, push_entry};
+use crate::helps::command_help;
+use crate::options::{Script, push_choices, push_options, push_places};
+use crate::shells::Shell;
+use bumpalo::Bump;
+use description::{Command, Description, Group, Level};
+use std::alloc::{AllocError, Allocator};
+
+// ---- the names of a command
+
+fn push_initial<A: Allocator>(
+    arena: &Bump,
+    out: &mut String<A>,
+    shell: Shell,
+    short: Option<char>,
+) -> Result<(), AllocError>
+    ensures { OnOk result (Writes shell (string_bytes out.old) (string_bytes out.new) (initial_entries short)) }
+{
+    if let Some(short) = short {
+        let mut name = String::new(arena);
+        name.push(short)?;
+        push_entry(out, shell, Entry::lone("alias", name.as_str()))?;
+    }
+    Ok(())
+}
+
+fn push_aliases<A: Allocator>(
+    out: &mut String<A>,
+    shell: Shell,
+    aliases: &[&'static str],
+) -> Result<(), AllocError>
+    ensures { OnOk result (Writes shell (string_bytes out.old) (string_bytes out.new)
+        (map (lone (codes "alias")) (map (λ name. name.now) aliases.now))) }
+{
+    for alias in aliases {
+        push_entry(out, shell, Entry::lone("alias", alias))?;
+    }
+    Ok(())
+}
+
+fn push_command_entry<'p, 'a: 'p, C: Allocator>(
+    arena: &'p Bump,
+    out: &mut Script<'p>,
+    shell: Shell,
+    command: &'p Command<'a, C>,
+) -> Result<(), AllocError>
+    ensures { OnOk result (Writes shell (string_bytes out.old) (string_bytes out.new)
+        (command_head (command_said command.now) ∷ [])) }
+{
+    let help = command_help(arena, command.help, command.level.about)?;
+    let row = Entry {
+        help: help.as_str(),
+        ..Entry::lone("command", command.name)
+    };
+    push_entry(out, shell, row)
+}
+
+fn push_head<'p, 'a: 'p, C: Allocator>(
+    arena: &'p Bump,
+    out: &mut Script<'p>,
+    shell: Shell,
+    command: &'p Command<'a, C>,
+) -> Result<(), AllocError>
+    ensures { OnOk result (Writes shell (string_bytes out.old) (string_bytes out.new)
+        (command_head_entries (command_said command.now))) }
+{
+    push_command_entry(arena, out, shell, command)?;
+    push_initial(arena, out, shell, command.short)?;
+    push_aliases(out, shell, command.aliases.as_slice())
+}
+
+// ---- levels
+
+#[cycle(levels)]
+fn push_level<'p, 'a: 'p, C: Allocator>(
+    arena: &'p Bump,
+    out: &mut Script<'p>,
+    shell: Shell,
+    level: &'p Level<'a, C>,
+) -> Result<(), AllocError>
+    ensures { OnOk result (Writes shell (string_bytes out.old) (string_bytes out.new)
+        (level_entries (level_said level.now))) }
+{
+    push_groups(arena, out, shell, &level.groups)?;
+    push_options(arena, out, shell, level.options.as_slice())?;
+    push_choices(arena, out, shell, level.choices.as_slice())?;
+    push_places(out, shell, level.positionals.as_slice())?;
+    push_commands(arena, out, shell, &level.commands)
+}
+
+#[cycle(levels)]
+fn push_groups<'p, 'a: 'p, C: Allocator>(
+    arena: &'p Bump,
+    out: &mut Script<'p>,
+    shell: Shell,
+    groups: &'p Vec<Group<'a, C>, C>,
+) -> Result<(), AllocError>
+    ensures { OnOk result (Writes shell (string_bytes out.old) (string_bytes out.new)
+        (groups_entries (groups_said groups.now.items))) }
+{
+    for group in groups {
+        push_group(arena, out, shell, group)?;
+    }
+    Ok(())
+}
+
+#[cycle(levels)]
+fn push_group<'p, 'a: 'p, C: Allocator>(
+    arena: &'p Bump,
+    out: &mut Script<'p>,
+    shell: Shell,
+    group: &'p Group<'a, C>,
+) -> Result<(), AllocError>
+    ensures { OnOk result (Writes shell (string_bytes out.old) (string_bytes out.new)
+        (group_entries (group_said group.now))) }
+{
+    push_options(arena, out, shell, group.options.as_slice())?;
+    push_choices(arena, out, shell, group.choices.as_slice())?;
+    push_places(out, shell, group.positionals.as_slice())?;
+    push_commands(arena, out, shell, &group.commands)
+}
+
+#[cycle(levels)]
+fn push_commands<'p, 'a: 'p, C: Allocator>(
+    arena: &'p Bump,
+    out: &mut Script<'p>,
+    shell: Shell,
+    commands: &'p Vec<Command<'a, C>, C>,
+) -> Result<(), AllocError>
+    ensures { OnOk result (Writes shell (string_bytes out.old) (string_bytes out.new)
+        (commands_entries (commands_said commands.now.items))) }
+{
+    for command in commands {
+        push_command(arena, out, shell, command)?;
+    }
+    Ok(())
+}
+
+#[cycle(levels)]
+fn push_command<'p, 'a: 'p, C: Allocator>(
+    arena: &'p Bump,
+    out: &mut Script<'p>,
+    shell: Shell,
+    command: &'p Command<'a, C>,
+) -> Result<(), AllocError>
+    ensures { OnOk result (Writes shell (string_bytes out.old) (string_bytes out.new)
+        (command_entries (command_said command.now))) }
+{
+    if command.hidden {
+        return Ok(());
+    }
+    push_head(arena, out, shell, command)?;
+    push_level(arena, out, shell, &command.level)?;
+    push_entry(out, shell, Entry::mark("end"))
+}
+
+/// Puts the whole table of a description. After `AllocError` some of it may stand there.
+pub fn push_table<'p, 'a: 'p, C: Allocator>(
+    arena: &'p Bump,
+    out: &mut Script<'p>,
+    shell: Shell,
+    description: &'p Description<'a, C>,
+) -> Result<(), AllocError>
+    ensures { OnOk result (Writes shell (string_bytes out.old) (string_bytes out.new)
+        (table (description_said description.now))) }
+{
+    push_entry(out, shell, Entry::lone("program", description.name))?;
+    push_options(arena, out, shell, description.help_options.as_slice())?;
+    push_entry(out, shell, Entry::mark("level"))?;
+    push_level(arena, out, shell, &description.level)?;
+    push_entry(out, shell, Entry::mark("end"))
+}
