@@ -1,0 +1,12 @@
+//! Tests of `completions`: rows with ample memory, and each growth refused in turn. A row is a description in TOML and
+//! the data of its script.
+#![tactic(auto)]
+
+#[cfg(test)]
+mod reading;
+#[cfg(test)]
+mod refusals;
+#[cfg(test)]
+mod rows;
+#[cfg(test)]
+mod tables;
