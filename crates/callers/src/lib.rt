@@ -40,6 +40,9 @@ pub mod level_manual;
 // command_pages
 pub mod command_help;
 
+// completions
+pub mod completing;
+
 // lasting_names
 pub mod naming;
 
