@@ -1,3 +1,4 @@
 mod Bounds
+mod Firsts
 mod Levels
 mod Words

@@ -1,6 +1,7 @@
 -- What a hint says, what it is about, and the way there, with no memory in it: names and texts are bytes.
 use Rattle.std.specs.Prelude.{ℕ, List, Bool, Option}
 use Rattle.description.specs.Content.{OptSaid}
+use Rattle.description.specs.Words.{WordsSaid}
 
 -- a step of a way: to what a key names, or to the table of this number in a list, counted from 0
 pub data StepSaid : Type 0 where
@@ -19,20 +20,38 @@ pub data HintSaid : Type 0 where
   wide_summary : (columns : ℕ) → HintSaid
   no_such_option : (text : List ℕ) → HintSaid
   plain_link : (address : List ℕ) → HintSaid
+  wide_item : (columns : ℕ) → HintSaid
+  not_on_level : (text : List ℕ) → HintSaid
+  different_help : (name : List ℕ) → (first : Path) → HintSaid
 
 -- a hint, and the way to what it is about
 pub record WarningSaid : Type 0 where
   pub path : Path
   pub hint : HintSaid
 
--- a part of a description that hints may be about
+-- a part of a description that hints may be about: an option with whether it stands in the usage that is made of a
+-- level, and a text in place of such a usage with the words that the options of its level are called by
 pub data PartSaid : Type 0 where
   application_part : (about : Option (List ℕ)) → PartSaid
-  option_part : OptSaid → PartSaid
+  option_part : OptSaid → (in_usage : Bool) → PartSaid
   command_part : (hidden : Bool) → (help about : Option (List ℕ)) → PartSaid
   text_part : List ℕ → PartSaid
+  usage_part : (text : List ℕ) → (own : List (List ℕ)) → PartSaid
 
 -- such a part, and the way to it
 pub record SiteSaid : Type 0 where
   pub path : Path
   pub part : PartSaid
+
+-- what the hints about a part look at of the whole description: its fixed words, and whether an option is called by a
+-- word, or one that asks for help
+pub record Around : Type 0 where
+  pub fixed : WordsSaid
+  pub has : List ℕ → Bool
+  pub asks : List ℕ → Bool
+
+-- what an option is called, its help, and the way to the option
+pub record HelpSaid : Type 0 where
+  pub name : List ℕ
+  pub help : List ℕ
+  pub path : Path

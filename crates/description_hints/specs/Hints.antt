@@ -1,15 +1,17 @@
 -- What is better said otherwise in a description: hints about each of its parts.
-use Rattle.std.specs.Prelude.{ℕ, Bool, true, false, not, ◌&&◌, ◌||◌, ◌==◌, nat_lt, List, [], ◌∷◌, ◌++◌, codes, map, flat_map, Option, Some, None, if◌then◌else◌}
+use Rattle.std.specs.Prelude.{ℕ, Bool, true, false, not, ◌&&◌, ◌||◌, ◌==◌, nat_lt, List, [], ◌∷◌, ◌++◌, bytes_eq, codes, find, map, flat_map, Option, Some, None, if◌then◌else◌}
 use Rattle.std.specs.List.{starts_with}
 use Rattle.std.specs.Str.{chars}
 use Rattle.unicode_width.specs.Width.{str_width}
-use Rattle.page_model.specs.Content.{Piece, words, literal, value, link, page, Line, BlockSaid}
+use Rattle.page_model.specs.Content.{Piece, words, literal, value, link, page, Line, FormSaid}
 use Rattle.description.specs.Content.{OptSaid, DescriptionSaid}
 use Rattle.description_texts.specs.Texts.{first_paragraph, is_empty, text_blocks}
-use Rattle.description_hints.specs.Content.{Path, HintSaid, no_help, nothing_said, no_about, two_sentences, wide_summary, no_such_option, plain_link, WarningSaid, PartSaid, application_part, option_part, command_part, text_part, SiteSaid}
-use Rattle.description_hints.specs.Names.{is_among, is_no_option, known_words}
+use Rattle.description_usage.specs.Forms.{text_forms}
+use Rattle.description_usage.specs.Usage.{option_item}
+use Rattle.description_hints.specs.Content.{Around, HelpSaid, Path, HintSaid, no_help, nothing_said, no_about, two_sentences, wide_summary, no_such_option, plain_link, wide_item, not_on_level, different_help, WarningSaid, PartSaid, application_part, option_part, command_part, text_part, usage_part, SiteSaid}
+use Rattle.description_hints.specs.Names.{called, is_among, is_no_option, known_words, options_words}
 use Rattle.description_hints.specs.Sites.{sites, under}
-use Rattle.description_hints.specs.Texts.{blocks_of, has_turn, paragraph_text, pieces_of}
+use Rattle.description_hints.specs.Texts.{blocks_of, has_turn, line_text, paragraph_text, pieces_of}
 
 abbrev pub hint_if : Bool → HintSaid → List HintSaid
 hint_if true hint = hint ∷ []
@@ -29,8 +31,8 @@ is_missing (Some text) = is_empty text
 abbrev pub application_hints : (about : Option (List ℕ)) → List HintSaid
 application_hints about = hint_if (is_missing about) no_about
 
-abbrev pub option_hints : OptSaid → List HintSaid
-option_hints o = hint_if (not o.hidden && is_missing o.help) no_help
+abbrev pub help_hints : OptSaid → List HintSaid
+help_hints o = hint_if (not o.hidden && is_missing o.help) no_help
 
 abbrev pub command_hints : (hidden : Bool) → (help about : Option (List ℕ)) → List HintSaid
 command_hints hidden help about = hint_if (not hidden && (is_missing help && is_missing about)) nothing_said
@@ -75,6 +77,73 @@ piece_hints has (page name) = []
 abbrev pub text_hints : (has : List ℕ → Bool) → List ℕ → List HintSaid
 text_hints has text = flat_map (piece_hints has) (pieces_of (text_blocks text))
 
+-- ---- usages
+
+-- so many columns a usage takes to show an option alone
+abbrev pub item_columns : OptSaid → ℕ
+item_columns o = columns (line_text (option_item o.required o.repeated o))
+
+-- an option that a usage shows takes at most 60 columns there
+abbrev pub width_hints : (in_usage : Bool) → OptSaid → List HintSaid
+width_hints in_usage o = hint_if ((in_usage && not o.hidden) && nat_lt 60 (item_columns o)) (wide_item (item_columns o))
+
+abbrev pub option_hints : (in_usage : Bool) → OptSaid → List HintSaid
+option_hints in_usage o = help_hints o ++ width_hints in_usage o
+
+-- a text in place of a usage names options of its level, or such as ask for help; `own` and `asks` tell whether one of
+-- these is called by a word
+abbrev pub usage_piece_hints : (own asks : List ℕ → Bool) → Piece → List HintSaid
+usage_piece_hints own asks (words text) = []
+usage_piece_hints own asks (literal text) = hint_if (is_no_option own text && is_no_option asks text) (not_on_level text)
+usage_piece_hints own asks (value text) = []
+usage_piece_hints own asks (link address) = []
+usage_piece_hints own asks (page name) = []
+
+abbrev pub item_pieces : FormSaid → List Piece
+item_pieces form = flat_map (λ item. item) form.items
+
+abbrev pub forms_hints : (own asks : List ℕ → Bool) → List FormSaid → List HintSaid
+forms_hints own asks forms = flat_map (usage_piece_hints own asks) (flat_map item_pieces forms)
+
+abbrev pub usage_hints : Around → (text : List ℕ) → (own : List (List ℕ)) → List HintSaid
+usage_hints a text own = forms_hints (is_among own) a.asks (text_forms a.fixed text)
+
+-- ---- one name with two helps
+
+-- of an option that pages show and that has a help
+abbrev pub help_at : Path → (name : List ℕ) → Option (List ℕ) → List HelpSaid
+help_at path name None = []
+help_at path name (Some help) = if is_empty help then [] else record { name = name; help = help; path = path } ∷ []
+
+abbrev pub option_helps : Path → OptSaid → List HelpSaid
+option_helps path o = if o.hidden then [] else help_at path (called o.spelling) o.help
+
+abbrev pub part_helps : Path → PartSaid → List HelpSaid
+part_helps path (application_part about) = []
+part_helps path (option_part o in_usage) = option_helps path o
+part_helps path (command_part hidden help about) = []
+part_helps path (text_part said) = []
+part_helps path (usage_part text own) = []
+
+abbrev pub site_helps : SiteSaid → List HelpSaid
+site_helps s = part_helps s.path s.part
+
+-- options of one name say the same: this one what the first one says
+abbrev pub beside : (first : Option HelpSaid) → HelpSaid → List WarningSaid
+beside None own = []
+beside (Some first) own = about_path own.path (hint_if (not (bytes_eq first.help own.help)) (different_help own.name first.path))
+
+abbrev pub is_called : (name : List ℕ) → HelpSaid → Bool
+is_called name h = bytes_eq name h.name
+
+abbrev pub first_called : (name : List ℕ) → List HelpSaid → Option HelpSaid
+first_called name helps = find (is_called name) helps
+
+-- each beside the first one of its name before it
+abbrev pub beside_those : (before : List HelpSaid) → List HelpSaid → List WarningSaid
+beside_those before [] = []
+beside_those before (own ∷ others) = beside (first_called own.name before) own ++ beside_those (before ++ own ∷ []) others
+
 -- ---- all of them
 
 abbrev pub application_warnings : Path → (about : Option (List ℕ)) → List WarningSaid
@@ -83,19 +152,19 @@ application_warnings path about = about_path path (application_hints about) ++ s
 abbrev pub command_warnings : Path → (hidden : Bool) → (help about : Option (List ℕ)) → List WarningSaid
 command_warnings path hidden help about = about_path path (command_hints hidden help about) ++ summary_warnings path help about
 
-abbrev pub part_warnings : (has : List ℕ → Bool) → Path → PartSaid → List WarningSaid
-part_warnings has path (application_part about) = application_warnings path about
-part_warnings has path (option_part o) = about_path path (option_hints o)
-part_warnings has path (command_part hidden help about) = command_warnings path hidden help about
-part_warnings has path (text_part said) = about_path path (text_hints has said)
+abbrev pub part_warnings : Around → Path → PartSaid → List WarningSaid
+part_warnings a path (application_part about) = application_warnings path about
+part_warnings a path (option_part o in_usage) = about_path path (option_hints in_usage o)
+part_warnings a path (command_part hidden help about) = command_warnings path hidden help about
+part_warnings a path (text_part said) = about_path path (text_hints a.has said)
+part_warnings a path (usage_part text own) = about_path path (usage_hints a text own)
 
-abbrev pub site_warnings : (has : List ℕ → Bool) → SiteSaid → List WarningSaid
-site_warnings has s = part_warnings has s.path s.part
+abbrev pub site_warnings : Around → SiteSaid → List WarningSaid
+site_warnings a s = part_warnings a s.path s.part
 
--- the hints about some parts, each in its turn
-abbrev pub warnings_among : List SiteSaid → List WarningSaid
-warnings_among parts = flat_map (site_warnings (is_among (known_words parts))) parts
+abbrev pub around : DescriptionSaid → Around
+around d = record { fixed = d.words; has = is_among (known_words (sites d)); asks = is_among (options_words d.help_options) }
 
--- the hints about a description
+-- the hints about a description: those about each part in its turn, and then those about names with two helps
 abbrev pub warnings : DescriptionSaid → List WarningSaid
-warnings d = warnings_among (sites d)
+warnings d = flat_map (site_warnings (around d)) (sites d) ++ beside_those [] (flat_map site_helps (sites d))

@@ -4,3 +4,4 @@ pub mod Sites
 pub mod Texts
 pub mod Names
 pub mod Hints
+pub mod Steps

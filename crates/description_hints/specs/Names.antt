@@ -1,9 +1,10 @@
 -- The words that the options of a description are called by, and texts that look like an option.
-use Rattle.std.specs.Prelude.{ℕ, Bool, true, false, not, ◌&&◌, ◌||◌, ◌==◌, List, [], ◌∷◌, ◌++◌, codes, drop, length, map, flat_map, bytes_eq}
+use Rattle.std.specs.Prelude.{ℕ, Bool, false, not, ◌&&◌, ◌||◌, ◌==◌, List, [], ◌∷◌, ◌++◌, codes, drop, length, map, flat_map, bytes_eq}
 use Rattle.std.specs.Char.{encode_utf8, is_ascii_alphabetic, is_ascii_alphanumeric}
 use Rattle.std.specs.List.{before_first, list_all, list_any, prefix_len, slice_split, starts_with}
-use Rattle.description.specs.Content.{NameSaid, short, long, both, SpellingSaid, named, syntax, OptSaid}
-use Rattle.description_hints.specs.Content.{PartSaid, application_part, option_part, command_part, text_part, SiteSaid}
+use Rattle.description.specs.Content.{NameSaid, short, long, both, SpellingSaid, named, syntax, OptSaid, ChoiceSaid, LevelSaid, level, GroupSaid, group}
+use Rattle.description_usage.specs.Usage.{group_list}
+use Rattle.description_hints.specs.Content.{PartSaid, application_part, option_part, command_part, text_part, usage_part, SiteSaid}
 
 -- ---- bytes
 
@@ -50,9 +51,10 @@ spelling_words (syntax text) = syntax_words text
 
 abbrev pub part_words : PartSaid → List (List ℕ)
 part_words (application_part about) = []
-part_words (option_part o) = spelling_words o.spelling
+part_words (option_part o in_usage) = spelling_words o.spelling
 part_words (command_part hidden help about) = []
 part_words (text_part said) = []
+part_words (usage_part text own) = []
 
 abbrev pub site_words : SiteSaid → List (List ℕ)
 site_words s = part_words s.part
@@ -60,12 +62,36 @@ site_words s = part_words s.part
 abbrev pub known_words : List SiteSaid → List (List ℕ)
 known_words sites = flat_map site_words sites
 
+-- those of some options, and of all that stand on a level, with its choices and groups
+abbrev pub options_words : List OptSaid → List (List ℕ)
+options_words os = flat_map (λ o. spelling_words o.spelling) os
+
+abbrev pub choices_words : List ChoiceSaid → List (List ℕ)
+choices_words cs = flat_map (λ c. options_words c.options) cs
+
+abbrev pub group_words : GroupSaid → List (List ℕ)
+group_words (group title os cs ps ms) = options_words os ++ choices_words cs
+
+abbrev pub level_words : LevelSaid → List (List ℕ)
+level_words (level texts required os cs gs ps ms) = (options_words os ++ choices_words cs) ++ flat_map group_words (group_list gs)
+
 abbrev pub is_among : (words : List (List ℕ)) → List ℕ → Bool
 is_among words word = list_any (bytes_eq word) words
 
 -- an option may be denied by `--no-` before its word
 abbrev pub is_known : (has : List ℕ → Bool) → List ℕ → Bool
 is_known has word = has word || (starts_with ◌==◌ word (codes "no-") && has (drop 3 word))
+
+-- ---- what one option is called: its long name, else its short one, with the dashes, or its syntax
+
+abbrev pub called_name : NameSaid → List ℕ
+called_name (short c) = codes "-" ++ encode_utf8 c
+called_name (long word) = codes "--" ++ word
+called_name (both c word) = codes "--" ++ word
+
+abbrev pub called : SpellingSaid → List ℕ
+called (named name) = called_name name
+called (syntax text) = text
 
 -- ---- texts that look like an option, as `-x`, `--word` and `--word=VALUE`
 

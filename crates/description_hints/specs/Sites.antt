@@ -1,7 +1,8 @@
 -- The parts of a description that hints may be about, each with the way to it, as its table stands in TOML.
-use Rattle.std.specs.Prelude.{ℕ, ◌+◌, List, [], ◌∷◌, ◌++◌, codes, Option, Some, None, map}
+use Rattle.std.specs.Prelude.{ℕ, ◌+◌, Bool, false, List, [], ◌∷◌, ◌++◌, codes, Option, Some, None, is_none}
 use Rattle.description.specs.Content.{OptSaid, ChoiceSaid, PositionalSaid, TopicSaid, TextsSaid, LevelSaid, level, GroupsSaid, no_groups, groups, GroupSaid, group, CommandsSaid, no_commands, commands, CommandSaid, command, DescriptionSaid}
-use Rattle.description_hints.specs.Content.{key, index, Path, PartSaid, application_part, option_part, command_part, text_part, SiteSaid}
+use Rattle.description_hints.specs.Content.{key, index, Path, PartSaid, application_part, option_part, command_part, text_part, usage_part, SiteSaid}
+use Rattle.description_hints.specs.Names.{level_words}
 
 -- what comes of each of a list, by its number, one behind the other
 abbrev pub numbered : {A B : Type 0} → (ℕ → A → List B) → ℕ → List A → List B
@@ -34,32 +35,42 @@ topic_sites path n topic = text_sites (table_in path (codes "topic") n) (codes "
 abbrev pub topics_sites : Path → List TopicSaid → List SiteSaid
 topics_sites path topics = numbered (topic_sites path) 0 topics
 
--- the texts of a level but those of topics, and but `usage`, which has a grammar of its own
-abbrev pub texts_sites : Path → TextsSaid → List SiteSaid
-texts_sites path texts =
+-- `usage`, which has a grammar of its own, if there is one, with the words of the options of its level
+abbrev pub usage_sites : Path → (text : Option (List ℕ)) → (own : List (List ℕ)) → List SiteSaid
+usage_sites path None own = []
+usage_sites path (Some text) own = site (under path (codes "usage")) (usage_part text own) ∷ []
+
+-- the texts of a level but those of topics
+abbrev pub texts_sites : Path → TextsSaid → (own : List (List ℕ)) → List SiteSaid
+texts_sites path texts own =
     text_sites path (codes "about") texts.about ++ text_sites path (codes "header") texts.header
-    ++ text_sites path (codes "footer") texts.footer
+    ++ text_sites path (codes "footer") texts.footer ++ usage_sites path texts.usage own
 
 abbrev pub own_texts : Path → LevelSaid → List SiteSaid
-own_texts path (level texts required options choices gs positionals subcommands) = texts_sites path texts
+own_texts path (level texts required options choices gs positionals subcommands) =
+    texts_sites path texts (level_words (level texts required options choices gs positionals subcommands))
+
+-- whether a usage is made of the level, since no text stands in its place
+abbrev pub makes_usage : LevelSaid → Bool
+makes_usage (level texts required options choices gs positionals subcommands) = is_none texts.usage
 
 -- ---- what a level has
 
 -- an option, and its help
-abbrev pub option_sites : Path → OptSaid → List SiteSaid
-option_sites path o = site path (option_part o) ∷ text_sites path (codes "help") o.help
+abbrev pub option_sites : (in_usage : Bool) → Path → OptSaid → List SiteSaid
+option_sites in_usage path o = site path (option_part o in_usage) ∷ text_sites path (codes "help") o.help
 
-abbrev pub listed_option : Path → (list : List ℕ) → ℕ → OptSaid → List SiteSaid
-listed_option path list n o = option_sites (table_in path list n) o
+abbrev pub listed_option : (in_usage : Bool) → Path → (list : List ℕ) → ℕ → OptSaid → List SiteSaid
+listed_option in_usage path list n o = option_sites in_usage (table_in path list n) o
 
-abbrev pub options_sites : Path → (list : List ℕ) → List OptSaid → List SiteSaid
-options_sites path list options = numbered (listed_option path list) 0 options
+abbrev pub options_sites : (in_usage : Bool) → Path → (list : List ℕ) → List OptSaid → List SiteSaid
+options_sites in_usage path list options = numbered (listed_option in_usage path list) 0 options
 
-abbrev pub choice_sites : Path → ℕ → ChoiceSaid → List SiteSaid
-choice_sites path n choice = options_sites (table_in path (codes "choice") n) (codes "option") choice.options
+abbrev pub choice_sites : (in_usage : Bool) → Path → ℕ → ChoiceSaid → List SiteSaid
+choice_sites in_usage path n choice = options_sites in_usage (table_in path (codes "choice") n) (codes "option") choice.options
 
-abbrev pub choices_sites : Path → List ChoiceSaid → List SiteSaid
-choices_sites path choices = numbered (choice_sites path) 0 choices
+abbrev pub choices_sites : (in_usage : Bool) → Path → List ChoiceSaid → List SiteSaid
+choices_sites in_usage path choices = numbered (choice_sites in_usage path) 0 choices
 
 abbrev pub positional_sites : Path → ℕ → PositionalSaid → List SiteSaid
 positional_sites path n positional = text_sites (table_in path (codes "positional") n) (codes "help") positional.help
@@ -75,17 +86,19 @@ abbrev mutual
   -- the texts of a level, and then its lists in the order of the table of keys
   pub level_sites : Path → LevelSaid → List SiteSaid
   level_sites path (level texts required options choices gs positionals subcommands) =
-      texts_sites path texts ++ options_sites path (codes "option") options ++ choices_sites path choices
-      ++ groups_sites path 0 gs ++ positionals_sites path positionals ++ commands_sites path 0 subcommands
+      own_texts path (level texts required options choices gs positionals subcommands)
+      ++ options_sites (is_none texts.usage) path (codes "option") options ++ choices_sites (is_none texts.usage) path choices
+      ++ groups_sites (is_none texts.usage) path 0 gs ++ positionals_sites path positionals ++ commands_sites path 0 subcommands
       ++ topics_sites path texts.topics
 
-  pub groups_sites : Path → ℕ → GroupsSaid → List SiteSaid
-  groups_sites path n no_groups = []
-  groups_sites path n (groups first others) = group_sites (table_in path (codes "group") n) first ++ groups_sites path (n + 1) others
+  pub groups_sites : (in_usage : Bool) → Path → ℕ → GroupsSaid → List SiteSaid
+  groups_sites in_usage path n no_groups = []
+  groups_sites in_usage path n (groups first others) =
+      group_sites in_usage (table_in path (codes "group") n) first ++ groups_sites in_usage path (n + 1) others
 
-  pub group_sites : Path → GroupSaid → List SiteSaid
-  group_sites path (group title options choices positionals subcommands) =
-      options_sites path (codes "option") options ++ choices_sites path choices
+  pub group_sites : (in_usage : Bool) → Path → GroupSaid → List SiteSaid
+  group_sites in_usage path (group title options choices positionals subcommands) =
+      options_sites in_usage path (codes "option") options ++ choices_sites in_usage path choices
       ++ positionals_sites path positionals ++ commands_sites path 0 subcommands
 
   pub commands_sites : Path → ℕ → CommandsSaid → List SiteSaid
@@ -97,6 +110,6 @@ abbrev mutual
   command_sites path (command names help l) =
       site path (command_part names.hidden help (about_of l)) ∷ text_sites path (codes "help") help ++ level_sites path l
 
--- the application, the options that ask for help, and what the top level has
+-- the application, the options that ask for help, which stand in no usage, and what the top level has
 abbrev pub sites : DescriptionSaid → List SiteSaid
-sites d = site [] (application_part (about_of d.level)) ∷ options_sites [] (codes "help_option") d.help_options ++ level_sites [] d.level
+sites d = site [] (application_part (about_of d.level)) ∷ options_sites false [] (codes "help_option") d.help_options ++ level_sites [] d.level

@@ -1,5 +1,6 @@
 //! Hints, and the ways to what they are about.
 use keyed::Step;
+use shown_words::Brief;
 use std::fmt;
 use std::fmt::Display;
 
@@ -20,6 +21,15 @@ pub enum Hint<'a> {
     NoSuchOption(&'a str),
     /// An address that is linked to is of `http`, and not of this machine.
     PlainLink(&'a str),
+    /// The option takes so many columns as an item of the usage that is made of its level, and these are over 60.
+    WideItem(usize),
+    /// A text in place of a usage has this name, and no option of its level is called so.
+    NotOnLevel(&'a str),
+    /// An option of this name stands before, where this leads, and its help is another text.
+    DifferentHelp {
+        name: &'a str,
+        first: &'a [Step<'a>],
+    },
 }
 
 impl Display for Hint<'_> {
@@ -35,8 +45,15 @@ impl Display for Hint<'_> {
                 f,
                 "the first paragraph is the summary, and has {columns} columns, over 80"
             ),
-            Hint::NoSuchOption(text) => write!(f, "no option is called {text}"),
-            Hint::PlainLink(address) => write!(f, "the link {address} is not https"),
+            Hint::NoSuchOption(text) => write!(f, "no option is called {}", Brief(*text)),
+            Hint::PlainLink(address) => write!(f, "the link {} is not https", Brief(*address)),
+            Hint::WideItem(columns) => {
+                write!(f, "as an item of a usage it has {columns} columns, over 60")
+            }
+            Hint::NotOnLevel(text) => write!(f, "no option here is called {}", Brief(*text)),
+            Hint::DifferentHelp { name, .. } => {
+                write!(f, "{} has a different help", Brief(*name))
+            }
         }
     }
 }
@@ -46,4 +63,14 @@ impl Display for Hint<'_> {
 pub struct Warning<'p> {
     pub path: &'p [Step<'p>],
     pub hint: Hint<'p>,
+}
+
+impl<'p> Warning<'p> {
+    /// The way to what stands before and is different, if the hint is about that.
+    pub fn first(&self) -> Option<&'p [Step<'p>]> {
+        match self.hint {
+            Hint::DifferentHelp { first, .. } => Some(first),
+            _ => None,
+        }
+    }
 }

@@ -45,7 +45,8 @@ fn without_dashes(word: &[u8]) -> &[u8]
 
 // ---- the words of options
 
-type Words<'p> = Vec<&'p [u8], &'p Bump>;
+/// Words in an arena.
+pub type Words<'p> = Vec<&'p [u8], &'p Bump>;
 
 fn push_short<'p>(arena: &'p Bump, words: &mut Words<'p>, short: char) -> Result<(), AllocError>
     ensures { OnOk result (words_said words.new.items ≡ words_said words.old.items ++ encode_utf8 short ∷ []) }
@@ -109,7 +110,8 @@ fn push_syntax<'p>(words: &mut Words<'p>, syntax: &'p [u8]) -> Result<(), AllocE
     Ok(())
 }
 
-fn push_spelling<'p>(
+/// Puts the words that an option is called by.
+pub fn push_spelling<'p>(
     arena: &'p Bump,
     words: &mut Words<'p>,
     spelling: Spelling<'p>,
@@ -128,8 +130,8 @@ fn push_part<'p>(arena: &'p Bump, words: &mut Words<'p>, part: Part<'p>) -> Resu
         ≡ words_said words.old.items ++ part_words (part_said part.entry)) }
 {
     match part {
-        Part::Option(option) => push_spelling(arena, words, option.spelling),
-        Part::Application(_) | Part::Command(_, _, _) | Part::Text(_) => Ok(()),
+        Part::Option(option, _) => push_spelling(arena, words, option.spelling),
+        Part::Application(_) | Part::Command(_, _, _) | Part::Text(_) | Part::Usage(_, _) => Ok(()),
     }
 }
 
@@ -145,13 +147,14 @@ fn words_of<'p>(arena: &'p Bump, sites: &[Site<'p>]) -> Result<Words<'p>, AllocE
 
 // ---- whether an option is called so
 
-/// The words that the options of a description are called by.
+/// Words that options are called by.
 #[derive(Drop)]
 pub struct Known<'p> {
     pub words: BTreeSet<&'p [u8], &'p Bump>,
 }
 
-fn set_of<'p>(arena: &'p Bump, words: &[&'p [u8]]) -> Result<Known<'p>, AllocError>
+/// A set of these words. An error comes only where an allocation failed.
+pub fn known_in<'p>(arena: &'p Bump, words: &[&'p [u8]]) -> Result<Known<'p>, AllocError>
     ensures { IfOk result (λ known. (word : List ℕ) → holds known word ≡ is_among (words_said words.now) word) }
 {
     let mut set = BTreeSet::new(arena);
@@ -168,7 +171,7 @@ impl<'p> Known<'p> {
             → holds known word ≡ is_among (known_words (map site_said sites.now)) word) }
     {
         let words = words_of(arena, sites)?;
-        set_of(arena, words.as_slice())
+        known_in(arena, words.as_slice())
     }
 
     fn has(&self, word: &'p [u8]) -> bool

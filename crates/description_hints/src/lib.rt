@@ -1,8 +1,11 @@
 //! What a description that is correct would better say.
 #![tactic(auto)]
 
+mod around;
+mod helps;
 pub mod hints;
 mod known;
+mod level_words;
 mod pieces;
 mod rules;
 mod sites;

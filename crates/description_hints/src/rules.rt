@@ -1,30 +1,36 @@
 //! What hints there are about a part of a description.
 ghost use Rattle.std.specs.Prelude.{◌≡◌, ◌++◌, map, flat_map, IfOk, None, OnOk};
+ghost use Rattle.page_model.specs.View.{form_of};
 ghost use Rattle.page_model.specs.View.{block_of, line_of, piece_of};
 ghost use Rattle.description.specs.View.{opt_said, text_of};
 ghost use Rattle.description_hints.specs.Hints.{about_path, application_warnings, command_warnings, hint_if};
-ghost use Rattle.description_hints.specs.Hints.{is_missing, is_plain, option_hints, part_warnings, piece_hints};
-ghost use Rattle.description_hints.specs.Hints.{summary_hints, summary_warnings, text_hints};
+ghost use Rattle.description_hints.specs.Hints.{forms_hints, help_hints, is_missing, is_plain, item_columns};
+ghost use Rattle.description_hints.specs.Hints.{item_pieces, option_hints, part_warnings, piece_hints, summary_hints};
+ghost use Rattle.description_hints.specs.Hints.{summary_warnings, text_hints, usage_hints, usage_piece_hints, width_hints};
 ghost use Rattle.description_hints.specs.Texts.{blocks_of};
-ghost use Rattle.description_hints.specs.View.{hint_said, holds, part_said, path_said, warning_said};
+ghost use Rattle.description_hints.specs.View.{around_said, hint_said, holds, part_said, path_said, warning_said};
+ghost use Rattle.description_hints.specs.View.{words_said};
 
+use crate::around::Around;
 use crate::hints::{Hint, Warning};
-use crate::known::Known;
-use crate::pieces::pieces_of;
+use crate::known::{Known, known_in};
+use crate::pieces::{item_pieces, pieces_of};
 use crate::sites::{Part, under};
-use crate::texts::{has_turn, paragraph_text};
+use crate::texts::{has_turn, line_text, paragraph_text};
 use bumpalo::Bump;
 use description::Opt;
 use description_texts::{blocks, first_paragraph, is_empty};
+use description_usage::{option_item, text_forms};
 use keyed::Step;
-use page_model::{Block, Inline, Line};
+use page_model::{Block, Form, Inline, Line};
 use std::alloc::AllocError;
 use unicode_width::UnicodeWidthStr;
 
 /// Hints in an arena.
 pub type Warnings<'p> = Vec<Warning<'p>, &'p Bump>;
 
-fn push_if<'p>(
+/// Puts a hint where it holds. An error comes only where an allocation failed.
+pub fn push_if<'p>(
     found: &mut Warnings<'p>,
     path: &'p [Step<'p>],
     is_so: bool,
@@ -175,6 +181,103 @@ fn push_text<'p>(
     push_pieces(found, known, path, pieces.as_slice())
 }
 
+// ---- usages
+
+fn push_usage_piece<'p>(
+    found: &mut Warnings<'p>,
+    own: &Known<'p>,
+    asking: &Known<'p>,
+    path: &'p [Step<'p>],
+    piece: Inline<'p>,
+) -> Result<(), AllocError>
+    ensures { OnOk result (map warning_said found.new.items ≡ map warning_said found.old.items
+        ++ about_path (path_said path.now) (usage_piece_hints (holds own.now) (holds asking.now) (piece_of piece.entry))) }
+{
+    match piece {
+        Inline::Literal(text) => {
+            let name = text.as_bytes();
+            let is_of_none = own.is_no_option(name) && asking.is_no_option(name);
+            push_if(found, path, is_of_none, Hint::NotOnLevel(text))
+        }
+        Inline::Words(_) | Inline::Value(_) | Inline::Link(_) | Inline::Page(_) => Ok(()),
+    }
+}
+
+fn push_usage_pieces<'p>(
+    found: &mut Warnings<'p>,
+    own: &Known<'p>,
+    asking: &Known<'p>,
+    path: &'p [Step<'p>],
+    pieces: &[Inline<'p>],
+) -> Result<(), AllocError>
+    ensures { OnOk result (map warning_said found.new.items ≡ map warning_said found.old.items
+        ++ about_path (path_said path.now)
+        (flat_map (usage_piece_hints (holds own.now) (holds asking.now)) (line_of pieces.now))) }
+{
+    for piece in pieces {
+        push_usage_piece(found, own, asking, path, *piece)?;
+    }
+    Ok(())
+}
+
+fn push_forms<'p>(
+    arena: &'p Bump,
+    found: &mut Warnings<'p>,
+    own: &Known<'p>,
+    asking: &Known<'p>,
+    path: &'p [Step<'p>],
+    forms: &[Form<'p, &'p Bump>],
+) -> Result<(), AllocError>
+    ensures { OnOk result (map warning_said found.new.items ≡ map warning_said found.old.items
+        ++ about_path (path_said path.now) (forms_hints (holds own.now) (holds asking.now) (map form_of forms.now))) }
+{
+    let pieces = item_pieces(arena, forms)?;
+    push_usage_pieces(found, own, asking, path, pieces.as_slice())
+}
+
+fn push_usage<'p>(
+    arena: &'p Bump,
+    found: &mut Warnings<'p>,
+    around: &Around<'p>,
+    path: &'p [Step<'p>],
+    text: &'p str,
+    words: &[&'p [u8]],
+) -> Result<(), AllocError>
+    ensures { OnOk result (map warning_said found.new.items ≡ map warning_said found.old.items
+        ++ about_path (path_said path.now) (usage_hints (around_said around.now) text.now (words_said words.now))) }
+{
+    let own = known_in(arena, words)?;
+    let forms = text_forms(arena, &around.fixed, text)?;
+    push_forms(arena, found, &own, &around.asking, path, forms.as_slice())
+}
+
+// How many columns a usage takes to show an option alone.
+fn item_columns<'p>(arena: &'p Bump, option: &Opt<'p>) -> Result<usize, AllocError>
+    ensures { IfOk result (λ columns. columns ≡ item_columns (opt_said option.now)) }
+{
+    let item = option_item(arena, option, option.required, option.repeated)?;
+    let text = line_text(arena, item.as_slice())?;
+    Ok(text.width())
+}
+
+fn push_width<'p>(
+    arena: &'p Bump,
+    found: &mut Warnings<'p>,
+    path: &'p [Step<'p>],
+    option: &Opt<'p>,
+    in_usage: bool,
+) -> Result<(), AllocError>
+    ensures { OnOk result (map warning_said found.new.items ≡ map warning_said found.old.items
+        ++ about_path (path_said path.now) (width_hints in_usage (opt_said option.now))) }
+{
+    let is_shown = in_usage && !option.hidden;
+    if !is_shown {
+        return Ok(());
+    }
+    let columns = item_columns(arena, option)?;
+    push_if(found, path, columns > 60, Hint::WideItem(columns))
+}
+
 // ---- all of them
 
 fn push_application<'p>(
@@ -191,15 +294,18 @@ fn push_application<'p>(
 }
 
 fn push_option<'p>(
+    arena: &'p Bump,
     found: &mut Warnings<'p>,
     path: &'p [Step<'p>],
     option: &Opt<'p>,
+    in_usage: bool,
 ) -> Result<(), AllocError>
     ensures { OnOk result (map warning_said found.new.items ≡ map warning_said found.old.items
-        ++ about_path (path_said path.now) (option_hints (opt_said option.now))) }
+        ++ about_path (path_said path.now) (option_hints in_usage (opt_said option.now))) }
 {
     let is_missing = !option.hidden && is_missing(option.help);
-    push_if(found, path, is_missing, Hint::NoHelp)
+    push_if(found, path, is_missing, Hint::NoHelp)?;
+    push_width(arena, found, path, option, in_usage)
 }
 
 fn push_command<'p>(
@@ -222,19 +328,20 @@ fn push_command<'p>(
 pub fn push_part<'p>(
     arena: &'p Bump,
     found: &mut Warnings<'p>,
-    known: &Known<'p>,
+    around: &Around<'p>,
     path: &'p [Step<'p>],
     part: Part<'p>,
 ) -> Result<(), AllocError>
     ensures { OnOk result (map warning_said found.new.items ≡ map warning_said found.old.items
-        ++ part_warnings (holds known.now) (path_said path.now) (part_said part.entry)) }
+        ++ part_warnings (around_said around.now) (path_said path.now) (part_said part.entry)) }
 {
     match part {
         Part::Application(about) => push_application(arena, found, path, about),
-        Part::Option(option) => push_option(found, path, &option),
+        Part::Option(option, in_usage) => push_option(arena, found, path, &option, in_usage),
         Part::Command(is_hidden, help, about) => {
             push_command(arena, found, path, is_hidden, help, about)
         }
-        Part::Text(text) => push_text(arena, found, known, path, text),
+        Part::Text(text) => push_text(arena, found, &around.known, path, text),
+        Part::Usage(text, own) => push_usage(arena, found, around, path, text, own),
     }
 }

@@ -2,13 +2,16 @@
 ghost use Rattle.std.specs.Prelude.{◌≡◌, ◌++◌, ◌∷◌, [], codes, map, IfOk, OnOk};
 ghost use Rattle.description.specs.View.{choice_said, command_said, commands_said, description_said, group_said};
 ghost use Rattle.description.specs.View.{groups_said, level_said, opt_said, positional_said, text_of, topic_said};
+ghost use Rattle.description_usage.specs.Forms.{level_text};
 ghost use Rattle.description_hints.specs.Content.{index, key};
+ghost use Rattle.description_hints.specs.Names.{level_words};
 ghost use Rattle.description_hints.specs.Sites.{choice_sites, choices_sites, command_sites, commands_sites};
 ghost use Rattle.description_hints.specs.Sites.{group_sites, groups_sites, level_sites, option_sites, options_sites};
 ghost use Rattle.description_hints.specs.Sites.{positional_sites, positionals_sites, sites, table_in, text_sites, topics_sites, under};
-ghost use Rattle.description_hints.specs.Sites.{own_texts};
+ghost use Rattle.description_hints.specs.Sites.{makes_usage, own_texts, usage_sites};
 ghost use Rattle.description_hints.specs.View.{part_said, path_said, site_said};
 
+use crate::level_words::level_words;
 use bumpalo::Bump;
 use bumpalo::collections::into_bump_slice;
 use description::{Choice, Command, Description, Group, Level, Opt, Positional, Topic};
@@ -20,10 +23,13 @@ use std::alloc::{AllocError, Allocator};
 pub enum Part<'p> {
     /// The application, by what is said about it.
     Application(Option<&'p str>),
-    Option(Opt<'p>),
+    /// An option, and whether it stands in the usage that is made of a level.
+    Option(Opt<'p>, bool),
     /// A command, by whether it is hidden, its help, and what is said about it.
     Command(bool, Option<&'p str>, Option<&'p str>),
     Text(&'p str),
+    /// A text in place of a usage, and the words that the options of its level are called by.
+    Usage(&'p str, &'p [&'p [u8]]),
 }
 
 /// Such a part, and the way to it.
@@ -87,6 +93,23 @@ fn push_text<'p>(
     Ok(())
 }
 
+fn push_usage<'p, 'a: 'p, C: Allocator>(
+    arena: &'p Bump,
+    sites: &mut Sites<'p>,
+    path: &[Step<'p>],
+    level: &'p Level<'a, C>,
+) -> Result<(), AllocError>
+    ensures { OnOk result (map site_said sites.new.items ≡ map site_said sites.old.items
+        ++ usage_sites (path_said path.now) (level_text (level_said level.now)) (level_words (level_said level.now))) }
+{
+    if let Some(text) = level.usage {
+        let path = under(arena, path, "usage")?;
+        let part = Part::Usage(text, level_words(arena, level)?);
+        sites.push(Site { path, part })?;
+    }
+    Ok(())
+}
+
 // The texts of a level but those of topics.
 fn push_own_texts<'p, 'a: 'p, C: Allocator>(
     arena: &'p Bump,
@@ -99,7 +122,8 @@ fn push_own_texts<'p, 'a: 'p, C: Allocator>(
 {
     push_text(arena, sites, path, "about", level.about)?;
     push_text(arena, sites, path, "header", level.header)?;
-    push_text(arena, sites, path, "footer", level.footer)
+    push_text(arena, sites, path, "footer", level.footer)?;
+    push_usage(arena, sites, path, level)
 }
 
 fn push_topics<'p>(
@@ -123,13 +147,14 @@ fn push_topics<'p>(
 fn push_option<'p>(
     arena: &'p Bump,
     sites: &mut Sites<'p>,
+    in_usage: bool,
     path: &'p [Step<'p>],
     option: &Opt<'p>,
 ) -> Result<(), AllocError>
     ensures { OnOk result (map site_said sites.new.items
-        ≡ map site_said sites.old.items ++ option_sites (path_said path.now) (opt_said option.now)) }
+        ≡ map site_said sites.old.items ++ option_sites in_usage (path_said path.now) (opt_said option.now)) }
 {
-    let part = Part::Option(*option);
+    let part = Part::Option(*option, in_usage);
     sites.push(Site { path, part })?;
     push_text(arena, sites, path, "help", option.help)
 }
@@ -137,16 +162,17 @@ fn push_option<'p>(
 fn push_options<'p>(
     arena: &'p Bump,
     sites: &mut Sites<'p>,
+    in_usage: bool,
     path: &[Step<'p>],
     list: &'static str,
     options: &[Opt<'p>],
 ) -> Result<(), AllocError>
     ensures { OnOk result (map site_said sites.new.items ≡ map site_said sites.old.items
-        ++ options_sites (path_said path.now) list.now (map opt_said options.now)) }
+        ++ options_sites in_usage (path_said path.now) list.now (map opt_said options.now)) }
 {
     for (at, option) in options.iter().enumerate() {
         let path = table_in(arena, path, list, at)?;
-        push_option(arena, sites, path, option)?;
+        push_option(arena, sites, in_usage, path, option)?;
     }
     Ok(())
 }
@@ -154,15 +180,17 @@ fn push_options<'p>(
 fn push_choices<'p, 'a: 'p, C: Allocator>(
     arena: &'p Bump,
     sites: &mut Sites<'p>,
+    in_usage: bool,
     path: &[Step<'p>],
     choices: &'p [Choice<'a, C>],
 ) -> Result<(), AllocError>
-    ensures { OnOk result (map site_said sites.new.items
-        ≡ map site_said sites.old.items ++ choices_sites (path_said path.now) (map choice_said choices.now)) }
+    ensures { OnOk result (map site_said sites.new.items ≡ map site_said sites.old.items
+        ++ choices_sites in_usage (path_said path.now) (map choice_said choices.now)) }
 {
     for (at, choice) in choices.iter().enumerate() {
         let path = table_in(arena, path, "choice", at)?;
-        push_options(arena, sites, path, "option", choice.options.as_slice())?;
+        let options = choice.options.as_slice();
+        push_options(arena, sites, in_usage, path, "option", options)?;
     }
     Ok(())
 }
@@ -196,6 +224,15 @@ fn push_positionals<'p>(
     Ok(())
 }
 
+fn makes_usage<C: Allocator>(level: &Level<'_, C>) -> bool
+    ensures { result ≡ makes_usage (level_said level.now) }
+{
+    match level.usage {
+        Some(_) => false,
+        None => true,
+    }
+}
+
 #[cycle(sites)]
 fn push_level<'p, 'a: 'p, C: Allocator>(
     arena: &'p Bump,
@@ -206,10 +243,18 @@ fn push_level<'p, 'a: 'p, C: Allocator>(
     ensures { OnOk result (map site_said sites.new.items
         ≡ map site_said sites.old.items ++ level_sites (path_said path.now) (level_said level.now)) }
 {
+    let in_usage = makes_usage(level);
     push_own_texts(arena, sites, path, level)?;
-    push_options(arena, sites, path, "option", level.options.as_slice())?;
-    push_choices(arena, sites, path, level.choices.as_slice())?;
-    push_groups(arena, sites, path, &level.groups)?;
+    push_options(
+        arena,
+        sites,
+        in_usage,
+        path,
+        "option",
+        level.options.as_slice(),
+    )?;
+    push_choices(arena, sites, in_usage, path, level.choices.as_slice())?;
+    push_groups(arena, sites, in_usage, path, &level.groups)?;
     push_positionals(arena, sites, path, level.positionals.as_slice())?;
     push_commands(arena, sites, path, &level.commands)?;
     push_topics(arena, sites, path, level.topics.as_slice())
@@ -219,15 +264,16 @@ fn push_level<'p, 'a: 'p, C: Allocator>(
 fn push_groups<'p, 'a: 'p, C: Allocator>(
     arena: &'p Bump,
     sites: &mut Sites<'p>,
+    in_usage: bool,
     path: &'p [Step<'p>],
     groups: &'p Vec<Group<'a, C>, C>,
 ) -> Result<(), AllocError>
-    ensures { OnOk result (map site_said sites.new.items
-        ≡ map site_said sites.old.items ++ groups_sites (path_said path.now) 0 (groups_said groups.now.items)) }
+    ensures { OnOk result (map site_said sites.new.items ≡ map site_said sites.old.items
+        ++ groups_sites in_usage (path_said path.now) 0 (groups_said groups.now.items)) }
 {
     for (at, group) in groups.iter().enumerate() {
         let path = table_in(arena, path, "group", at)?;
-        push_group(arena, sites, path, group)?;
+        push_group(arena, sites, in_usage, path, group)?;
     }
     Ok(())
 }
@@ -236,14 +282,22 @@ fn push_groups<'p, 'a: 'p, C: Allocator>(
 fn push_group<'p, 'a: 'p, C: Allocator>(
     arena: &'p Bump,
     sites: &mut Sites<'p>,
+    in_usage: bool,
     path: &'p [Step<'p>],
     group: &'p Group<'a, C>,
 ) -> Result<(), AllocError>
     ensures { OnOk result (map site_said sites.new.items
-        ≡ map site_said sites.old.items ++ group_sites (path_said path.now) (group_said group.now)) }
+        ≡ map site_said sites.old.items ++ group_sites in_usage (path_said path.now) (group_said group.now)) }
 {
-    push_options(arena, sites, path, "option", group.options.as_slice())?;
-    push_choices(arena, sites, path, group.choices.as_slice())?;
+    push_options(
+        arena,
+        sites,
+        in_usage,
+        path,
+        "option",
+        group.options.as_slice(),
+    )?;
+    push_choices(arena, sites, in_usage, path, group.choices.as_slice())?;
     push_positionals(arena, sites, path, group.positionals.as_slice())?;
     push_commands(arena, sites, path, &group.commands)
 }
@@ -293,7 +347,7 @@ pub fn sites<'p, 'a: 'p, C: Allocator>(
     let part = Part::Application(description.level.about);
     found.push(Site { path, part })?;
     let help_options = description.help_options.as_slice();
-    push_options(arena, &mut found, path, "help_option", help_options)?;
+    push_options(arena, &mut found, false, path, "help_option", help_options)?;
     push_level(arena, &mut found, path, &description.level)?;
     Ok(found)
 }

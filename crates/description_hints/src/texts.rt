@@ -28,6 +28,15 @@ fn push_line<A: Allocator>(text: &mut String<A>, line: &[Inline<'_>]) -> Result<
     Ok(())
 }
 
+/// The pieces of a line as one text. An error comes only where an allocation failed.
+pub fn line_text<A: Allocator>(alloc: A, line: &[Inline<'_>]) -> Result<String<A>, AllocError>
+    ensures { IfOk result (λ text. string_bytes text ≡ line_text (line_of line.now)) }
+{
+    let mut text = String::new(alloc);
+    push_line(&mut text, line)?;
+    Ok(text)
+}
+
 fn push_others<'p, A: Allocator, B: Allocator>(
     text: &mut String<A>,
     lines: &[Line<'p, B>],

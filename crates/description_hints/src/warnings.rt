@@ -1,11 +1,12 @@
 //! The hints about a description.
 ghost use Rattle.std.specs.Prelude.{◌≡◌, map, flat_map, IfOk};
 ghost use Rattle.description.specs.View.{description_said};
-ghost use Rattle.description_hints.specs.Hints.{site_warnings, warnings, warnings_among};
-ghost use Rattle.description_hints.specs.View.{holds, site_said, warning_said};
+ghost use Rattle.description_hints.specs.Hints.{site_warnings, warnings};
+ghost use Rattle.description_hints.specs.View.{around_said, site_said, warning_said};
 
+use crate::around::{Around, around_of};
+use crate::helps::push_all_different;
 use crate::hints::Warning;
-use crate::known::Known;
 use crate::rules::{Warnings, push_part};
 use crate::sites::{Site, sites};
 use bumpalo::Bump;
@@ -14,29 +15,21 @@ use std::alloc::{AllocError, Allocator};
 
 fn warnings_at<'p>(
     arena: &'p Bump,
-    known: &Known<'p>,
+    around: &Around<'p>,
     sites: &[Site<'p>],
 ) -> Result<Warnings<'p>, AllocError>
     ensures { IfOk result (λ found. map warning_said found.items
-        ≡ flat_map (site_warnings (holds known.now)) (map site_said sites.now)) }
+        ≡ flat_map (site_warnings (around_said around.now)) (map site_said sites.now)) }
 {
     let mut found: Warnings<'p> = Vec::new(arena);
     for site in sites {
-        push_part(arena, &mut found, known, site.path, site.part)?;
+        push_part(arena, &mut found, around, site.path, site.part)?;
     }
     Ok(found)
 }
 
-// The hints about some parts.
-fn warnings_among<'p>(arena: &'p Bump, sites: &[Site<'p>]) -> Result<Warnings<'p>, AllocError>
-    ensures { IfOk result (λ found. map warning_said found.items ≡ warnings_among (map site_said sites.now)) }
-{
-    let known = Known::of(arena, sites)?;
-    warnings_at(arena, &known, sites)
-}
-
-/// What a description would better say, in the order of its records: each level before what stands in it. All is made
-/// in the arena. An error comes only where an allocation failed.
+/// What a description would better say, in the order of its records: each level before what stands in it; and then which
+/// options of one name have different helps. All is made in the arena. An error comes only where an allocation failed.
 pub fn warnings_of<'p, 'a: 'p, C: Allocator>(
     arena: &'p Bump,
     description: &'p Description<'a, C>,
@@ -44,5 +37,8 @@ pub fn warnings_of<'p, 'a: 'p, C: Allocator>(
     ensures { IfOk result (λ found. map warning_said found.items ≡ warnings (description_said description.now)) }
 {
     let sites = sites(arena, description)?;
-    warnings_among(arena, sites.as_slice())
+    let around = around_of(arena, description, sites.as_slice())?;
+    let mut found = warnings_at(arena, &around, sites.as_slice())?;
+    push_all_different(arena, &mut found, sites.as_slice())?;
+    Ok(found)
 }

@@ -21,15 +21,24 @@ fn push_step(rt: &impl Abort, out: Global, text: &mut String, step: &Step<'_>) {
 }
 
 fn push_hint(rt: &impl Abort, out: Global, text: &mut String, hint: Hint<'_>) {
-    let said = format!(in out; "- {hint}\n").expect(rt, "a hint");
+    let said = format!(in out; "- {hint}").expect(rt, "a hint");
     text.push_str(said.as_str()).expect(rt, "a line");
 }
 
-fn push_warning(rt: &impl Abort, out: Global, text: &mut String, warning: &Warning<'_>) {
-    for step in warning.path {
+fn push_way(rt: &impl Abort, out: Global, text: &mut String, way: &[Step<'_>]) {
+    for step in way {
         push_step(rt, out, text, step);
     }
+}
+
+fn push_warning(rt: &impl Abort, out: Global, text: &mut String, warning: &Warning<'_>) {
+    push_way(rt, out, text, warning.path);
     push_hint(rt, out, text, warning.hint);
+    if let Some(first) = warning.first() {
+        text.push_str(" beside ").expect(rt, "a line");
+        push_way(rt, out, text, first);
+    }
+    text.push_str("\n").expect(rt, "a line");
 }
 
 fn lines(rt: &impl Abort, out: Global, warnings: &[Warning<'_>]) -> String {

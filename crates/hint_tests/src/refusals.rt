@@ -21,6 +21,9 @@ short = 'h'
 [[option]]
 syntax = '-x, --long'
 help = 'As `-y`'
+[[option]]
+long = 'two'
+help = 'One'
 [[choice]]
 [[choice.option]]
 long = 'one'
@@ -31,6 +34,10 @@ value = 'P'
 help = '<http://c.d>'
 [[command]]
 name = 'run'
+usage = 'run [--none]'
+[[command.option]]
+long = 'two'
+help = 'Two'
 [[command.topic]]
 title = 'T'
 text = '- <http://e.f>'
@@ -44,7 +51,9 @@ option 0 help - no option is called -y
 choice 0 option 0 - no help says what the option does
 group 0 positional 0 help - the link http://c.d is not https
 command 0 - neither help nor about says what the command does
+command 0 usage - no option here is called --none
 command 0 topic 0 text - the link http://e.f is not https
+command 0 option 0 - --two has a different help beside option 1 
 ";
 
 // An arena that grows no more.

@@ -88,6 +88,75 @@ pub const LITERALS: &[Row<'static>] = &[
     ),
 ];
 
+/// Names in a text that stands in place of a usage.
+pub const USAGES: &[Row<'static>] = &[
+    (
+        "name = 'a'\nabout = 'A'\nusage = \"\"\"\nUsage: a [-x] [--nope] FILE\na --long=V --help --no-long [-z]... (-g | --one) --hid\"\"\"\n[[help_option]]\nlong = 'help'\nhelp = 'H'\n[[option]]\nshort = 'x'\nlong = 'long'\nhelp = 'X'\n[[option]]\nlong = 'hid'\nhidden = true\n[[choice]]\n[[choice.option]]\nlong = 'one'\nhelp = 'O'\n[[group]]\ntitle = 'G'\n[[group.option]]\nshort = 'g'\nhelp = 'G'\n",
+        "usage - no option here is called --nope\nusage - no option here is called -z\n",
+    ),
+    // An option of the level above, and of one below, is none of the level. What stands for the names is not looked at.
+    (
+        "name = 'a'\nabout = 'A'\nusage = '-n -y'\n[[option]]\nshort = 'x'\nhelp = 'X'\n[[command]]\nname = 'c'\nhelp = 'C'\nusage = 'a [-x] c [-y]'\n[[command.option]]\nshort = 'y'\nhelp = 'Y'\n",
+        "usage - no option here is called -y\ncommand 0 usage - no option here is called -x\n",
+    ),
+    // The fixed word before a form, a value and letters that are no option.
+    (
+        "name = 'a'\nabout = 'A'\nusage = 'Nutzung: -n FILE -abc -1 - -- FILE'\n[words]\nusage = 'Nutzung'\n",
+        "",
+    ),
+];
+
+/// Options that take many columns of a usage.
+pub const WIDTHS: &[Row<'static>] = &[
+    // Of 60 columns, and of 61: in brackets, and repeated.
+    (
+        "name = 'a'\nabout = 'A'\n[[option]]\nlong = 'abcdefghi-abcdefghi-abcdefghi-abcdefghi-abcdefghi-abcd'\nvalue = 'V'\nhelp = 'X'\n",
+        "",
+    ),
+    (
+        "name = 'a'\nabout = 'A'\n[[option]]\nlong = 'abcdefghi-abcdefghi-abcdefghi-abcdefghi-abcdefghi-abcde'\nvalue = 'V'\nhelp = 'X'\n",
+        "option 0 - as an item of a usage it has 61 columns, over 60\n",
+    ),
+    (
+        "name = 'a'\nabout = 'A'\n[[group]]\ntitle = 'G'\n[[group.option]]\nlong = 'abcdefghi-abcdefghi-abcdefghi-abcdefghi-abcdefghi-abcd'\nvalue = 'V'\nrepeated = true\n",
+        "group 0 option 0 - no help says what the option does\ngroup 0 option 0 - as an item of a usage it has 63 columns, over 60\n",
+    ),
+    // By its short name, where it has one, and required.
+    (
+        "name = 'a'\nabout = 'A'\n[[option]]\nshort = 's'\nlong = 'abcdefghi-abcdefghi-abcdefghi-abcdefghi-abcdefghi-abcde'\nvalue = 'V'\nhelp = 'X'\n[[option]]\nlong = 'abcdefghi-abcdefghi-abcdefghi-abcdefghi-abcdefghi-abcder'\nrequired = true\nhelp = 'X'\n[[choice]]\n[[choice.option]]\nlong = 'abcdefghi-abcdefghi-abcdefghi-abcdefghi-abcdefghi-abcdee'\nvalue = 'V'\nhelp = 'X'\n",
+        "choice 0 option 0 - as an item of a usage it has 62 columns, over 60\n",
+    ),
+    // None that no usage shows.
+    (
+        "name = 'a'\nabout = 'A'\n[[help_option]]\nlong = 'abcdefghi-abcdefghi-abcdefghi-abcdefghi-abcdefghi-abcde'\nvalue = 'V'\nhelp = 'X'\n[[option]]\nlong = 'abcdefghi-abcdefghi-abcdefghi-abcdefghi-abcdefghi-abcdef'\nvalue = 'V'\nhidden = true\n[[command]]\nname = 'c'\nhelp = 'C'\nusage = 'c'\n[[command.option]]\nlong = 'abcdefghi-abcdefghi-abcdefghi-abcdefghi-abcdefghi-abcdeg'\nvalue = 'V'\nhelp = 'X'\n",
+        "",
+    ),
+];
+
+/// Options of one name on several levels.
+pub const HELPS: &[Row<'static>] = &[
+    (
+        "name = 'a'\nabout = 'A'\n[[option]]\nshort = 'x'\nlong = 'long'\nhelp = 'One'\n[[command]]\nname = 'c'\nhelp = 'C'\n[[command.option]]\nlong = 'long'\nvalue = 'V'\nhelp = 'Two'\n[[command]]\nname = 'd'\nhelp = 'D'\n[[command.option]]\nshort = 'y'\nlong = 'long'\nhelp = 'One'\n[[command]]\nname = 'e'\nhelp = 'E'\n[[command.option]]\nlong = 'long'\nhelp = 'Two'\n",
+        "command 0 option 0 - --long has a different help beside option 0 \ncommand 2 option 0 - --long has a different help beside option 0 \n",
+    ),
+    // By a short name alone, and by a syntax.
+    (
+        "name = 'a'\nabout = 'A'\n[[option]]\nshort = 'x'\nhelp = 'One'\n[[option]]\nsyntax = '--s[=V]'\nhelp = 'One'\n[[command]]\nname = 'c'\nhelp = 'C'\n[[command.option]]\nshort = 'x'\nhelp = 'Two'\n[[command.choice]]\n[[command.choice.option]]\nsyntax = '--s[=V]'\nhelp = 'Two'\n",
+        "command 0 option 0 - -x has a different help beside option 0 \ncommand 0 choice 0 option 0 - --s[=V] has a different help beside option 1 \n",
+    ),
+    // A hidden one, one without a help and one of another name say nothing; those that ask for help do.
+    (
+        "name = 'a'\nabout = 'A'\n[[help_option]]\nlong = 'help'\nhelp = 'H'\n[[option]]\nlong = 'x'\nhelp = 'One'\nhidden = true\n[[option]]\nshort = 'y'\nhelp = 'One'\n[[command]]\nname = 'c'\nhelp = 'C'\n[[command.option]]\nlong = 'x'\nhelp = 'Two'\n[[command.option]]\nlong = 'y'\nhelp = 'Two'\n[[command.option]]\nshort = 'y'\n[[command.option]]\nlong = 'help'\nhelp = 'I'\n",
+        "command 0 option 2 - no help says what the option does\ncommand 0 option 3 - --help has a different help beside help_option 0 \n",
+    ),
+];
+
+/// Texts that are long, or hold what is not seen.
+pub const SHOWN: &[Row<'static>] = &[(
+    "name = 'a'\nabout = 'A'\nheader = '`--wwwwwwwwwwwwwwwwwwwwwwwwwwwwwwwwwwwwwwwwwwwwwwwwwwwwwwwwwwwww` `--vvvvvvvvvvvvvvvvvvvvvvvvvvvvvvvvvvvvvvvvvvvvvvvvvvvvvvvvvv` `--x=\u{202e}` <http://a.b/pppppppppppppppppppppppppppppppppppppppppppppppppppppppppppp>'\n",
+    "header - no option is called --wwwwwwwwwwwwwwwwwwwwwwwwwwwwwwwwwwwwwwwwwwwwwwwwwwwwwwwwww..\nheader - no option is called --vvvvvvvvvvvvvvvvvvvvvvvvvvvvvvvvvvvvvvvvvvvvvvvvvvvvvvvvvv\nheader - no option is called \"--x=\\u{202e}\"\nheader - the link http://a.b/ppppppppppppppppppppppppppppppppppppppppppppppppp.. is not https\n",
+)];
+
 /// Ways, and their order.
 pub const WAYS: &[Row<'static>] = &[(
     "name = 'a'\nabout = '`-n`'\nheader = '`-n`'\nfooter = '`-n`'\n[[help_option]]\nshort = 'h'\nhelp = '`-n`'\n[[option]]\nshort = 'o'\nhelp = '`-n`'\n[[choice]]\n[[choice.option]]\nshort = 'c'\nhelp = '`-n`'\n[[group]]\ntitle = 'G'\n[[group.option]]\nshort = 'g'\nhelp = '`-n`'\n[[group.choice]]\n[[group.choice.option]]\nshort = 'd'\nhelp = '`-n`'\n[[group.positional]]\nvalue = 'V'\nhelp = '`-n`'\n[[group.command]]\nname = 'e'\nhelp = '`-n`'\n[[positional]]\nvalue = 'P'\nhelp = '`-n`'\n[[command]]\nname = 'f'\nhelp = '`-n`'\nabout = '`-n`'\n[[topic]]\ntitle = 'S'\ntext = 'None'\n[[topic]]\ntitle = 'T'\ntext = '`-n`'\n",

@@ -9,6 +9,10 @@ const TABLES: &[Table] = &[
     ("a summary is one short sentence", rows::SUMMARIES),
     ("links without https are told", rows::LINKS),
     ("literals that are no option are told", rows::LITERALS),
+    ("a usage names options of its level", rows::USAGES),
+    ("an option of a usage is short", rows::WIDTHS),
+    ("options of one name have one help", rows::HELPS),
+    ("what is shown is short and seen", rows::SHOWN),
     ("hints have their ways, in order", rows::WAYS),
 ];
 

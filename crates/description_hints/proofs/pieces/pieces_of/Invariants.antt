@@ -1,4 +1,4 @@
-use Rattle.std.proofs.Common.{◌≡◌, flat_map, map, take}
+use Rattle.std.proofs.Common.{◌≡◌, map, take}
 use Rattle.page_model.specs.View.{block_of, line_of}
 use Rattle.description_hints.specs.Texts.{pieces_of}
 use Rattle.description_hints.proofs.pieces.pieces_of.Given as goal

@@ -1,0 +1,54 @@
+//! What the hints about a part look at of the whole description.
+ghost use Rattle.std.specs.Prelude.{◌≡◌, ℕ, List, map, IfOk};
+ghost use Rattle.description.specs.View.{description_said};
+ghost use Rattle.description_hints.specs.Hints.{around};
+ghost use Rattle.description_hints.specs.Names.{is_among, options_words};
+ghost use Rattle.description_hints.specs.Sites.{sites};
+ghost use Rattle.description_hints.specs.View.{around_said, holds, site_said};
+
+use crate::known::{Known, Words, known_in};
+use crate::level_words::push_options;
+use crate::sites::Site;
+use bumpalo::Bump;
+use description::{Description, FixedWords};
+use std::alloc::{AllocError, Allocator};
+
+/// The fixed words of a description, the words that its options are called by, and those of the options that ask for
+/// help.
+#[derive(Drop)]
+pub struct Around<'p> {
+    pub fixed: FixedWords<'p>,
+    pub known: Known<'p>,
+    pub asking: Known<'p>,
+}
+
+// The words of the options that ask for help.
+fn asking_in<'p, 'a: 'p, C: Allocator>(
+    arena: &'p Bump,
+    description: &'p Description<'a, C>,
+) -> Result<Known<'p>, AllocError>
+    ensures { IfOk result (λ asking. (word : List ℕ) → holds asking word
+        ≡ is_among (options_words (description_said description.now).help_options) word) }
+{
+    let mut words: Words<'p> = Vec::new(arena);
+    push_options(arena, &mut words, description.help_options.as_slice())?;
+    known_in(arena, words.as_slice())
+}
+
+/// What hints look at of a description that has these parts. An error comes only where an allocation failed.
+pub fn around_of<'p, 'a: 'p, C: Allocator>(
+    arena: &'p Bump,
+    description: &'p Description<'a, C>,
+    parts: &[Site<'p>],
+) -> Result<Around<'p>, AllocError>
+    requires { map site_said parts.now ≡ sites (description_said description.now) }
+    ensures { IfOk result (λ whole. around_said whole ≡ around (description_said description.now)) }
+{
+    let known = Known::of(arena, parts)?;
+    let asking = asking_in(arena, description)?;
+    Ok(Around {
+        fixed: description.words,
+        known,
+        asking,
+    })
+}
