@@ -197,10 +197,14 @@ fn warned_lines(
 }
 
 fn warned_line(global: Global, text: &str, warning: &Warning<'_>) -> Result<Line, AllocError> {
+    let earlier = match warning.first() {
+        Some(first) => place_of(global, text, first)?,
+        None => None,
+    };
     Ok(Line {
         place: place_around(global, text, warning.path)?,
         words: format!(in global; "{}", warning.hint)?,
-        earlier: None,
+        earlier,
     })
 }
 

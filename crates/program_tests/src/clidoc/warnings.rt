@@ -13,6 +13,23 @@ name = 'app'
 about = 'Greets people.'
 
 ----
+-:3:1: warning: no option here is called --nope
+-:10:1: warning: --long has a different help, at line 4
+====
+name = 'app'
+about = 'Greets'
+usage = 'app [--nope] COMMAND'
+[[option]]
+long = 'long'
+help = 'One'
+[[command]]
+name = 'run'
+help = 'Runs'
+[[command.option]]
+long = 'long'
+help = 'Two'
+
+----
 -:1:1: warning: no about says what the program does
 ====
 name = 'app'
