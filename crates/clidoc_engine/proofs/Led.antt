@@ -1,5 +1,5 @@
 -- Where the commands of a page lead, and why a page is not made.
-use Rattle.std.proofs.Common.{◌≡◌, ◌⊎◌, inl, inr, ℕ, ◌+◌, ◌<◌, List, drop, get_or, length, Option, Some, None, Result, Ok, Err, IfErr, refl, sym, ap, ◌∙◌, arith}
+use Rattle.std.proofs.Common.{◌≡◌, ◌⊎◌, inl, inr, ℕ, ◌+◌, ◌<◌, List, drop, get_or, length, Option, Some, None, Result, IfErr, refl, sym, ap, ◌∙◌, arith}
 use Rattle.std.specs.Prelude.{alloc_error, option_and_then, option_map}
 use Rattle.std.specs.Borrow.{Bor}
 use Rattle.page_model.specs.declared.fault.PageFault.{PageFault}
@@ -8,9 +8,7 @@ use Rattle.web_page.specs.declared.errors.PageError.{PageError}
 use Rattle.web_page.specs.declared.errors.PageError.TheVariants as making
 use Rattle.description.specs.Content.{DescriptionSaid, CommandSaid}
 use Rattle.description_pages.specs.Levels.{SubjectSaid}
-use Rattle.description_pages.specs.LevelsView.{subject_of}
 use Rattle.description_pages.specs.Subjects.{below, command_named, led_to}
-use Rattle.description_pages.specs.declared.levels.LevelSubject.{LevelSubject}
 use Rattle.clidoc_engine.specs.declared.faults.Fault.{Fault}
 use Rattle.clidoc_engine.specs.Chosen.{commands_of, words_said}
 use Rattle.clidoc_engine.specs.Faults.{IfNoCommand, IfNoPage, fault_of_medium, fault_of_page}
@@ -63,14 +61,14 @@ unwritten p d fault (writing.Refused e) fails unwritable = tt
 unwritten p d fault writing.Character (inl refused) unwritable = grind (refused, arith)
 unwritten p d fault writing.Character (inr same) unwritable = unwritable same
 
-lost_command : (p : PageSaid) (text : List ℕ) (d : DescriptionSaid) (fault : Fault) → Describes text d → IsUnmade p d fault → IfNoCommand fault (HasNoCommand p text)
-lost_command p text d fault h4 h5 = grind arith
+lost_command : (p : PageSaid) (file text : List ℕ) (d : DescriptionSaid) (fault : Fault) → Describes file text d → IsUnmade p d fault → IfNoCommand fault (HasNoCommand p file text)
+lost_command p file text d fault h4 h5 = grind arith
 
-pub lost_page : {T : Type 0} (p : PageSaid) (text : List ℕ) (d : DescriptionSaid) (r : Result T Fault) → Describes text d → IfErr r (IsUnmade p d) → IfErr r (λ fault. IfNoCommand fault (HasNoCommand p text))
-lost_page p text d r h4 h5 = grind (arith, lost_command)
+pub lost_page : {T : Type 0} (p : PageSaid) (file text : List ℕ) (d : DescriptionSaid) (r : Result T Fault) → Describes file text d → IfErr r (IsUnmade p d) → IfErr r (λ fault. IfNoCommand fault (HasNoCommand p file text))
+lost_page p file text d r h4 h5 = grind (arith, lost_command)
 
-no_page : (p : PageSaid) (text : List ℕ) (d : DescriptionSaid) (fault : Fault) → Describes text d → IsUnmade p d fault → IfNoPage fault (λ error. HasUnwritablePage p error text)
-no_page p text d fault h4 h5 = grind arith
+no_page : (p : PageSaid) (file text : List ℕ) (d : DescriptionSaid) (fault : Fault) → Describes file text d → IsUnmade p d fault → IfNoPage fault (λ error. HasUnwritablePage p error file text)
+no_page p file text d fault h4 h5 = grind arith
 
-pub not_made : {T : Type 0} (p : PageSaid) (text : List ℕ) (d : DescriptionSaid) (r : Result T Fault) → Describes text d → IfErr r (IsUnmade p d) → IfErr r (λ fault. IfNoPage fault (λ error. HasUnwritablePage p error text))
-not_made p text d r h4 h5 = grind (arith, no_page)
+pub not_made : {T : Type 0} (p : PageSaid) (file text : List ℕ) (d : DescriptionSaid) (r : Result T Fault) → Describes file text d → IfErr r (IsUnmade p d) → IfErr r (λ fault. IfNoPage fault (λ error. HasUnwritablePage p error file text))
+not_made p file text d r h4 h5 = grind (arith, no_page)

@@ -1,6 +1,6 @@
 -- The promises of the media make pages.
 use Rattle.std.specs.Prelude.{◌≡◌, ℕ, List, Some, String, option_map, string_bytes}
-use Rattle.std.proofs.Common.{ap, sym, ◌∙◌, arith}
+use Rattle.std.proofs.Common.{ap, sym, ◌∙◌}
 use Rattle.std.proofs.lemmas.Str.{IsUtf8-string_bytes}
 use Rattle.description.specs.Content.{DescriptionSaid}
 use Rattle.description_pages.specs.Levels.{SubjectSaid}

@@ -7,7 +7,7 @@ use Rattle.page_model.specs.declared.fault.PageFault.{PageFault}
 use Rattle.page_model.specs.declared.fault.PageFault.TheVariants as writing
 use Rattle.clidoc_engine.specs.declared.places.Place.{Place}
 use Rattle.clidoc_engine.specs.declared.faults.Fault.{Fault}
-use Rattle.clidoc_engine.specs.declared.faults.Fault.TheVariants.{NotUtf8, NotToml, NotDescription, NoCommand, NoPage, Read, Write, Memory}
+use Rattle.clidoc_engine.specs.declared.faults.Fault.TheVariants.{NotUtf8, NotToml, NotJson, NotDescription, NoCommand, NoPage, Read, Write, Memory}
 
 abbrev pub fault_of_medium : PageFault → Fault
 fault_of_medium (writing.Refused error) = Memory
@@ -27,6 +27,7 @@ fault_of_page making.NoInk = NoPage making.NoInk
 abbrev pub IfNotUtf8 : Fault → (Place → Type 0) → Type 0
 IfNotUtf8 (NotUtf8 place) P = P place
 IfNotUtf8 (NotToml place error hint) P = ⊤
+IfNotUtf8 (NotJson place why) P = ⊤
 IfNotUtf8 (NotDescription lines) P = ⊤
 IfNotUtf8 (NoCommand name path meant) P = ⊤
 IfNotUtf8 (NoPage error) P = ⊤
@@ -38,6 +39,7 @@ IfNotUtf8 Memory P = ⊤
 abbrev pub IfNotToml : Fault → (Place → Error → Type 0) → Type 0
 IfNotToml (NotToml place error hint) P = P place error
 IfNotToml (NotUtf8 place) P = ⊤
+IfNotToml (NotJson place why) P = ⊤
 IfNotToml (NotDescription lines) P = ⊤
 IfNotToml (NoCommand name path meant) P = ⊤
 IfNotToml (NoPage error) P = ⊤
@@ -45,11 +47,24 @@ IfNotToml Read P = ⊤
 IfNotToml Write P = ⊤
 IfNotToml Memory P = ⊤
 
--- where a fault says that the TOML is no description, this holds
+-- where a fault says that the text gives no table as JSON, this holds of the place that it tells
+abbrev pub IfNotJson : Fault → (Place → Type 0) → Type 0
+IfNotJson (NotJson place why) P = P place
+IfNotJson (NotUtf8 place) P = ⊤
+IfNotJson (NotToml place error hint) P = ⊤
+IfNotJson (NotDescription lines) P = ⊤
+IfNotJson (NoCommand name path meant) P = ⊤
+IfNotJson (NoPage error) P = ⊤
+IfNotJson Read P = ⊤
+IfNotJson Write P = ⊤
+IfNotJson Memory P = ⊤
+
+-- where a fault says that the table is no description, this holds
 abbrev pub IfNotDescription : Fault → Type 0 → Type 0
 IfNotDescription (NotDescription lines) P = P
 IfNotDescription (NotUtf8 place) P = ⊤
 IfNotDescription (NotToml place error hint) P = ⊤
+IfNotDescription (NotJson place why) P = ⊤
 IfNotDescription (NoCommand name path meant) P = ⊤
 IfNotDescription (NoPage error) P = ⊤
 IfNotDescription Read P = ⊤
@@ -63,6 +78,7 @@ IfNoCommand (NotDescription lines) P = ⊤
 IfNoCommand (NoPage error) P = ⊤
 IfNoCommand (NotUtf8 place) P = ⊤
 IfNoCommand (NotToml place error hint) P = ⊤
+IfNoCommand (NotJson place why) P = ⊤
 IfNoCommand Read P = ⊤
 IfNoCommand Write P = ⊤
 IfNoCommand Memory P = ⊤
@@ -74,6 +90,7 @@ IfNoPage (NoCommand name path meant) P = ⊤
 IfNoPage (NotDescription lines) P = ⊤
 IfNoPage (NotUtf8 place) P = ⊤
 IfNoPage (NotToml place error hint) P = ⊤
+IfNoPage (NotJson place why) P = ⊤
 IfNoPage Read P = ⊤
 IfNoPage Write P = ⊤
 IfNoPage Memory P = ⊤

@@ -54,9 +54,9 @@ pub record AreFiles (d : DescriptionSaid) (given : TitleGiven) (files : List Fil
   pub page : IsWebFile d given web
 
 -- the text gives a description, whose files these are
-pub record HasFiles (text : List ℕ) (given : TitleGiven) (files : List FileSaid) : Type 0 where
+pub record HasFiles (file text : List ℕ) (given : TitleGiven) (files : List FileSaid) : Type 0 where
   pub description : DescriptionSaid
-  pub described : Describes text description
+  pub described : Describes file text description
   pub whole : AreFiles description given files
 
 -- ---- their names

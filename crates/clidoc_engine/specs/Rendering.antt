@@ -6,8 +6,6 @@ use Rattle.page_model.specs.declared.fault.PageFault.{PageFault}
 use Rattle.page_model.specs.declared.fault.PageFault.TheVariants.{Character}
 use Rattle.description.specs.Content.{DescriptionSaid}
 use Rattle.description_pages.specs.Levels.{SubjectSaid}
-use Rattle.description_pages.specs.declared.levels.Depth.{Depth}
-use Rattle.description.specs.Words.{WordsSaid}
 use Rattle.command_pages.specs.Pages.{console_page, console_page_fault, level_at, manual_page, manual_page_fault, markdown_page, markdown_page_fault}
 use Rattle.command_pages.specs.Html.{IsHtmlOf, html_page_fault}
 use Rattle.command_pages.specs.Readings.{IsManualOf, IsMarkdownOf}

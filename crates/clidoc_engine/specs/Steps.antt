@@ -1,12 +1,15 @@
 -- What the engine's private functions leave.
 use Rattle.std.specs.Prelude.{◌≡◌, ℕ, List, None, ⊤}
 use Rattle.clidoc_engine.specs.declared.faults.Fault.{Fault}
-use Rattle.clidoc_engine.specs.declared.faults.Fault.TheVariants.{NotUtf8, NotToml, NotDescription, NoCommand, NoPage, Read, Write, Memory}
+use Rattle.clidoc_engine.specs.declared.faults.Fault.TheVariants.{NotUtf8, NotToml, NotJson, NotDescription, NoCommand, NoPage, Read, Write, Memory}
 use Rattle.toml.specs.Data.{Members}
 use Rattle.description.specs.Content.{DescriptionSaid}
 use Rattle.description_toml.specs.Described.{described}
 use Rattle.clidoc_engine.specs.Chosen.{commands_of}
-use Rattle.clidoc_engine.specs.Inputs.{IsNoTomlText}
+use Rattle.clidoc_engine.specs.declared.notation.Notation.{Notation}
+use Rattle.clidoc_engine.specs.declared.notation.Notation.TheVariants.{Json, Toml}
+use Rattle.clidoc_engine.specs.Inputs.{IsNoJsonText, IsNoTomlText}
+use Rattle.clidoc_engine.specs.Newlines.{without_returns}
 use Rattle.command_pages.specs.Pages.{level_at}
 use Rattle.clidoc_engine.specs.Rendering.{IsUnwritable}
 use Rattle.clidoc_engine.specs.Words.{PageSaid}
@@ -17,6 +20,7 @@ IsOfInput Read = ⊤
 IsOfInput (NotUtf8 place) = ⊤
 IsOfInput Memory = ⊤
 IsOfInput (NotToml place error hint) = ⊥
+IsOfInput (NotJson place why) = ⊥
 IsOfInput (NotDescription lines) = ⊥
 IsOfInput (NoCommand name path meant) = ⊥
 IsOfInput (NoPage error) = ⊥
@@ -26,6 +30,7 @@ IsOfInput Write = ⊥
 abbrev pub IsSyntaxFault : (text : List ℕ) → Fault → Type 0
 IsSyntaxFault text (NotToml place error hint) = IsNoTomlText text place error
 IsSyntaxFault text Memory = ⊤
+IsSyntaxFault text (NotJson place why) = ⊥
 IsSyntaxFault text (NotUtf8 place) = ⊥
 IsSyntaxFault text (NotDescription lines) = ⊥
 IsSyntaxFault text (NoCommand name path meant) = ⊥
@@ -33,12 +38,37 @@ IsSyntaxFault text (NoPage error) = ⊥
 IsSyntaxFault text Read = ⊥
 IsSyntaxFault text Write = ⊥
 
--- the fault says that the data is no description; or that an allocation failed
+-- the fault says that the text gives no table as JSON, and where; or that an allocation failed
+abbrev pub IsJsonFault : (text : List ℕ) → Fault → Type 0
+IsJsonFault text (NotJson place why) = IsNoJsonText text place
+IsJsonFault text Memory = ⊤
+IsJsonFault text (NotUtf8 place) = ⊥
+IsJsonFault text (NotToml place error hint) = ⊥
+IsJsonFault text (NotDescription lines) = ⊥
+IsJsonFault text (NoCommand name path meant) = ⊥
+IsJsonFault text (NoPage error) = ⊥
+IsJsonFault text Read = ⊥
+IsJsonFault text Write = ⊥
+
+-- the fault says that the text gives no table in this notation, and where; or that an allocation failed
+abbrev pub IsTableFault : Notation → (text : List ℕ) → Fault → Type 0
+IsTableFault notation text (NotToml place error hint) = (notation ≡ Toml) × IsNoTomlText (without_returns text) place error
+IsTableFault notation text (NotJson place why) = (notation ≡ Json) × IsNoJsonText text place
+IsTableFault notation text Memory = ⊤
+IsTableFault notation text (NotUtf8 place) = ⊥
+IsTableFault notation text (NotDescription lines) = ⊥
+IsTableFault notation text (NoCommand name path meant) = ⊥
+IsTableFault notation text (NoPage error) = ⊥
+IsTableFault notation text Read = ⊥
+IsTableFault notation text Write = ⊥
+
+-- the fault says that the table is no description; or that an allocation failed
 abbrev pub IsOfData : Members → Fault → Type 0
 IsOfData table (NotDescription lines) = described table ≡ None
 IsOfData table Memory = ⊤
 IsOfData table (NotUtf8 place) = ⊥
 IsOfData table (NotToml place error hint) = ⊥
+IsOfData table (NotJson place why) = ⊥
 IsOfData table (NoCommand name path meant) = ⊥
 IsOfData table (NoPage error) = ⊥
 IsOfData table Read = ⊥
@@ -47,6 +77,7 @@ IsOfData table Write = ⊥
 -- the fault is none of a stream, and none of bytes that are no text
 abbrev pub IsOfContent : Fault → Type 0
 IsOfContent (NotToml place error hint) = ⊤
+IsOfContent (NotJson place why) = ⊤
 IsOfContent (NotDescription lines) = ⊤
 IsOfContent (NoCommand name path meant) = ⊤
 IsOfContent (NoPage error) = ⊤
@@ -61,6 +92,7 @@ IsLost commands d (NoCommand name path meant) = level_at commands d ≡ None
 IsLost commands d Memory = ⊤
 IsLost commands d (NotUtf8 place) = ⊥
 IsLost commands d (NotToml place error hint) = ⊥
+IsLost commands d (NotJson place why) = ⊥
 IsLost commands d (NotDescription lines) = ⊥
 IsLost commands d (NoPage error) = ⊥
 IsLost commands d Read = ⊥
@@ -73,6 +105,7 @@ IsUnmade p d (NoPage error) = IsUnwritable p d error
 IsUnmade p d Memory = ⊤
 IsUnmade p d (NotUtf8 place) = ⊥
 IsUnmade p d (NotToml place error hint) = ⊥
+IsUnmade p d (NotJson place why) = ⊥
 IsUnmade p d (NotDescription lines) = ⊥
 IsUnmade p d Read = ⊥
 IsUnmade p d Write = ⊥
@@ -82,6 +115,7 @@ IsNoCommand (NoCommand name path meant) = ⊤
 IsNoCommand Memory = ⊥
 IsNoCommand (NotUtf8 place) = ⊥
 IsNoCommand (NotToml place error hint) = ⊥
+IsNoCommand (NotJson place why) = ⊥
 IsNoCommand (NotDescription lines) = ⊥
 IsNoCommand (NoPage error) = ⊥
 IsNoCommand Read = ⊥
@@ -92,6 +126,7 @@ abbrev pub IsOfReading : Fault → Type 0
 IsOfReading Read = ⊤
 IsOfReading (NotUtf8 place) = ⊤
 IsOfReading (NotToml place error hint) = ⊤
+IsOfReading (NotJson place why) = ⊤
 IsOfReading (NotDescription lines) = ⊤
 IsOfReading Memory = ⊤
 IsOfReading (NoCommand name path meant) = ⊥
@@ -101,6 +136,7 @@ IsOfReading Write = ⊥
 -- the same, and not of the reader
 abbrev pub IsOfText : Fault → Type 0
 IsOfText (NotToml place error hint) = ⊤
+IsOfText (NotJson place why) = ⊤
 IsOfText (NotDescription lines) = ⊤
 IsOfText Memory = ⊤
 IsOfText (NotUtf8 place) = ⊥
@@ -114,6 +150,7 @@ abbrev pub IsOfFiles : Fault → Type 0
 IsOfFiles Read = ⊤
 IsOfFiles (NotUtf8 place) = ⊤
 IsOfFiles (NotToml place error hint) = ⊤
+IsOfFiles (NotJson place why) = ⊤
 IsOfFiles (NotDescription lines) = ⊤
 IsOfFiles (NoPage error) = ⊤
 IsOfFiles Memory = ⊤
@@ -123,6 +160,7 @@ IsOfFiles Write = ⊥
 -- the same, and not of the reader
 abbrev pub IsOfFilesText : Fault → Type 0
 IsOfFilesText (NotToml place error hint) = ⊤
+IsOfFilesText (NotJson place why) = ⊤
 IsOfFilesText (NotDescription lines) = ⊤
 IsOfFilesText (NoPage error) = ⊤
 IsOfFilesText Memory = ⊤
@@ -137,6 +175,7 @@ IsOfPages (NoPage error) = ⊤
 IsOfPages Memory = ⊤
 IsOfPages (NotUtf8 place) = ⊥
 IsOfPages (NotToml place error hint) = ⊥
+IsOfPages (NotJson place why) = ⊥
 IsOfPages (NotDescription lines) = ⊥
 IsOfPages (NoCommand name path meant) = ⊥
 IsOfPages Read = ⊥

@@ -9,16 +9,18 @@ ghost use Rattle.description_pages.specs.Subjects.{all_from};
 ghost use Rattle.description_pages.specs.declared.levels.Depth.TheVariants.{Alone};
 ghost use Rattle.command_pages.specs.View.{title_said};
 ghost use Rattle.command_pages.specs.Readings.{IsManualOf, IsMarkdownOf};
-ghost use Rattle.clidoc_engine.specs.Faults.{IfNotDescription, IfNotToml, IfNotUtf8};
+ghost use Rattle.clidoc_engine.specs.Faults.{IfNotDescription, IfNotJson, IfNotToml, IfNotUtf8};
 ghost use Rattle.clidoc_engine.specs.Files.{AreAllRead, AreFiles, AreRead, HasFiles, IsWebFile, file_said};
 ghost use Rattle.clidoc_engine.specs.Files.{level_files, manual_file, markdown_file};
-ghost use Rattle.clidoc_engine.specs.Inputs.{IsNoDescription, IsNoText, IsNoToml};
+ghost use Rattle.clidoc_engine.specs.Inputs.{IsNoDescription, IsNoJson, IsNoText, IsNoToml};
 ghost use Rattle.command_pages.specs.Pages.{application};
 ghost use Rattle.clidoc_engine.specs.Steps.{IsOfFiles, IsOfFilesText, IsOfPages};
 
-use crate::engine::{description_of, table_of};
+use crate::engine::description_of;
 use crate::faults::Fault;
 use crate::files::PageFile;
+use crate::notation::notation_of;
+use crate::tables::table_of;
 use crate::utf8::text_from;
 use crate::words::TitleGiven;
 use bumpalo::Bump;
@@ -31,15 +33,16 @@ use lasting_names::Names;
 use std::alloc::{AllocError, Allocator, Global};
 use watched::{Source, Watched};
 
-/// Reads all that the reader has left, as a description in TOML, and makes all pages of it: of each level, each before
-/// those below it, the manual page and the page in markdown, and last the complete HTML page. In the title lines of the
-/// manual pages and at the foot of the HTML page stand the words that are given. Its faults are those of
+/// Reads all that the reader has left, as a description in a file of this name, and makes all pages of it: of each level,
+/// each before those below it, the manual page and the page in markdown, and last the complete HTML page. In the title
+/// lines of the manual pages and at the foot of the HTML page stand the words that are given. Its faults are those of
 /// `run_description` that come of reading, and they come where those do, and `NoPage`, where a word or a text cannot
 /// stand in a page.
 pub fn make_files<A: Allocator + Copy, R: Source>(
     alloc: A,
     global: Global,
     given: TitleGiven<'_>,
+    file: &str,
     reader: &mut Watched<R>,
 ) -> Result<Vec<PageFile<A>, A>, Fault>
     requires reader { IsUnmarked reader.old }
@@ -48,30 +51,35 @@ pub fn make_files<A: Allocator + Copy, R: Source>(
     ensures read { IsErrOf result Fault.Read ↔ IsMarked reader.new }
     ensures fault { IfErr result IsOfFiles }
     ensures given { IfOk result (λ files. GivesText R.reads reader.old.end reader.new.end (λ input.
-        HasFiles input (title_said given.entry) (map file_said files.items))) }
+        HasFiles file.now input (title_said given.entry) (map file_said files.items))) }
     ensures read_failed { IsErrOf result Fault.Read →
         (error : _) × ReadFails R.reads reader.old.end error reader.new.end }
     ensures no_text { IfErr result (λ fault. IfNotUtf8 fault (λ place.
         (input : _) × ReadsToEnd R.reads reader.old.end input reader.new.end × IsNoText input place)) }
     ensures no_toml { IfErr result (λ fault. IfNotToml fault (λ place error.
-        GivesText R.reads reader.old.end reader.new.end (λ input. IsNoToml input place error))) }
+        GivesText R.reads reader.old.end reader.new.end (λ input. IsNoToml file.now input place error))) }
+    ensures no_json { IfErr result (λ fault. IfNotJson fault (λ place.
+        GivesText R.reads reader.old.end reader.new.end (λ input. IsNoJson file.now input place))) }
     ensures no_description { IfErr result (λ fault. IfNotDescription fault (
-        GivesText R.reads reader.old.end reader.new.end IsNoDescription)) }
+        GivesText R.reads reader.old.end reader.new.end (IsNoDescription file.now))) }
 
     // Over streams that tell their bytes.
     ensures ok { IfOk result (λ files.
         ReadsText (R.remaining reader.old.end) (R.remaining reader.new.end) (λ input.
-        HasFiles input (title_said given.entry) (map file_said files.items))) }
+        HasFiles file.now input (title_said given.entry) (map file_said files.items))) }
     ensures not_utf8 { IfErr result (λ fault. IfNotUtf8 fault (λ place. (input : _)
         × ReadsAll (R.remaining reader.old.end) (R.remaining reader.new.end) input × IsNoText input place)) }
     ensures not_toml { IfErr result (λ fault. IfNotToml fault (λ place error.
         ReadsText (R.remaining reader.old.end) (R.remaining reader.new.end) (λ input.
-        IsNoToml input place error))) }
+        IsNoToml file.now input place error))) }
+    ensures not_json { IfErr result (λ fault. IfNotJson fault (λ place.
+        ReadsText (R.remaining reader.old.end) (R.remaining reader.new.end) (λ input.
+        IsNoJson file.now input place))) }
     ensures not_description { IfErr result (λ fault. IfNotDescription fault (
-        ReadsText (R.remaining reader.old.end) (R.remaining reader.new.end) IsNoDescription)) }
+        ReadsText (R.remaining reader.old.end) (R.remaining reader.new.end) (IsNoDescription file.now))) }
 {
     let text = text_from(alloc, reader)?;
-    files_in(alloc, global, given, text.as_str())
+    files_in(alloc, global, given, file, text.as_str())
 }
 
 // The files of the description that the text gives.
@@ -79,17 +87,20 @@ fn files_in<A: Allocator + Copy>(
     alloc: A,
     global: Global,
     given: TitleGiven<'_>,
+    file: &str,
     text: &str,
 ) -> Result<Vec<PageFile<A>, A>, Fault>
-    ensures ok { IfOk result (λ files. HasFiles text.now (title_said given.entry) (map file_said files.items)) }
+    ensures ok { IfOk result (λ files. HasFiles file.now text.now (title_said given.entry) (map file_said files.items)) }
     ensures fault { IfErr result IsOfFilesText }
-    ensures not_toml { IfErr result (λ fault. IfNotToml fault (IsNoToml text.now)) }
+    ensures not_toml { IfErr result (λ fault. IfNotToml fault (IsNoToml file.now text.now)) }
+    ensures not_json { IfErr result (λ fault. IfNotJson fault (IsNoJson file.now text.now)) }
     ensures not_description { IfErr result (λ fault.
-        IfNotDescription fault (IsNoDescription text.now)) }
+        IfNotDescription fault (IsNoDescription file.now text.now)) }
 {
-    let table = table_of(global, text)?;
+    let notation = notation_of(file, text);
+    let table = table_of(global, notation, text)?;
     let mut names = Names::new(global);
-    let description = description_of(global, &mut names, &table, text)?;
+    let description = description_of(global, &mut names, &table, notation, text)?;
     let files = files_of(alloc, global, given, &description);
     drop(description);
     files

@@ -7,12 +7,13 @@ ghost use Rattle.clidoc_engine.specs.Inputs.{TellsTheFirst, count_of};
 
 use crate::echoed::Echoed;
 use crate::newlines::without_returns;
+use crate::notation::Notation;
 use crate::places::{Place, TOP, place_behind};
 use bumpalo::Bump;
 use description::Description;
 use description_hints::{Warning, warnings_of};
 use description_toml::{Fault, Faults};
-use keyed::{Step, text_before};
+use keyed::Step;
 use std::alloc::{AllocError, Global};
 use std::fmt;
 use std::fmt::Display;
@@ -119,15 +120,16 @@ impl Lines {
     }
 }
 
-/// The faults of the data of the text, each at its place there. `AllocError` where an allocation failed.
+/// The faults of the table of the text, each at its place there. `AllocError` where an allocation failed.
 pub(crate) fn lines_of(
     global: Global,
+    notation: Notation,
     text: &str,
     faults: &Faults<'_>,
 ) -> Result<Lines, AllocError> {
     let mut told = Vec::new(global);
     for fault in &faults.told {
-        told.push(line_of(global, text, fault)?)?;
+        told.push(line_of(global, notation, text, fault)?)?;
     }
     sort(&mut told)?;
     Ok(Lines {
@@ -143,11 +145,16 @@ fn sort(told: &mut Vec<Line>) -> Result<(), AllocError>
     told.sort_by_key(|line: &Line| (line.place.line, line.place.column))
 }
 
-fn line_of(global: Global, text: &str, fault: &Fault<'_>) -> Result<Line, AllocError> {
+fn line_of(
+    global: Global,
+    notation: Notation,
+    text: &str,
+    fault: &Fault<'_>,
+) -> Result<Line, AllocError> {
     Ok(Line {
-        place: place_around(global, text, &fault.path)?,
+        place: place_around(global, notation, text, &fault.path)?,
         words: String::from_str(global, fault.words.as_str())?,
-        earlier: place_of(global, text, &fault.earlier)?,
+        earlier: place_of(global, notation, text, &fault.earlier)?,
     })
 }
 
@@ -155,6 +162,7 @@ fn line_of(global: Global, text: &str, fault: &Fault<'_>) -> Result<Line, AllocE
 /// carriage return too. `AllocError` where an allocation failed.
 pub(crate) fn warnings_in(
     global: Global,
+    notation: Notation,
     text: &str,
     description: &Description<'_>,
 ) -> Result<Lines, AllocError>
@@ -164,16 +172,21 @@ pub(crate) fn warnings_in(
     let arena = Bump::new(global);
     let found = warnings_of(&arena, description)?;
     let plain = without_returns(global, text)?;
-    first_lines(global, &plain, &found)
+    first_lines(global, notation, &plain, &found)
 }
 
 // The lines of warnings. Those of the first are told, by their places.
-fn first_lines(global: Global, text: &str, warnings: &[Warning<'_>]) -> Result<Lines, AllocError>
+fn first_lines(
+    global: Global,
+    notation: Notation,
+    text: &str,
+    warnings: &[Warning<'_>],
+) -> Result<Lines, AllocError>
     ensures each { IfOk result (λ lines. count_of lines ≡ length warnings.now) }
     ensures told { IfOk result TellsTheFirst }
 {
     let (first, others) = warnings.split_at(warnings.len().min(MOST_TOLD));
-    let mut told = warned_lines(global, text, first)?;
+    let mut told = warned_lines(global, notation, text, first)?;
     sort(&mut told)?;
     Ok(Lines {
         told,
@@ -184,6 +197,7 @@ fn first_lines(global: Global, text: &str, warnings: &[Warning<'_>]) -> Result<L
 // A line for each warning.
 fn warned_lines(
     global: Global,
+    notation: Notation,
     text: &str,
     warnings: &[Warning<'_>],
 ) -> Result<Vec<Line>, AllocError>
@@ -191,37 +205,65 @@ fn warned_lines(
 {
     let mut told = Vec::new(global);
     for warning in warnings {
-        told.push(warned_line(global, text, warning)?)?;
+        told.push(warned_line(global, notation, text, warning)?)?;
     }
     Ok(told)
 }
 
-fn warned_line(global: Global, text: &str, warning: &Warning<'_>) -> Result<Line, AllocError> {
+fn warned_line(
+    global: Global,
+    notation: Notation,
+    text: &str,
+    warning: &Warning<'_>,
+) -> Result<Line, AllocError> {
     let earlier = match warning.first() {
-        Some(first) => place_of(global, text, first)?,
+        Some(first) => place_of(global, notation, text, first)?,
         None => None,
     };
     Ok(Line {
-        place: place_around(global, text, warning.path)?,
+        place: place_around(global, notation, text, warning.path)?,
         words: format!(in global; "{}", warning.hint)?,
         earlier,
     })
 }
 
 // The place of what the path leads to, or else of the nearest around it.
-fn place_around(global: Global, text: &str, path: &[Step<'_>]) -> Result<Place, AllocError> {
+fn place_around(
+    global: Global,
+    notation: Notation,
+    text: &str,
+    path: &[Step<'_>],
+) -> Result<Place, AllocError> {
     for left_out in 0..path.len() {
         let (around, _) = path.split_at(path.len() - left_out);
-        if let Some(place) = place_of(global, text, around)? {
+        if let Some(place) = place_of(global, notation, text, around)? {
             return Ok(place);
         }
     }
     Ok(TOP)
 }
 
-fn place_of(global: Global, text: &str, path: &[Step<'_>]) -> Result<Option<Place>, AllocError> {
-    match text_before(global, text, path)? {
+fn place_of(
+    global: Global,
+    notation: Notation,
+    text: &str,
+    path: &[Step<'_>],
+) -> Result<Option<Place>, AllocError> {
+    match text_before(global, notation, text, path)? {
         Some(before) => Ok(Some(place_behind(before.as_bytes()))),
         None => Ok(None),
+    }
+}
+
+// The text before what brings the path into it.
+fn text_before<'t>(
+    global: Global,
+    notation: Notation,
+    text: &'t str,
+    path: &[Step<'_>],
+) -> Result<Option<&'t str>, AllocError> {
+    match notation {
+        Notation::Toml => keyed::text_before(global, text, path),
+        Notation::Json => description_json::text_before(global, text, path),
     }
 }

@@ -2,28 +2,25 @@
 
 ghost use Rattle.std.specs.Prelude.{◌≡◌, ◌≢◌, ◌↔◌, IfOk, IfErr, OnOk, OnErr, IsErrOf, Some, None, string_bytes};
 ghost use Rattle.toml.specs.Data.{Members};
-ghost use Rattle.toml.specs.Errors.{IsMemory, IsWithin};
-ghost use Rattle.toml.specs.Parse.{parse_document};
 ghost use Rattle.toml.specs.View.{table_view};
 ghost use Rattle.description.specs.View.{description_said};
 ghost use Rattle.description_toml.specs.Described.{described};
 ghost use Rattle.watched.specs.Calls.{GivesText, Moves, ReadFails, ReadsToEnd, WriteFails};
 ghost use Rattle.watched.specs.Watched.{IsMarked, IsUnmarked, ReadsAll, ReadsText};
 ghost use Rattle.clidoc_engine.specs.Chosen.{page_said};
-ghost use Rattle.clidoc_engine.specs.Faults.{IfNoCommand, IfNoPage, IfNotDescription, IfNotToml, IfNotUtf8};
-ghost use Rattle.clidoc_engine.specs.Newlines.{without_returns};
-ghost use Rattle.clidoc_engine.specs.Inputs.{HasWarnings, IsNoDescription, IsNoText, IsNoToml, TellsTheFirst, count_of};
+ghost use Rattle.clidoc_engine.specs.Faults.{IfNoCommand, IfNoPage, IfNotDescription, IfNotJson, IfNotToml, IfNotUtf8};
+ghost use Rattle.clidoc_engine.specs.Inputs.{HasWarnings, IsNoDescription, IsNoJson, IsNoText, IsNoToml};
+ghost use Rattle.clidoc_engine.specs.Inputs.{TellsTheFirst, count_of};
 ghost use Rattle.clidoc_engine.specs.Runs.{HasNoCommand, HasPage, HasUnwritablePage, MakesPage};
 ghost use Rattle.clidoc_engine.specs.Runs.{WritesBeginning, WritesPage};
 ghost use Rattle.clidoc_engine.specs.Steps.{IsOfContent, IsOfData, IsOfReading, IsOfText};
-ghost use Rattle.clidoc_engine.specs.Steps.{IsSyntaxFault};
 
 use crate::described::{Lines, lines_of, warnings_in};
 use crate::faults::Fault;
-use crate::hints::hint_of;
 use crate::newlines::without_returns;
+use crate::notation::{Notation, notation_of};
 use crate::pages::rendered;
-use crate::places::place_behind;
+use crate::tables::table_of;
 use crate::utf8::text_from;
 use crate::words::Page;
 use description::Description;
@@ -33,15 +30,17 @@ use std::alloc::{AllocError, Allocator, Global};
 use toml::Table;
 use watched::{Sink, Source, Watched};
 
-/// Reads all that the reader has left, as a description in TOML, and writes a page of it and nothing more. A carriage
-/// return directly before a newline counts for nothing.
+/// Reads all that the reader has left, as a description, and writes a page of it and nothing more. It is in JSON or in
+/// TOML as `notation_of` says, where the file has this name; in TOML a carriage return directly before a newline counts
+/// for nothing.
 /// The whole page is made before the first write, so that an error other than `Write` leaves the writer
-/// as it was. The tables of the TOML, the description, its names and what a page is made of are kept in `global`, and
+/// as it was. The tables of the text, the description, its names and what a page is made of are kept in `global`, and
 /// what is read and the page in `alloc`. The names are never freed, so each call keeps its own.
 ///
 /// `Read` comes exactly where the reader's mark is then set, since its last read failed, `Write` exactly
 /// where the writer's is, since its last write failed or took none, and the faults of the input only where
-/// all was read: `NotUtf8` where it is no text, and from which place on, `NotToml` where it is no TOML, `NotDescription` where its data is
+/// all was read: `NotUtf8` where it is no text, and from which place on, `NotToml` where it has to be TOML and is none,
+/// `NotJson` where it has to be JSON and gives no table, `NotDescription` where its table is
 /// no description, `NoCommand` where the commands of the page lead nowhere, and `NoPage` where a text of the page has a
 /// control character but newline and tab, or a noncharacter, or it is a page in HTML, in which a name or a text cannot
 /// stand. `Memory` comes only where an allocation failed, which no clause can say.
@@ -49,6 +48,7 @@ pub fn run_description<A: Allocator + Copy, B: Allocator, R: Source, W: Sink>(
     alloc: A,
     global: Global,
     page: &Page<'_, B>,
+    file: &str,
     reader: &mut Watched<R>,
     writer: &mut Watched<W>,
 ) -> Result<(), Fault>
@@ -64,56 +64,62 @@ pub fn run_description<A: Allocator + Copy, B: Allocator, R: Source, W: Sink>(
     // Over all streams: which calls of theirs gave and took the bytes, and failed.
     ensures given { OnOk result (
         GivesText R.reads reader.old.end reader.new.end (λ input.
-        MakesPage (page_said page.now) input (λ text. Moves W.writes writer.old.end text writer.new.end))) }
+        MakesPage (page_said page.now) file.now input (λ text. Moves W.writes writer.old.end text writer.new.end))) }
     ensures read_failed { IsErrOf result Fault.Read →
         (error : _) × ReadFails R.reads reader.old.end error reader.new.end }
     ensures write_failed { IsErrOf result Fault.Write →
         GivesText R.reads reader.old.end reader.new.end (λ input.
-        MakesPage (page_said page.now) input (λ text.
+        MakesPage (page_said page.now) file.now input (λ text.
         (error : _) × WriteFails W.writes writer.old.end text error writer.new.end)) }
     ensures no_text { IfErr result (λ fault. IfNotUtf8 fault (λ place.
         (input : _) × ReadsToEnd R.reads reader.old.end input reader.new.end × IsNoText input place)) }
     ensures no_toml { IfErr result (λ fault. IfNotToml fault (λ place error.
-        GivesText R.reads reader.old.end reader.new.end (λ input. IsNoToml input place error))) }
+        GivesText R.reads reader.old.end reader.new.end (λ input. IsNoToml file.now input place error))) }
+    ensures no_json { IfErr result (λ fault. IfNotJson fault (λ place.
+        GivesText R.reads reader.old.end reader.new.end (λ input. IsNoJson file.now input place))) }
     ensures no_description { IfErr result (λ fault. IfNotDescription fault (
-        GivesText R.reads reader.old.end reader.new.end IsNoDescription)) }
+        GivesText R.reads reader.old.end reader.new.end (IsNoDescription file.now))) }
     ensures no_command { IfErr result (λ fault. IfNoCommand fault (
-        GivesText R.reads reader.old.end reader.new.end (HasNoCommand (page_said page.now)))) }
+        GivesText R.reads reader.old.end reader.new.end (HasNoCommand (page_said page.now) file.now))) }
     ensures no_page { IfErr result (λ fault. IfNoPage fault (λ error.
-        GivesText R.reads reader.old.end reader.new.end (HasUnwritablePage (page_said page.now) error))) }
+        GivesText R.reads reader.old.end reader.new.end (HasUnwritablePage (page_said page.now) error file.now))) }
 
     // Over streams that tell their bytes: which are read and written.
     ensures ok { OnOk result (
         ReadsText (R.remaining reader.old.end) (R.remaining reader.new.end) (λ input.
-        WritesPage (page_said page.now) input (W.contents writer.old.end) (W.contents writer.new.end))) }
+        WritesPage (page_said page.now) file.now input (W.contents writer.old.end) (W.contents writer.new.end))) }
     ensures cut_short { IsErrOf result Fault.Write →
         ReadsText (R.remaining reader.old.end) (R.remaining reader.new.end) (λ input.
-        WritesBeginning (page_said page.now) input (W.contents writer.old.end) (W.contents writer.new.end)) }
+        WritesBeginning (page_said page.now) file.now input (W.contents writer.old.end) (W.contents writer.new.end)) }
     ensures not_utf8 { IfErr result (λ fault. IfNotUtf8 fault (λ place. (input : _)
         × ReadsAll (R.remaining reader.old.end) (R.remaining reader.new.end) input × IsNoText input place)) }
     ensures not_toml { IfErr result (λ fault. IfNotToml fault (λ place error.
         ReadsText (R.remaining reader.old.end) (R.remaining reader.new.end) (λ input.
-        IsNoToml input place error))) }
+        IsNoToml file.now input place error))) }
+    ensures not_json { IfErr result (λ fault. IfNotJson fault (λ place.
+        ReadsText (R.remaining reader.old.end) (R.remaining reader.new.end) (λ input.
+        IsNoJson file.now input place))) }
     ensures not_description { IfErr result (λ fault. IfNotDescription fault (
-        ReadsText (R.remaining reader.old.end) (R.remaining reader.new.end) IsNoDescription)) }
+        ReadsText (R.remaining reader.old.end) (R.remaining reader.new.end) (IsNoDescription file.now))) }
     ensures lost_command { IfErr result (λ fault. IfNoCommand fault (
         ReadsText (R.remaining reader.old.end) (R.remaining reader.new.end)
-        (HasNoCommand (page_said page.now)))) }
+        (HasNoCommand (page_said page.now) file.now))) }
     ensures unwritable { IfErr result (λ fault. IfNoPage fault (λ error.
         ReadsText (R.remaining reader.old.end) (R.remaining reader.new.end)
-        (HasUnwritablePage (page_said page.now) error))) }
+        (HasUnwritablePage (page_said page.now) error file.now))) }
 {
     let input = text_from(alloc, reader)?;
-    let text = page_of(alloc, global, page, input.as_str())?;
+    let text = page_of(alloc, global, page, file, input.as_str())?;
     writer.write_all(text.as_bytes()).map_err(|_| Fault::Write)
 }
 
-/// Reads all that the reader has left, and judges whether it is a description in TOML. Answers what that would better
-/// say: as many warnings as there are, of which the first 20 are told. Its faults are those of `run_description` that
-/// come of reading, and they come where those do.
+/// Reads all that the reader has left, and judges whether it is a description, in a file of this name. Answers what that
+/// would better say: as many warnings as there are, of which the first 20 are told. Its faults are those of
+/// `run_description` that come of reading, and they come where those do.
 pub fn check_description<A: Allocator + Copy, R: Source>(
     alloc: A,
     global: Global,
+    file: &str,
     reader: &mut Watched<R>,
 ) -> Result<Lines, Fault>
     requires reader { IsUnmarked reader.old }
@@ -123,44 +129,51 @@ pub fn check_description<A: Allocator + Copy, R: Source>(
     ensures fault { IfErr result IsOfReading }
     ensures told { IfOk result TellsTheFirst }
     ensures given { IfOk result (λ lines.
-        GivesText R.reads reader.old.end reader.new.end (HasWarnings (count_of lines))) }
+        GivesText R.reads reader.old.end reader.new.end (HasWarnings (count_of lines) file.now)) }
     ensures read_failed { IsErrOf result Fault.Read →
         (error : _) × ReadFails R.reads reader.old.end error reader.new.end }
     ensures no_text { IfErr result (λ fault. IfNotUtf8 fault (λ place.
         (input : _) × ReadsToEnd R.reads reader.old.end input reader.new.end × IsNoText input place)) }
     ensures no_toml { IfErr result (λ fault. IfNotToml fault (λ place error.
-        GivesText R.reads reader.old.end reader.new.end (λ input. IsNoToml input place error))) }
+        GivesText R.reads reader.old.end reader.new.end (λ input. IsNoToml file.now input place error))) }
+    ensures no_json { IfErr result (λ fault. IfNotJson fault (λ place.
+        GivesText R.reads reader.old.end reader.new.end (λ input. IsNoJson file.now input place))) }
     ensures no_description { IfErr result (λ fault. IfNotDescription fault (
-        GivesText R.reads reader.old.end reader.new.end IsNoDescription)) }
+        GivesText R.reads reader.old.end reader.new.end (IsNoDescription file.now))) }
 
     // Over streams that tell their bytes.
     ensures ok { IfOk result (λ lines.
-        ReadsText (R.remaining reader.old.end) (R.remaining reader.new.end) (HasWarnings (count_of lines))) }
+        ReadsText (R.remaining reader.old.end) (R.remaining reader.new.end) (HasWarnings (count_of lines) file.now)) }
     ensures not_utf8 { IfErr result (λ fault. IfNotUtf8 fault (λ place. (input : _)
         × ReadsAll (R.remaining reader.old.end) (R.remaining reader.new.end) input × IsNoText input place)) }
     ensures not_toml { IfErr result (λ fault. IfNotToml fault (λ place error.
         ReadsText (R.remaining reader.old.end) (R.remaining reader.new.end) (λ input.
-        IsNoToml input place error))) }
+        IsNoToml file.now input place error))) }
+    ensures not_json { IfErr result (λ fault. IfNotJson fault (λ place.
+        ReadsText (R.remaining reader.old.end) (R.remaining reader.new.end) (λ input.
+        IsNoJson file.now input place))) }
     ensures not_description { IfErr result (λ fault. IfNotDescription fault (
-        ReadsText (R.remaining reader.old.end) (R.remaining reader.new.end) IsNoDescription)) }
+        ReadsText (R.remaining reader.old.end) (R.remaining reader.new.end) (IsNoDescription file.now))) }
 {
     let text = text_from(alloc, reader)?;
-    judge(global, text.as_str())
+    judge(global, file, text.as_str())
 }
 
 // The warnings about the description that the text gives.
-fn judge(global: Global, text: &str) -> Result<Lines, Fault>
-    ensures ok { IfOk result (λ lines. HasWarnings (count_of lines) text.now) }
+fn judge(global: Global, file: &str, text: &str) -> Result<Lines, Fault>
+    ensures ok { IfOk result (λ lines. HasWarnings (count_of lines) file.now text.now) }
     ensures told { IfOk result TellsTheFirst }
     ensures fault { IfErr result IsOfText }
-    ensures not_toml { IfErr result (λ fault. IfNotToml fault (IsNoToml text.now)) }
+    ensures not_toml { IfErr result (λ fault. IfNotToml fault (IsNoToml file.now text.now)) }
+    ensures not_json { IfErr result (λ fault. IfNotJson fault (IsNoJson file.now text.now)) }
     ensures not_description { IfErr result (λ fault.
-        IfNotDescription fault (IsNoDescription text.now)) }
+        IfNotDescription fault (IsNoDescription file.now text.now)) }
 {
-    let data = table_of(global, text)?;
+    let notation = notation_of(file, text);
+    let data = table_of(global, notation, text)?;
     let mut kept = Names::new(global);
-    let description = description_of(global, &mut kept, &data, text)?;
-    let warnings = warnings_in(global, text, &description);
+    let description = description_of(global, &mut kept, &data, notation, text)?;
+    let warnings = warnings_in(global, notation, text, &description);
     drop(description);
     Ok(warnings?)
 }
@@ -170,31 +183,35 @@ pub(crate) fn page_of<A: Allocator + Copy, B: Allocator>(
     alloc: A,
     global: Global,
     page: &Page<'_, B>,
+    file: &str,
     text: &str,
 ) -> Result<String<A>, Fault>
-    ensures page { IfOk result (λ made. HasPage (page_said page.now) text.now (string_bytes made)) }
+    ensures page { IfOk result (λ made. HasPage (page_said page.now) file.now text.now (string_bytes made)) }
     ensures fault { IfErr result IsOfContent }
-    ensures not_toml { IfErr result (λ fault. IfNotToml fault (IsNoToml text.now)) }
+    ensures not_toml { IfErr result (λ fault. IfNotToml fault (IsNoToml file.now text.now)) }
+    ensures not_json { IfErr result (λ fault. IfNotJson fault (IsNoJson file.now text.now)) }
     ensures not_description { IfErr result (λ fault.
-        IfNotDescription fault (IsNoDescription text.now)) }
+        IfNotDescription fault (IsNoDescription file.now text.now)) }
     ensures no_command { IfErr result (λ fault.
-        IfNoCommand fault (HasNoCommand (page_said page.now) text.now)) }
+        IfNoCommand fault (HasNoCommand (page_said page.now) file.now text.now)) }
     ensures no_page { IfErr result (λ fault.
-        IfNoPage fault (λ error. HasUnwritablePage (page_said page.now) error text.now)) }
+        IfNoPage fault (λ error. HasUnwritablePage (page_said page.now) error file.now text.now)) }
 {
-    let table = table_of(global, text)?;
+    let notation = notation_of(file, text);
+    let table = table_of(global, notation, text)?;
     let mut names = Names::new(global);
-    let description = description_of(global, &mut names, &table, text)?;
+    let description = description_of(global, &mut names, &table, notation, text)?;
     let made = rendered(alloc, global, page, &description);
     drop(description);
     made
 }
 
-// The description that the data of the text gives.
+// The description that the table of the text gives.
 pub(crate) fn description_of<'a>(
     global: Global,
     names: &mut Names,
     table: &'a Table,
+    notation: Notation,
     text: &str,
 ) -> Result<Description<'a>, Fault>
     ensures ok { IfOk result (λ d. described (table_view table.now) ≡ Some (description_said d)) }
@@ -203,60 +220,29 @@ pub(crate) fn description_of<'a>(
     match description_from_table(global, names, table) {
         Ok(description) => Ok(description),
         Err(DescriptionError::Memory(_)) => Err(Fault::Memory),
-        Err(DescriptionError::Content(faults)) => Err(fault_of_data(global, text, &faults)),
+        Err(DescriptionError::Content(faults)) => Err(fault_of_data(
+            global, notation, text, &faults,
+        )),
     }
 }
 
-// The fault of a text whose data has these.
-fn fault_of_data(global: Global, text: &str, faults: &Faults<'_>) -> Fault
+// The fault of a text whose table has these.
+fn fault_of_data(global: Global, notation: Notation, text: &str, faults: &Faults<'_>) -> Fault
     ensures { (table : Members) → described table ≡ None → IsOfData table result }
 {
-    match lines_in(global, text, faults) {
+    match lines_in(global, notation, text, faults) {
         Ok(lines) => Fault::NotDescription(lines),
         Err(AllocError) => Fault::Memory,
     }
 }
 
 // The same, where lines may end with a carriage return too.
-fn lines_in(global: Global, text: &str, faults: &Faults<'_>) -> Result<Lines, AllocError> {
+fn lines_in(
+    global: Global,
+    notation: Notation,
+    text: &str,
+    faults: &Faults<'_>,
+) -> Result<Lines, AllocError> {
     let plain = without_returns(global, text)?;
-    lines_of(global, &plain, faults)
-}
-
-// The data of the text, in which lines may end with a carriage return too.
-pub(crate) fn table_of(global: Global, text: &str) -> Result<Table, Fault>
-    ensures ok { IfOk result (λ table. parse_document (without_returns text.now) ≡ Some (table_view table)) }
-    ensures fault { IfErr result (IsSyntaxFault (without_returns text.now)) }
-{
-    let plain = without_returns(global, text)?;
-    plain_table(global, &plain)
-}
-
-fn plain_table(global: Global, text: &str) -> Result<Table, Fault>
-    ensures ok { IfOk result (λ table. parse_document text.now ≡ Some (table_view table)) }
-    ensures fault { IfErr result (IsSyntaxFault text.now) }
-{
-    match toml::table_from_str(global, text) {
-        Ok(table) => Ok(table),
-        Err(error) => Err(syntax_fault(global, text, error)),
-    }
-}
-
-// The fault of a text that could not be read as TOML.
-fn syntax_fault(global: Global, text: &str, error: toml::de::Error) -> Fault
-    requires within { IsWithin text.now error }
-    requires refused { ¬ IsMemory error → parse_document text.now ≡ None }
-    ensures { IsSyntaxFault text.now result }
-{
-    let Some(span) = error.span() else {
-        return Fault::Memory;
-    };
-    match hint_of(global, text, span.start, error.message()) {
-        Ok(hint) => Fault::NotToml {
-            place: place_behind(&text.as_bytes()[..span.start]),
-            error,
-            hint,
-        },
-        Err(AllocError) => Fault::Memory,
-    }
+    lines_of(global, notation, &plain, faults)
 }

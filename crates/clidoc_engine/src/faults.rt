@@ -9,6 +9,7 @@ use crate::hints::Hint;
 use crate::meant::{Meant, Named};
 use crate::places::Place;
 use command_pages::PageError;
+use description_json::Why;
 use description_toml::words::Brief;
 use page_model::PageFault;
 use std::alloc::AllocError;
@@ -26,7 +27,12 @@ pub enum Fault {
         error: toml::de::Error,
         hint: Hint,
     },
-    /// The TOML is no description: what is wrong in it.
+    /// The text gives no table as JSON: the place of the first fault, and why.
+    NotJson {
+        place: Place,
+        why: Why,
+    },
+    /// The table is no description: what is wrong in it.
     NotDescription(Lines),
     /// The page is that of a command, and the description has no such command: its name, and the names of the
     /// commands above it, the application's first, with a blank between two.
@@ -77,6 +83,7 @@ impl Display for Told<'_> {
                     )
                 }
             },
+            Fault::NotJson { place, why } => write!(f, "{file}:{place}: {why}"),
             Fault::NotDescription(lines) => lines.write_in(f, file, Severity::Fault),
             Fault::NoCommand { name, path, meant } => {
                 let (name, path) = (Named(name.as_str()), Brief(path.as_str()));

@@ -1,5 +1,5 @@
 //! What the program `clidoc` does: the words that choose a page, and the making of the page of a description in
-//! TOML, or of all its pages, over any reader and any writer.
+//! TOML or JSON, or of all its pages, over any reader and any writer.
 #![tactic(auto)]
 
 pub mod all;
@@ -14,12 +14,14 @@ mod headers;
 pub mod hints;
 pub mod meant;
 mod newlines;
+pub mod notation;
 mod open;
 mod own;
 mod pages;
 pub mod places;
 pub mod program;
 pub mod reading;
+mod tables;
 mod utf8;
 pub mod words;
 mod wrong;

@@ -9,7 +9,7 @@ pub const DESCRIPTION: &str = r#"# The program that makes the pages. Its footer 
 name = "clidoc"
 about = "Makes pages of the description of a command line."
 header = """
-The description is read from FILE, or else from standard input, in TOML, and the page is written to standard output.
+The description is read from FILE, or else from standard input, in TOML or JSON, and the page is written to standard output.
 The program that is described may be written in any language."""
 usage = """
 clidoc FORM [--command NAME]... [--deep] [--width COLUMNS] [--fragment] [--date DATE] [--vendor TEXT] [FILE]

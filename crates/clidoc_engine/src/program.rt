@@ -151,7 +151,7 @@ fn terminal<R: Alloc + Env>(rt: &R) -> Result<usize, Failure> {
 // Says how it is used, where there are no words.
 fn usage<R: Alloc + Eprint>(rt: &R, global: Global, terminal: usize) -> Result<ExitCode, Failure> {
     let page = own_page(global, ConsoleForm::Usage, terminal);
-    let line = page_of(global, global, &page, DESCRIPTION);
+    let line = page_of(global, global, &page, STANDARD_INPUT, DESCRIPTION);
     drop(page);
     match line {
         Ok(line) => Ok(expecting(rt, line.trim_end())),
@@ -307,7 +307,7 @@ where
 {
     let mut reader = bounded(input, limits.input);
     let mut writer = bounded(io::writer(rt), limits.output);
-    let outcome = run_description(rt.alloc(), global, page, &mut reader, &mut writer);
+    let outcome = run_description(rt.alloc(), global, page, file, &mut reader, &mut writer);
     if writer.into_inner().is_over() {
         drop(outcome);
         return Err(too_much(global, "the page is", limits.output));
@@ -368,7 +368,7 @@ where
     R::A: Copy,
 {
     let mut reader = bounded(input, limits.input);
-    let outcome = check_description(rt.alloc(), global, &mut reader);
+    let outcome = check_description(rt.alloc(), global, file, &mut reader);
     let warnings = within(global, limits.input, outcome, file, reader)?;
     warn(rt, global, strict, file, &warnings)
 }
@@ -405,7 +405,7 @@ where
 {
     enter(rt, global, folder)?;
     let mut reader = bounded(input, limits.input);
-    let outcome = make_files(rt.alloc(), global, given, &mut reader);
+    let outcome = make_files(rt.alloc(), global, given, file, &mut reader);
     let files = within(global, limits.input, outcome, file, reader)?;
     if bytes_of(&files) > limits.output.bytes() {
         return Err(too_much(global, "the pages are", limits.output));

@@ -5,6 +5,7 @@ pub mod ends;
 mod faults;
 mod folders;
 mod inputs;
+pub mod json;
 pub mod pages;
 mod warnings;
 mod words;

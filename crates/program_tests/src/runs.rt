@@ -1,4 +1,5 @@
 //! Whole runs of the programs: the status, and what stands on the streams.
+use crate::clidoc::json::IN_JSON;
 use crate::clidoc::pages::{HELP, INPUT};
 use crate::helpdoc::pages::{self, PAGE, SAMPLE};
 use crate::programs::{answers, ends_with, refuses_until_ample};
@@ -382,8 +383,8 @@ Usage: clidoc FORM [--command NAME]... [--deep] [--width COLUMNS] [--fragment] [
        clidoc all --into FOLDER [--date DATE] [--vendor TEXT] [FILE]
        clidoc check [--strict] [FILE]
 
-The description is read from FILE, or else from standard input, in TOML, and the page is written to
-standard output. The program that is described may be written in any language.
+The description is read from FILE, or else from standard input, in TOML or JSON, and the page is
+written to standard output. The program that is described may be written in any language.
 
 Arguments:
     FORM                 What is made of the description.
@@ -988,4 +989,6 @@ fn a_refused_growth_is_said(rt: HostRuntime) {
     assert!(rt; refuses_until_ample(rt.alloc(), "clidoc|full", ends, "clidoc: no memory"));
     let ends = Ends::new(INPUT, b"");
     assert!(rt; refuses_until_ample(rt.alloc(), "clidoc|check", ends, "clidoc: no memory"));
+    let ends = Ends::new(IN_JSON, HELP);
+    assert!(rt; refuses_until_ample(rt.alloc(), "clidoc|full", ends, "clidoc: no memory"));
 }

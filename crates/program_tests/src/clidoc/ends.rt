@@ -1,4 +1,5 @@
 //! Runs over ends that fail or answer by a script, and judgements of a description.
+use crate::clidoc::json::IN_JSON;
 use crate::clidoc::pages::{Form, INPUT, page_of};
 use crate::engines::AMPLE;
 use crate::stand_ins::runs::{Ending, Ends};
@@ -29,7 +30,8 @@ pub fn description_ran<A: Allocator + Copy>(
     let mut reader = Watched::new(ends.reader());
     let mut writer = Watched::new(ends.writer());
     let asked = page_of(global, form);
-    let ending = ending_of(&run_description(alloc, global, &asked, &mut reader, &mut writer));
+    let outcome = run_description(alloc, global, &asked, "-", &mut reader, &mut writer);
+    let ending = ending_of(&outcome);
     if ends.have_read(ending, reader) && ends.have_written(ending, writer) {
         Some(ending)
     } else {
@@ -44,7 +46,7 @@ fn judged(global: Global, budget: usize, input: &[u8], reads: Script<'_>) -> Opt
     };
     let ends = Ends::new(input, b"").reading(reads);
     let mut reader = Watched::new(ends.reader());
-    let ending = ending_of(&check_description(&heap, global, &mut reader));
+    let ending = ending_of(&check_description(&heap, global, "-", &mut reader));
     if ends.have_read(ending, reader) {
         Some(ending)
     } else {
@@ -55,16 +57,18 @@ fn judged(global: Global, budget: usize, input: &[u8], reads: Script<'_>) -> Opt
 // A description, how its reader answers, and how the judgement ends.
 const JUDGEMENTS: &[(&[u8], Script<'static>, Ending)] = &[
     (INPUT, Script::BYTES, Ending::Done),
+    (IN_JSON, Script::BYTES, Ending::Done),
     (b"", Script::WHOLE, Ending::BadInput),
+    (b"{", Script::WHOLE, Ending::BadInput),
     (b"\xff", Script::WHOLE, Ending::BadInput),
     (INPUT, Script::FOURTH_FAILS, Ending::ReadFailed),
 ];
 
 // Whether each budget refuses the first growth that does not fit it; the budgets rise until one suffices, and the first
 // is too small.
-fn judges_when_ample(global: Global) -> bool {
+fn judges_when_ample(global: Global, input: &[u8]) -> bool {
     for budget in 1..4096usize {
-        let judged = judged(global, budget * 16, INPUT, Script::BYTES);
+        let judged = judged(global, budget * 16, input, Script::BYTES);
         if judged != Some(Ending::NoMemory) {
             return judged == Some(Ending::Done) && budget > 1;
         }
@@ -78,5 +82,6 @@ fn a_description_is_judged_when_memory_lasts(rt: HostRuntime) {
         let judged = judged(rt.alloc(), AMPLE, input, reads);
         assert!(rt; judged == Some(ending), "{input:?}");
     }
-    assert!(rt; judges_when_ample(rt.alloc()));
+    assert!(rt; judges_when_ample(rt.alloc(), INPUT));
+    assert!(rt; judges_when_ample(rt.alloc(), IN_JSON));
 }

@@ -394,7 +394,8 @@ y'''\r
 header = 1\r
 ";
 
-fn is_said(global: Global, row: &str) -> bool {
+/// Whether the lines are said.
+pub fn is_said(global: Global, row: &str) -> bool {
     match row.split_once("\n====\n") {
         Some((lines, input)) => answers(global, "clidoc|full", input.as_bytes(), 1, (b"", lines)),
         None => false,

@@ -431,7 +431,61 @@ const FILES: &[(&str, &[u8], &str)] = &[
         b"name = 'a'\r\n# \xc3\xa9\xc3\xff",
         "my.toml:2:4: the text is not UTF-8",
     ),
+    (
+        "clidoc|full|my.toml",
+        b"\n{\"name\": 1}",
+        "my.toml:2:2: name is no text",
+    ),
 ];
+
+// The same of a file whose name ends in `.json`, and the calls on the folder.
+const JSON_FILES: &[(&str, &[&str], &[u8], &str)] = &[
+    (
+        "clidoc|full|my.json",
+        &["open my.json"],
+        b"name = 'a'",
+        "my.json:1:1: no object of JSON; { has to stand here",
+    ),
+    (
+        "clidoc|check|my.json",
+        &["open my.json"],
+        b"\n",
+        "my.json:2:1: no object of JSON; { has to stand here",
+    ),
+    (
+        "clidoc|all|--into|out|my.json",
+        &["open my.json", "enter out"],
+        b"# name = 'a'",
+        "my.json:1:1: no object of JSON; { has to stand here",
+    ),
+    (
+        "clidoc|man|my.json",
+        &["open my.json"],
+        b"{\"name\": \"a\", \"name\": \"b\"}",
+        "my.json:1:15: this key stands in the object already",
+    ),
+    (
+        "clidoc|html|my.json",
+        &["open my.json"],
+        b"{\"name\": \"\xff\"}",
+        "my.json:1:11: the text is not UTF-8",
+    ),
+    (
+        "clidoc|--strict|check|my.json",
+        &["open my.json"],
+        b"{\"name\": \"a\", \"about\": \"Greets\",\r\n \"option\": [\n  {\"long\": \"b\"}]}",
+        "my.json:3:3: warning: no help says what the option does",
+    ),
+];
+
+fn json_file_is_told(
+    global: Global,
+    row: &(&str, &'static [&'static str], &'static [u8], &str),
+) -> bool {
+    let &(words, calls, bytes, line) = row;
+    let folder = Folder::new(calls).with_file("my.json", bytes);
+    ends_so(global, &folder, words, b"", 1, line)
+}
 
 // Whether a run on a file tells this of it, where it can be opened.
 fn file_is_told(global: Global, words: &str, bytes: &'static [u8], line: &str) -> bool {
@@ -459,6 +513,9 @@ const UNOPENED: &[(ErrorKind, &str)] = &[
 fn files_are_told_by_their_names(rt: HostRuntime) {
     for &(words, bytes, line) in FILES {
         assert!(rt; file_is_told(rt.alloc(), words, bytes, line), "{words}");
+    }
+    for row in JSON_FILES {
+        assert!(rt; json_file_is_told(rt.alloc(), row), "{}", row.3);
     }
     let folder = Folder::new(&["open my.toml"]).with_file("my.toml", b"name = 'a'");
     let line = "my.toml:1:1: warning: no about says what the program does";
@@ -531,7 +588,7 @@ fn count_on(global: Global, budget: usize) -> Option<usize> {
         date: None,
         vendor: None,
     };
-    match make_files(&heap, global, given, &mut reader) {
+    match make_files(&heap, global, given, "-", &mut reader) {
         Ok(files) => Some(files.len()),
         Err(_) => None,
     }

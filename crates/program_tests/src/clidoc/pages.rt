@@ -82,18 +82,20 @@ pub fn page_of(global: Global, form: Form) -> Page<'static, Global> {
 pub const HELP: &[u8] =
     b"Prints things\n\nUsage: app -v\n\nOptions:\n    -v, --verbose  Talk more\n";
 
-// The page in memory. The engine's promises over ends that tell their bytes say which page it is.
-fn page<'a>(
+/// The page in memory of the description in a file of this name. The engine's promises over ends that tell their bytes
+/// say which page it is.
+pub fn page<'a>(
     heap: &'a LocalHeap,
     global: Global,
     asked: &Page<'_, Global>,
+    file: &str,
     input: &[u8],
 ) -> Option<Vec<u8, &'a LocalHeap>>
-    ensures { IfSome result (λ page. HasPage (page_said asked.now) input.now page.items) }
+    ensures { IfSome result (λ page. HasPage (page_said asked.now) file.now input.now page.items) }
 {
     let mut reader = Watched::new(input);
     let mut writer = Watched::new(Vec::new(heap));
-    let outcome = run_description(heap, global, asked, &mut reader, &mut writer);
+    let outcome = run_description(heap, global, asked, file, &mut reader, &mut writer);
     if outcome.is_ok() {
         Some(writer.into_inner())
     } else {
@@ -107,7 +109,7 @@ pub fn has_page(global: Global, form: Form, input: &[u8], want: &[u8]) -> bool {
         return false;
     };
     let asked = page_of(global, form);
-    match page(&heap, global, &asked, input) {
+    match page(&heap, global, &asked, "-", input) {
         Some(page) => page.as_slice() == want,
         None => false,
     }

@@ -305,8 +305,8 @@ fn is_status(global: Global, words: &str, row: (&str, &str), status: u8) -> bool
     ends_with(global, &desk, status, 0, !lines.is_empty())
 }
 
-// Whether the lines are said, and are a failure where it is strict alone.
-fn is_said(global: Global, row: &str) -> bool {
+/// Whether the lines are said, and are a failure where it is strict alone.
+pub fn is_said(global: Global, row: &str) -> bool {
     let Some((lines, input)) = row.split_once("====\n") else {
         return false;
     };
