@@ -3,7 +3,7 @@
 
     compare/compare.py [COUNT [SEED]]
 
-Makes COUNT descriptions (100) from SEED (1), with hostile texts and fixed words, writes each as TOML, and runs the built program, `out/clidoc`, on it in each
+Makes COUNT descriptions (100) from SEED (1), with hostile texts and fixed words, writes each as TOML or as JSON, and runs the built program, `out/clidoc`, on it in each
 form, for the application and for a command to which random words lead. `pages` is the definition of the pages as a program. Then `clidoc` is run on the same
 descriptions with a planted fault each, and the line that tells it is looked for (`faults.py`).
 Prints how many pages and lines agree and how many differ, and the first that differs. Ends with status 1 where any differs.
@@ -31,14 +31,14 @@ TITLES = ["November 2026", "2026-11-23", "", "a-b 'c'", "日本", "a\\b \"c\""]
 
 
 def written(count, seed):
-    """The descriptions, each with a TOML text of it."""
+    """The descriptions, each with a text of it, in TOML or in JSON."""
     chances = random.Random(seed)
     for name, table in page_cases.cases(count, seed):
         file = page_cases.EXAMPLES / name
         text = file.read_text() if file.exists() else describing.Writer(chances).document(table)
         if tomllib.loads(text) != table:
             sys.exit(f"the text says something else than\n{table}\n{text}")
-        yield table, text
+        yield table, describing.in_json(table, chances) if chances.random() < 0.4 else text
 
 
 def way(table, chances):
@@ -78,7 +78,8 @@ def lines(cases, seed):
     number = 0
     for table, _ in cases[len(list(page_cases.EXAMPLES.glob("*.toml"))) :]:
         for other, said in faults.planted(table, chances):
-            given = describing.Writer(chances).document(other).encode()
+            write = describing.in_json if chances.random() < 0.4 else lambda data, chances: describing.Writer(chances).document(data)
+            given = write(other, chances).encode()
             form = FORMS[number % len(FORMS)]
             number += 1
             yield given, [form], (1, b"", said)

@@ -1,4 +1,5 @@
-"""Random descriptions, as the data of a TOML text, and a TOML text of such data."""
+"""Random descriptions, as the data of a TOML text, and texts in TOML and in JSON of such data."""
+import json
 import unicodedata
 
 import syntaxes
@@ -296,3 +297,9 @@ class Writer:
 
     def document(self, table):
         return "\n".join(self.table(table)) + "\n"
+
+
+def in_json(table, random):
+    """The data as JSON, a day as a string."""
+    layout = {"indent": random.choice([None, 0, 2, "\t"]), "ensure_ascii": random.random() < 0.5}
+    return random.choice(["", " ", "\r\n\t"]) + json.dumps(table, default=lambda day: getattr(day, "text", str(day)), **layout)
