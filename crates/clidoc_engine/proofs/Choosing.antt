@@ -1,76 +1,133 @@
 -- What words choose, by what they give.
-use Rattle.std.proofs.Common.{◌≡◌, ◌≢◌, ◌⊎◌, ℕ, List, [], ◌∷◌, ◌++◌, Option, Some, None, false, length, get_or, ◌+◌, ◌≤◌, ◌<◌, arith, refl, ap, ◌∙◌, Result, Ok, Err, IfErr}
-use Rattle.std.specs.Prelude.{Bool, codes, option_to_list, ◌||◌, bytes_eq}
+use Rattle.std.proofs.Common.{◌≡◌, ◌≢◌, ◌⊎◌, ℕ, List, [], ◌∷◌, ◌++◌, Option, Some, None, false, true, length, get_or, ◌≤◌, ◌<◌, arith, refl, sym, ap, ◌∙◌, Result, Ok, Err, IfErr, IfOk, inl, inr}
+use Rattle.std.specs.Prelude.{Bool, codes, ◌||◌, bytes_eq}
+use Rattle.std.specs.List.{list_any}
 use Rattle.std.proofs.lemmas.Bool.{false≢true}
-use Rattle.std.proofs.lemmas.List.{length-append, length-map}
 use Rattle.std.specs.Borrow.{Bor}
 use Rattle.command_pages.specs.Pages.{TitleGiven}
+use Rattle.command_pages.specs.declared.given.ConsoleForm.TheVariants.{Usage, Full, Brief}
+use Rattle.completions.specs.declared.shells.Shell.{Shell}
 use Rattle.clidoc_engine.specs.Chosen.{words_said}
 use Rattle.clidoc_engine.specs.declared.reading.WordFault.{WordFault}
 use Rattle.clidoc_engine.specs.Reading.{IsRefused}
-use Rattle.clidoc_engine.specs.Words.{Given, HasNoLevel, HasNoTitle, IsStrict, IsTitle, given_in, Names, PageSaid, ChoiceSaid, Chooses, page, check, all, help, version, is_one_of}
+use Rattle.clidoc_engine.specs.Words.{Given, given_in, PageSaid, console, html, markdown, man, completion, ChoiceSaid, Chooses, ChoosesWork, Takes, Split, page, check, all, help, version, is_one_of, NamesPage, IsPageOf, IsCheck, IsAll, IsComplete}
 
-abbrev given_or : Given → Option Given → Given
-given_or g None = g
-given_or g (Some h) = h
+-- ---- the first word, and those behind it
 
--- the plain words and the files are no word with at most one file
-abbrev pub NamesNothing : Given → Type 0
-NamesNothing g = g.plain ≢ [] → (word : List ℕ) (file : Option (List ℕ)) → g.plain ++ g.files ≢ word ∷ option_to_list file
+pub chosen_otherwise : (terminal : ℕ) (words : List (List ℕ)) (word : List ℕ) (behind : List (List ℕ)) (g : Given) → given_in words ≡ Some g → g.plain ++ g.files ≡ word ∷ behind
+    → ((choice : ChoiceSaid) → ¬ Takes terminal word behind g choice) → (choice : ChoiceSaid) → ¬ ChoosesWork terminal words choice
+chosen_otherwise terminal words word behind g given split none choice h = grind arith
 
-at_most_two : (word : List ℕ) (file : Option (List ℕ)) → length (word ∷ option_to_list file) ≤ 2
-at_most_two word file = grind arith
+pub nothing_given : (terminal : ℕ) (words : List (List ℕ)) → given_in words ≡ None → (choice : ChoiceSaid) → ¬ ChoosesWork terminal words choice
+nothing_given terminal words none choice h = grind arith
 
-no_names : (words : List (List ℕ)) (g h : Given) → given_in words ≡ Some g → NamesNothing g → (word : List ℕ) (file : Option (List ℕ)) → ¬ Names words word file h
-no_names words g h e none word file n = grind arith
+pub no_word : (terminal : ℕ) (words : List (List ℕ)) (g : Given) → given_in words ≡ Some g → g.plain ≡ [] → (choice : ChoiceSaid) → ¬ ChoosesWork terminal words choice
+no_word terminal words g given none choice h = grind arith
 
-pub no_check : (terminal : ℕ) (words : List (List ℕ)) (g : Given) → given_in words ≡ Some g → NamesNothing g → (strict : Bool) (file : Option (List ℕ)) → ¬ Chooses terminal words (check strict file)
-no_check terminal words g e none strict file h = no_names words g h.0 e none (codes "check") file h.1
+pub chosen : {T : Type 0} (said : T → ChoiceSaid) (terminal : ℕ) (words : List (List ℕ)) (word : List ℕ) (behind : List (List ℕ)) (g : Given) (r : Result T WordFault) → Split words word behind g
+    → IfOk r (λ t. Takes terminal word behind g (said t)) → IfOk r (λ t. ChoosesWork terminal words (said t))
+chosen said terminal words word behind g (Ok t) split h = (word, behind, g, split, h)
+chosen said terminal words word behind g (Err f) split h = tt
 
--- where other options stand there than one that says how strict it is
-pub no_strict : (terminal : ℕ) (words : List (List ℕ)) (g : Given) → given_in words ≡ Some g → ((strict : Bool) → ¬ (HasNoLevel g × HasNoTitle g × (g.folders ≡ []) × IsStrict g.stricts strict))
-    → (strict : Bool) (file : Option (List ℕ)) → ¬ Chooses terminal words (check strict file)
-no_strict terminal words g e none strict file h = grind arith
+-- ---- a word of its own is no other's
 
-pub no_all : (terminal : ℕ) (words : List (List ℕ)) (g : Given) → given_in words ≡ Some g → NamesNothing g → (folder : List ℕ) (title : TitleGiven) (file : Option (List ℕ)) → ¬ Chooses terminal words (all folder title file)
-no_all terminal words g e none folder title file h = no_names words g h.0 e none (codes "all") file h.1
+abbrev is_page_word : List ℕ → Bool
+is_page_word word = list_any (bytes_eq word) (codes "usage" ∷ codes "full" ∷ codes "brief" ∷ codes "html" ∷ codes "markdown" ∷ codes "man" ∷ [])
 
--- where other options stand there than one folder and the words of title lines
-pub no_folder : (terminal : ℕ) (words : List (List ℕ)) (g : Given) → given_in words ≡ Some g → ((folder : List ℕ) (title : TitleGiven) → ¬ (HasNoLevel g × IsTitle g title × (g.folders ≡ folder ∷ []) × (g.stricts ≡ [])))
-    → (folder : List ℕ) (title : TitleGiven) (file : Option (List ℕ)) → ¬ Chooses terminal words (all folder title file)
-no_folder terminal words g e none folder title file h = grind arith
+named : (terminal : ℕ) (word : List ℕ) (g : Given) (p : PageSaid) → NamesPage terminal word g p → is_page_word word ≡ true
+named terminal word g (console Usage commands width) h = ap is_page_word h.0
+named terminal word g (console Full commands width) h = ap is_page_word h.0
+named terminal word g (console Brief commands width) h = ap is_page_word h.0
+named terminal word g (html extent commands title) h = ap is_page_word h.0
+named terminal word g (markdown commands depth) h = ap is_page_word h.0
+named terminal word g (man commands depth title) h = ap is_page_word h.0
+named terminal word g (completion shell) h = absurd h
 
-pub no_page : (terminal : ℕ) (words : List (List ℕ)) (g : Given) → given_in words ≡ Some g → NamesNothing g → (p : PageSaid) (file : Option (List ℕ)) → ¬ Chooses terminal words (page p file)
-no_page terminal words g e none p file h = no_names words g h.1 e none h.0 file h.2
+unnamed : (terminal : ℕ) (word : List ℕ) (g : Given) → is_page_word word ≡ false → (p : PageSaid) → ¬ NamesPage terminal word g p
+unnamed terminal word g e p h = false≢true (sym e ∙ named terminal word g p h)
 
--- what holds of each fault
-pub always : {T : Type 0} (r : Result T WordFault) (P : WordFault → Type 0) → ((fault : WordFault) → P fault) → IfErr r P
-always r P h2 = grind arith
+-- no word is two
+apart : (word one other : List ℕ) → word ≡ one → word ≡ other → bytes_eq one one ≡ true → bytes_eq other one ≡ false → ⊥
+apart word one other e f same differ = false≢true (sym differ ∙ ap (λ w. bytes_eq w one) (sym f ∙ e) ∙ same)
 
-nothing : (terminal : ℕ) (words : List (List ℕ)) → ((strict : Bool) (file : Option (List ℕ)) → ¬ Chooses terminal words (check strict file)) → ((folder : List ℕ) (title : TitleGiven) (file : Option (List ℕ)) → ¬ Chooses terminal words (all folder title file)) → ((p : PageSaid) (file : Option (List ℕ)) → ¬ Chooses terminal words (page p file)) → ¬ Chooses terminal words help → ¬ Chooses terminal words version → (choice : ChoiceSaid) → ¬ Chooses terminal words choice
-nothing terminal words c a p h v (page q file) = p q file
-nothing terminal words c a p h v (check strict file) = c strict file
-nothing terminal words c a p h v (all folder title file) = a folder title file
-nothing terminal words c a p h v help = h
-nothing terminal words c a p h v version = v
+module _ (terminal : ℕ) (word : List ℕ) (behind : List (List ℕ)) (g : Given) where
+  -- of pages the one in a shell has a word of its own
+  pub taken_page : (p : PageSaid) (file : Option (List ℕ)) → IsPageOf terminal word behind g p file → Takes terminal word behind g (page p file)
+  taken_page (console form commands width) file h = h
+  taken_page (html extent commands title) file h = h
+  taken_page (markdown commands depth) file h = h
+  taken_page (man commands depth title) file h = h
+  taken_page (completion shell) file h = absurd h.1
 
--- where the words choose no page and no check, and do not ask for all or for the program itself, they choose nothing
-pub no_choice : {T : Type 0} (terminal : ℕ) (words : List (List ℕ)) (r : Result T WordFault) → IfErr r (λ fault. IsRefused fault ⊎ ((strict : Bool) (file : Option (List ℕ)) → ¬ Chooses terminal words (check strict file)))
-    → IfErr r (λ fault. IsRefused fault ⊎ ((folder : List ℕ) (title : TitleGiven) (file : Option (List ℕ)) → ¬ Chooses terminal words (all folder title file)))
-    → IfErr r (λ fault. IsRefused fault ⊎ ((p : PageSaid) (file : Option (List ℕ)) → ¬ Chooses terminal words (page p file))) → is_one_of words (codes "--help") (codes "-h") ≡ false → is_one_of words (codes "--version") (codes "-V") ≡ false
+  -- the first word of a page: that of a completion, or that of another page
+  no_page : is_page_word word ≡ false → word ≢ codes "complete" → (p : PageSaid) (file : Option (List ℕ)) → ¬ Takes terminal word behind g (page p file)
+  no_page e f (completion shell) file h = f h.0
+  no_page e f (console form commands width) file h = unnamed terminal word g e (console form commands width) h.1
+  no_page e f (html extent commands title) file h = unnamed terminal word g e (html extent commands title) h.1
+  no_page e f (markdown commands depth) file h = unnamed terminal word g e (markdown commands depth) h.1
+  no_page e f (man commands depth title) file h = unnamed terminal word g e (man commands depth title) h.1
+
+  pub only_check : word ≡ codes "check" → ((is_strict : Bool) (file : Option (List ℕ)) → ¬ IsCheck behind g is_strict file) → (choice : ChoiceSaid) → ¬ Takes terminal word behind g choice
+  only_check e none (page p file) h = no_page (ap is_page_word e) (λ f. apart word (codes "check") (codes "complete") e f refl refl) p file h
+  only_check e none (check is_strict file) h = none is_strict file h.1
+  only_check e none (all folder title file) h = apart word (codes "check") (codes "all") e h.0 refl refl
+  only_check e none help h = h
+  only_check e none version h = h
+
+  pub only_all : word ≡ codes "all" → ((folder : List ℕ) (title : TitleGiven) (file : Option (List ℕ)) → ¬ IsAll behind g folder title file) → (choice : ChoiceSaid) → ¬ Takes terminal word behind g choice
+  only_all e none (page p file) h = no_page (ap is_page_word e) (λ f. apart word (codes "all") (codes "complete") e f refl refl) p file h
+  only_all e none (check is_strict file) h = apart word (codes "all") (codes "check") e h.0 refl refl
+  only_all e none (all folder title file) h = none folder title file h.1
+  only_all e none help h = h
+  only_all e none version h = h
+
+  pub only_completion : word ≡ codes "complete" → ((shell : Shell) (file : Option (List ℕ)) → ¬ IsComplete behind g shell file) → (choice : ChoiceSaid) → ¬ Takes terminal word behind g choice
+  only_completion e none (page (completion shell) file) h = none shell file h.1
+  only_completion e none (page (console form commands width) file) h = unnamed terminal word g (ap is_page_word e) (console form commands width) h.1
+  only_completion e none (page (html extent commands title) file) h = unnamed terminal word g (ap is_page_word e) (html extent commands title) h.1
+  only_completion e none (page (markdown commands depth) file) h = unnamed terminal word g (ap is_page_word e) (markdown commands depth) h.1
+  only_completion e none (page (man commands depth title) file) h = unnamed terminal word g (ap is_page_word e) (man commands depth title) h.1
+  only_completion e none (check is_strict file) h = apart word (codes "complete") (codes "check") e h.0 refl refl
+  only_completion e none (all folder title file) h = apart word (codes "complete") (codes "all") e h.0 refl refl
+  only_completion e none help h = h
+  only_completion e none version h = h
+
+  pub only_page : word ≢ codes "check" → word ≢ codes "all" → word ≢ codes "complete" → ((p : PageSaid) (file : Option (List ℕ)) → ¬ IsPageOf terminal word behind g p file) → (choice : ChoiceSaid) → ¬ Takes terminal word behind g choice
+  only_page no_check no_all no_completion none (page (completion shell) file) h = no_completion h.0
+  only_page no_check no_all no_completion none (page (console form commands width) file) h = none (console form commands width) file h
+  only_page no_check no_all no_completion none (page (html extent commands title) file) h = none (html extent commands title) file h
+  only_page no_check no_all no_completion none (page (markdown commands depth) file) h = none (markdown commands depth) file h
+  only_page no_check no_all no_completion none (page (man commands depth title) file) h = none (man commands depth title) file h
+  only_page no_check no_all no_completion none (check is_strict file) h = no_check h.0
+  only_page no_check no_all no_completion none (all folder title file) h = no_all h.0
+  only_page no_check no_all no_completion none help h = h
+  only_page no_check no_all no_completion none version h = h
+
+-- ---- with what the program says of itself
+
+pub chosen_work : (terminal : ℕ) (words : List (List ℕ)) (choice : ChoiceSaid) → ChoosesWork terminal words choice → Chooses terminal words choice
+chosen_work terminal words (page p file) h = h
+chosen_work terminal words (check is_strict file) h = h
+chosen_work terminal words (all folder title file) h = h
+chosen_work terminal words help h = absurd h.4
+chosen_work terminal words version h = absurd h.4
+
+no_work : (terminal : ℕ) (words : List (List ℕ)) → ((choice : ChoiceSaid) → ¬ ChoosesWork terminal words choice) → ¬ Chooses terminal words help → ¬ Chooses terminal words version → (choice : ChoiceSaid) → ¬ Chooses terminal words choice
+no_work terminal words none h v (page p file) = none (page p file)
+no_work terminal words none h v (check is_strict file) = none (check is_strict file)
+no_work terminal words none h v (all folder title file) = none (all folder title file)
+no_work terminal words none h v help = h
+no_work terminal words none h v version = v
+
+-- where the words choose no work, and do not ask for the program itself, they choose nothing
+pub no_choice : {T : Type 0} (terminal : ℕ) (words : List (List ℕ)) (r : Result T WordFault) → IfErr r (λ fault. IsRefused fault ⊎ ((choice : ChoiceSaid) → ¬ ChoosesWork terminal words choice))
+    → is_one_of words (codes "--help") (codes "-h") ≡ false → is_one_of words (codes "--version") (codes "-V") ≡ false
     → IfErr r (λ fault. IsRefused fault ⊎ ((choice : ChoiceSaid) → ¬ Chooses terminal words choice))
-no_choice terminal words (Ok t) c a p h v = tt
-no_choice terminal words (Err f) c a p h v = grind (arith, nothing, false≢true)
+no_choice terminal words (Ok t) none h v = tt
+no_choice terminal words (Err f) (inl refused) h v = inl refused
+no_choice terminal words (Err f) (inr none) h v = inr (no_work terminal words none (λ e. false≢true (sym h ∙ e)) (λ e. false≢true (sym v ∙ e)))
 
 pub one_word : (words : List (Bor (List ℕ))) (d : Bor (List ℕ)) (long short : List ℕ) → 1 ≤ length words → length words < 2 → is_one_of (words_said words) long short ≡ (bytes_eq (get_or words 0 d).now long || bytes_eq (get_or words 0 d).now short)
 one_word [] d long short some few = absurd (omega arith)
 one_word (w ∷ []) d long short some few = refl
 one_word (w ∷ v ∷ ws) d long short some few = absurd (omega arith)
-
--- what three and more words are not
-pub too_many : (xs ys : List (Bor (List ℕ))) → 3 ≤ length xs + length ys → (word : List ℕ) (file : Option (List ℕ)) → words_said xs ++ words_said ys ≢ word ∷ option_to_list file
-too_many xs ys many word file e =
-    let long : length (words_said xs ++ words_said ys) ≡ length xs + length ys = length-append (words_said xs) (words_said ys) ∙ ap (λ n. n + length (words_said ys)) (length-map xs (λ w. w.now)) ∙ ap (λ n. length xs + n) (length-map ys (λ w. w.now)) in
-    let same : length (words_said xs ++ words_said ys) ≡ length (word ∷ option_to_list file) = ap length e in
-    let few = at_most_two word file in
-    omega arith

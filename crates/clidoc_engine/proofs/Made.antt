@@ -11,11 +11,16 @@ use Rattle.html_page.specs.declared.frame.Extent.{Extent}
 use Rattle.command_pages.specs.Html.{IsHtmlOf}
 use Rattle.command_pages.specs.Readings.{IsManualOf, IsMarkdownOf}
 use Rattle.clidoc_engine.specs.Rendering.{IsExact, IsPage, IsRendering}
-use Rattle.clidoc_engine.specs.Words.{PageSaid, console, html, man, markdown}
+use Rattle.clidoc_engine.specs.Words.{PageSaid, completion, console, html, man, markdown}
+use Rattle.completions.specs.Scripts.{IsScript}
+use Rattle.completions.specs.declared.shells.Shell.{Shell}
 
 -- what a medium answers is a page, if both are said of it
 pub a_page : {A : Type 0} (p : PageSaid) (d : DescriptionSaid) (text : String A) → IsRendering p d (string_bytes text) → IsExact p d (string_bytes text) → IsPage p d (string_bytes text)
 a_page p d text rendering exact = record { utf8 = IsUtf8-string_bytes text; rendering = rendering; exact = exact }
+
+pub a_script : {A : Type 0} (shell : Shell) (d : DescriptionSaid) (text : String A) → IsScript shell d (string_bytes text) → IsPage (completion shell) d (string_bytes text)
+a_script shell d text reads = a_page (completion shell) d text reads tt
 
 module _ {A : Type 0} (commands : List (List ℕ)) (d : DescriptionSaid) (s : SubjectSaid) (text : String A) (led : level_at commands d ≡ Some s) where
   pub a_console_page : (form : ConsoleForm) (width : ℕ) → string_bytes text ≡ console_page form width d.words s → IsPage (console form commands width) d (string_bytes text)

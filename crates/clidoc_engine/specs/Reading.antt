@@ -4,7 +4,7 @@ use Rattle.clidoc_engine.specs.declared.reading.Given as of_given
 use Rattle.clidoc_engine.specs.declared.reading.Kind as of_kind
 use Rattle.clidoc_engine.specs.declared.reading.Kind.TheVariants as kinds
 use Rattle.clidoc_engine.specs.declared.reading.WordFault.{WordFault}
-use Rattle.clidoc_engine.specs.declared.reading.WordFault.TheVariants.{NoForm, NoSuchForm, FormBehind, NoSuchOption, NoValue, NoColumns, NoFolder, Twice, TooMany, NotWith, NotAlone, Refused}
+use Rattle.clidoc_engine.specs.declared.reading.WordFault.TheVariants.{NoForm, NoSuchForm, FormBehind, NoSuchOption, NoValue, NoColumns, NoFolder, NoShell, NoSuchShell, Twice, TooMany, NotWith, NotAlone, Refused}
 use Rattle.clidoc_engine.specs.Chosen.{words_said}
 use Rattle.clidoc_engine.specs.declared.reading.Next.{Next}
 use Rattle.clidoc_engine.specs.declared.reading.Next.TheVariants.{Any, Value, File}
@@ -44,6 +44,8 @@ IsRefused (NoSuchOption word) = ⊥
 IsRefused (NoValue word) = ⊥
 IsRefused (NoColumns word) = ⊥
 IsRefused NoFolder = ⊥
+IsRefused NoShell = ⊥
+IsRefused (NoSuchShell word) = ⊥
 IsRefused (Twice option) = ⊥
 IsRefused (TooMany word) = ⊥
 IsRefused (NotWith option word) = ⊥

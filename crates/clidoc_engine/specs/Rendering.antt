@@ -9,7 +9,8 @@ use Rattle.description_pages.specs.Levels.{SubjectSaid}
 use Rattle.command_pages.specs.Pages.{console_page, console_page_fault, level_at, manual_page, manual_page_fault, markdown_page, markdown_page_fault}
 use Rattle.command_pages.specs.Html.{IsHtmlOf, html_page_fault}
 use Rattle.command_pages.specs.Readings.{IsManualOf, IsMarkdownOf}
-use Rattle.clidoc_engine.specs.Words.{PageSaid, console, html, markdown, man}
+use Rattle.completions.specs.Scripts.{IsScript}
+use Rattle.clidoc_engine.specs.Words.{PageSaid, console, html, markdown, man, completion}
 
 -- ---- of a page
 
@@ -23,6 +24,7 @@ IsRendering (console form commands width) d output = ⊤
 IsRendering (html extent commands given) d output = AtLevel commands d (λ s. IsHtmlOf d extent given s output)
 IsRendering (markdown commands depth) d output = AtLevel commands d (λ s. IsMarkdownOf depth d.words s output)
 IsRendering (man commands depth given) d output = AtLevel commands d (λ s. IsManualOf d depth given s output)
+IsRendering (completion shell) d output = IsScript shell d output
 
 -- exactly these bytes. Of a page in HTML its tree says all but how it is spelled.
 abbrev pub IsExact : PageSaid → DescriptionSaid → List ℕ → Type 0
@@ -30,6 +32,7 @@ IsExact (console form commands width) d output = option_map (console_page form w
 IsExact (html extent commands given) d output = ⊤
 IsExact (markdown commands depth) d output = option_map (markdown_page depth d.words) (level_at commands d) ≡ Some output
 IsExact (man commands depth given) d output = option_map (manual_page d depth given) (level_at commands d) ≡ Some output
+IsExact (completion shell) d output = ⊤
 
 -- this page of the description: a text of which both hold
 pub record IsPage (p : PageSaid) (d : DescriptionSaid) (output : List ℕ) : Type 0 where
@@ -49,3 +52,4 @@ IsUnwritable (console form commands width) d error = AtLevel commands d (λ s. H
 IsUnwritable (html extent commands given) d error = AtLevel commands d (λ s. html_page_fault d given s ≡ Some error)
 IsUnwritable (markdown commands depth) d error = AtLevel commands d (λ s. HasCharacter (markdown_page_fault depth d.words s) error)
 IsUnwritable (man commands depth given) d error = AtLevel commands d (λ s. HasCharacter (manual_page_fault d depth given s) error)
+IsUnwritable (completion shell) d error = ⊥

@@ -10,16 +10,19 @@ use Rattle.command_pages.specs.declared.given.ConsoleForm.{ConsoleForm}
 use Rattle.command_pages.specs.declared.given.ConsoleForm.TheVariants.{Usage, Full, Brief}
 use Rattle.clidoc_engine.specs.declared.reading.Valued.{Valued}
 use Rattle.clidoc_engine.specs.declared.reading.Valued.TheVariants.{Command, Width, Into, Date, Vendor}
+use Rattle.completions.specs.declared.shells.Shell.{Shell}
+use Rattle.completions.specs.declared.shells.Shell.TheVariants.{Bash, Zsh, Fish}
 
 -- ---- what is chosen
 
 -- a page of what some commands lead to: on the console, of a width; in HTML, of that level and of those below it, complete or what stands in its
--- body; in markdown, or as a manual page, of that level alone, or of those below it too
+-- body; in markdown, or as a manual page, of that level alone, or of those below it too; and what completes the words of the program in a shell
 pub data PageSaid : Type 0 where
   console : ConsoleForm → (commands : List (List ℕ)) → (width : ℕ) → PageSaid
   html : Extent → (commands : List (List ℕ)) → TitleGiven → PageSaid
   markdown : (commands : List (List ℕ)) → Depth → PageSaid
   man : (commands : List (List ℕ)) → Depth → TitleGiven → PageSaid
+  completion : Shell → PageSaid
 
 pub data ChoiceSaid : Type 0 where
   page : PageSaid → (file : Option (List ℕ)) → ChoiceSaid
@@ -211,12 +214,47 @@ NamesPage terminal word g (markdown commands depth) =
     (word ≡ codes "markdown") × (commands ≡ g.commands) × (g.widths ≡ []) × IsDepth g.deeps depth × (g.fragments ≡ []) × HasNoTitle g
 NamesPage terminal word g (man commands depth title) =
     (word ≡ codes "man") × (commands ≡ g.commands) × (g.widths ≡ []) × IsDepth g.deeps depth × (g.fragments ≡ []) × IsTitle g title
+NamesPage terminal word g (completion shell) = ⊥
 
--- the first word that stands for itself, and the one file, if there is one: a second such word, or one behind `--`
-pub record Names (words : List (List ℕ)) (word : List ℕ) (file : Option (List ℕ)) (g : Given) : Type 0 where
+abbrev pub shell_word : Shell → List ℕ
+shell_word Bash = codes "bash"
+shell_word Zsh = codes "zsh"
+shell_word Fish = codes "fish"
+
+-- What each form takes: the words behind it, and its options.
+
+abbrev pub HasNoOption : Given → Type 0
+HasNoOption g = HasNoLevel g × HasNoTitle g × HasNoWork g
+
+abbrev pub IsPageOf : (terminal : ℕ) → (word : List ℕ) → (behind : List (List ℕ)) → Given → PageSaid → (file : Option (List ℕ)) → Type 0
+IsPageOf terminal word behind g p file = (behind ≡ option_to_list file) × NamesPage terminal word g p × HasNoWork g
+
+abbrev pub IsCheck : (behind : List (List ℕ)) → Given → (is_strict : Bool) → (file : Option (List ℕ)) → Type 0
+IsCheck behind g is_strict file = (behind ≡ option_to_list file) × HasNoLevel g × HasNoTitle g × (g.folders ≡ []) × IsStrict g.stricts is_strict
+
+abbrev pub IsAll : (behind : List (List ℕ)) → Given → (folder : List ℕ) → TitleGiven → (file : Option (List ℕ)) → Type 0
+IsAll behind g folder title file = (behind ≡ option_to_list file) × HasNoLevel g × IsTitle g title × (g.folders ≡ folder ∷ []) × (g.stricts ≡ [])
+
+abbrev pub IsComplete : (behind : List (List ℕ)) → Given → Shell → (file : Option (List ℕ)) → Type 0
+IsComplete behind g shell file = (behind ≡ shell_word shell ∷ option_to_list file) × HasNoOption g
+
+-- the word, those behind it, and the options choose this work
+abbrev pub Takes : (terminal : ℕ) → (word : List ℕ) → (behind : List (List ℕ)) → Given → ChoiceSaid → Type 0
+Takes terminal word behind g (page (completion shell) file) = (word ≡ codes "complete") × IsComplete behind g shell file
+Takes terminal word behind g (page p file) = IsPageOf terminal word behind g p file
+Takes terminal word behind g (check is_strict file) = (word ≡ codes "check") × IsCheck behind g is_strict file
+Takes terminal word behind g (all folder title file) = (word ≡ codes "all") × IsAll behind g folder title file
+Takes terminal word behind g help = ⊥
+Takes terminal word behind g version = ⊥
+
+-- the first word that stands for itself, and all behind it: the others, and the files
+pub record Split (words : List (List ℕ)) (word : List ℕ) (behind : List (List ℕ)) (g : Given) : Type 0 where
   pub given : given_in words ≡ Some g
-  pub plain : g.plain ++ g.files ≡ word ∷ option_to_list file
+  pub plain : g.plain ++ g.files ≡ word ∷ behind
   pub first : g.plain ≢ []
+
+abbrev pub ChoosesWork : (terminal : ℕ) → (words : List (List ℕ)) → ChoiceSaid → Type 0
+ChoosesWork terminal words choice = (word : List ℕ) × (behind : List (List ℕ)) × (g : Given) × Split words word behind g × Takes terminal word behind g choice
 
 -- one word, that is one of these
 abbrev pub is_one_of : (words : List (List ℕ)) → (long short : List ℕ) → Bool
@@ -225,8 +263,6 @@ is_one_of words long short = false
 
 -- on a terminal of so many columns
 abbrev pub Chooses : (terminal : ℕ) → (words : List (List ℕ)) → ChoiceSaid → Type 0
-Chooses terminal words (page p file) = (word : List ℕ) × (g : Given) × Names words word file g × NamesPage terminal word g p × HasNoWork g
-Chooses terminal words (check is_strict file) = (g : Given) × Names words (codes "check") file g × HasNoLevel g × HasNoTitle g × (g.folders ≡ []) × IsStrict g.stricts is_strict
-Chooses terminal words (all folder title file) = (g : Given) × Names words (codes "all") file g × HasNoLevel g × IsTitle g title × (g.folders ≡ folder ∷ []) × (g.stricts ≡ [])
 Chooses terminal words help = is_one_of words (codes "--help") (codes "-h") ≡ true
 Chooses terminal words version = is_one_of words (codes "--version") (codes "-V") ≡ true
+Chooses terminal words choice = ChoosesWork terminal words choice

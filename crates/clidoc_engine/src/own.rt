@@ -13,6 +13,7 @@ The description is read from FILE, or else from standard input, in TOML or JSON,
 The program that is described may be written in any language."""
 usage = """
 clidoc FORM [--command NAME]... [--deep] [--width COLUMNS] [--fragment] [--date DATE] [--vendor TEXT] [FILE]
+clidoc complete SHELL [FILE]
 clidoc all --into FOLDER [--date DATE] [--vendor TEXT] [FILE]
 clidoc check [--strict] [FILE]"""
 footer = """
@@ -115,6 +116,7 @@ What is made of the description.
 - `man`: a manual page.
 - `markdown`: a page in markdown.
 - `html`: an HTML page with all commands below.
+- `complete`: a script that completes the words of the program in SHELL, which is `bash`, `zsh` or `fish`.
 - `check`: no page. It is told whether FILE is a description, and what it would better say.
 - `all`: the manual page and the page in markdown of each level, and the HTML page, as files of `--into`."""
 
@@ -147,6 +149,10 @@ A web page, and what stands in its body alone:
 
     clidoc html greet.toml > greet.html
     clidoc html --fragment greet.toml
+
+Completions for bash, in a file that `~/.bashrc` reads, or that stands where bash looks for them:
+
+    clidoc complete bash greet.toml > greet.bash
 
 Whether it is a description that nothing is to be said about, and all pages at once:
 

@@ -9,7 +9,7 @@ ghost use Rattle.clidoc_engine.specs.Chosen.{console_said, page_said};
 ghost use Rattle.clidoc_engine.specs.Chosen.{words_said as names_said};
 ghost use Rattle.clidoc_engine.specs.Rendering.{IsPage};
 ghost use Rattle.clidoc_engine.specs.Steps.{IsLost, IsNoCommand, IsUnmade};
-ghost use Rattle.clidoc_engine.specs.Words.{html, man, markdown};
+ghost use Rattle.clidoc_engine.specs.Words.{completion, html, man, markdown};
 
 use crate::faults::Fault;
 use crate::meant::meant_by;
@@ -19,6 +19,7 @@ use command_pages::{
     Depth, Extent, LevelSubject, application, console_page_of, html_page_of, manual_page_of,
     markdown_page_of,
 };
+use completions::{Shell, completion_script};
 use description::Description;
 use description_pages::subjects::enter;
 use std::alloc::{AllocError, Allocator, Global};
@@ -64,6 +65,7 @@ fn rendered_in<'p, 'a: 'p, A: Allocator + Copy, B: Allocator>(
             depth,
             title,
         } => as_manual(alloc, arena, global, commands, *depth, *title, description),
+        Page::Completion(shell) => completing(alloc, arena, *shell, description),
     }
 }
 
@@ -195,4 +197,21 @@ fn in_markdown<'p, 'a: 'p, A: Allocator + Copy>(
     let level = level_at(arena, global, commands, description)?;
     let page = markdown_page_of(alloc, arena, &description.words, depth, level)?;
     Ok(page)
+}
+
+// ---- completions
+
+#[tactic(auto, using(crate::proofs::Made::a_script))]
+fn completing<'p, 'a: 'p, A: Allocator + Copy>(
+    alloc: A,
+    arena: &'p Bump,
+    shell: Shell,
+    description: &'p Description<'a>,
+) -> Result<String<A>, Fault>
+    ensures page { IfOk result (λ made.
+        IsPage (completion shell) (description_said description.now) (string_bytes made)) }
+    ensures unmade { IfErr result (IsUnmade (completion shell) (description_said description.now)) }
+{
+    let script = completion_script(arena, shell, description)?;
+    Ok(String::from_str(alloc, script.as_str())?)
 }

@@ -52,6 +52,10 @@ pub enum WordFault<'w> {
     NoValue(Valued),
     /// This is no number of columns.
     NoColumns(&'w str),
+    /// There is no shell to complete words in.
+    NoShell,
+    /// This is no shell.
+    NoSuchShell(&'w str),
     /// There is no folder to write all pages into.
     NoFolder,
     /// This option is given more than once.

@@ -5,13 +5,15 @@ ghost use Rattle.description.specs.View.{text_of};
 ghost use Rattle.command_pages.specs.View.{title_said};
 ghost use Rattle.clidoc_engine.specs.Chosen.{choice_said, page_said, words_said};
 ghost use Rattle.clidoc_engine.specs.Reading.{IsRefused, given_of};
-ghost use Rattle.clidoc_engine.specs.Words.{ChoiceSaid, Chooses, HasNoLevel, HasNoTitle, HasNoWork};
-ghost use Rattle.clidoc_engine.specs.Words.{IsColumns, IsDepth, IsExtent, IsStrict, IsTerminalWidth, IsTitle};
-ghost use Rattle.clidoc_engine.specs.Words.{IsWidth, NamesPage, PageSaid, all, check, form_word, is_one_of, page};
+ghost use Rattle.clidoc_engine.specs.Words.{ChoiceSaid, Chooses, ChoosesWork, HasNoLevel, HasNoOption, HasNoTitle};
+ghost use Rattle.clidoc_engine.specs.Words.{HasNoWork, IsAll, IsCheck, IsColumns, IsComplete, IsDepth, IsExtent};
+ghost use Rattle.clidoc_engine.specs.Words.{IsPageOf, IsStrict, IsTerminalWidth, IsTitle};
+ghost use Rattle.clidoc_engine.specs.Words.{IsWidth, NamesPage, PageSaid, Takes, form_word, is_one_of, shell_word};
 
 use crate::reading::{Given, Valued, WordFault, WordOption, given_in};
 use crate::wrong::is_form;
 pub use command_pages::{ConsoleForm, Extent, TitleGiven};
+pub use completions::Shell;
 use description_pages::Depth;
 use std::alloc::Allocator;
 
@@ -51,6 +53,8 @@ pub enum Page<'w, A: Allocator> {
         depth: Depth,
         title: TitleGiven<'w>,
     },
+    /// What completes the words of the described program in a shell.
+    Completion(Shell),
 }
 
 /// What the program does.
@@ -95,6 +99,7 @@ fn width_said(text: &str) -> usize
 
 /// What the words after the program's name choose, on a terminal of so many columns: `docs/description.md` has the
 /// forms. An error where they choose nothing, or an allocation failed.
+#[tactic(auto, using(crate::proofs::Choosing::chosen_work))]
 pub fn choose<'w, A: Allocator + Copy>(
     alloc: A,
     terminal: usize,
@@ -124,71 +129,93 @@ fn is_one_of(words: &[&str], long: &str, short: &str) -> bool
     }
 }
 
-// What words choose that stand for pages, or for the judging of a description.
+// What words choose that stand for pages, or for other work on a description.
+#[tactic(auto, using(crate::proofs::Choosing::chosen_otherwise, crate::proofs::Choosing::nothing_given, crate::proofs::Choosing::no_word))]
 fn with_input<'w, A: Allocator + Copy>(
     alloc: A,
     terminal: usize,
     words: &[&'w str],
 ) -> Result<Choice<'w, A>, WordFault<'w>>
-    ensures ok { IfOk result (λ choice. Chooses terminal (words_said words.now) (choice_said choice)) }
-    ensures no_check { IfErr result (λ fault. IsRefused fault ⊎ ((strict file : _)
-        → ¬ Chooses terminal (words_said words.now) (check strict file))) }
-    ensures no_all { IfErr result (λ fault. IsRefused fault ⊎ ((folder title file : _)
-        → ¬ Chooses terminal (words_said words.now) (all folder title file))) }
-    ensures no_page { IfErr result (λ fault. IsRefused fault ⊎ ((p file : _)
-        → ¬ Chooses terminal (words_said words.now) (page p file))) }
+    ensures ok { IfOk result (λ choice. ChoosesWork terminal (words_said words.now) (choice_said choice)) }
+    ensures err { IfErr result (λ fault. IsRefused fault ⊎ ((choice : ChoiceSaid)
+        → ¬ ChoosesWork terminal (words_said words.now) choice)) }
 {
     let given = given_in(alloc, words)?;
-    let (word, file) = names(&given.plain, &given.files)?;
-    if word == "check" {
-        let strict = strict_alone(word, given)?;
-        return Ok(Choice::Check { strict, file });
-    }
-    if word == "all" {
-        let (folder, title) = folder_alone(word, given)?;
-        return Ok(Choice::All {
-            folder,
-            title,
-            file,
-        });
-    }
-    Ok(Choice::Page(page_alone(terminal, word, file, given)?, file))
+    let (word, behind) = first_word(alloc, &given.plain, &given.files)?;
+    taken(terminal, word, &behind, given)
 }
 
-// The first of the plain words, and the file, if there is one: the second of them or one behind `--`.
-#[tactic(auto, using(crate::proofs::Choosing::too_many))]
-fn names<'w>(
+// The first of the plain words, and all behind it: the others, and the files.
+fn first_word<'w, A: Allocator + Copy>(
+    alloc: A,
     plain: &[&'w str],
     files: &[&'w str],
-) -> Result<(&'w str, Option<&'w str>), WordFault<'w>>
-    ensures ok { IfOk result (λ names. words_said plain.now ++ words_said files.now
-        ≡ names.0.now ∷ option_to_list (text_of names.1)) }
+) -> Result<(&'w str, Vec<&'w str, A>), WordFault<'w>>
+    ensures ok { IfOk result (λ found. words_said plain.now ++ words_said files.now
+        ≡ found.0.now ∷ words_said found.1.items) }
     ensures first { IfOk result (λ _. words_said plain.now ≢ []) }
-    ensures err { IfErr result (λ _. words_said plain.now ≢ [] → (word file : _)
-        → words_said plain.now ++ words_said files.now ≢ word ∷ option_to_list file) }
+    ensures err { IfErr result (λ fault. IsRefused fault ⊎ (words_said plain.now ≡ [])) }
 {
-    match (plain, files) {
-        ([], _) => Err(WordFault::NoForm),
-        ([word], []) => Ok((*word, None)),
-        ([word], [file]) | ([word, file], []) => Ok((*word, Some(*file))),
-        ([_], [_, word, ..]) => Err(WordFault::TooMany(*word)),
-        ([_, _], [word, ..]) => Err(WordFault::TooMany(*word)),
-        ([_, _, word, ..], _) => Err(WordFault::TooMany(*word)),
+    let Some((word, others)) = plain.split_first() else {
+        return Err(WordFault::NoForm);
+    };
+    let mut behind = Vec::new(alloc);
+    behind.extend_from_slice(others)?;
+    behind.extend_from_slice(files)?;
+    Ok((*word, behind))
+}
+
+// What the word chooses with those behind it and the options.
+#[tactic(auto, using(crate::proofs::Choosing::only_check, crate::proofs::Choosing::only_all, crate::proofs::Choosing::only_completion, crate::proofs::Choosing::only_page))]
+fn taken<'w, A: Allocator>(
+    terminal: usize,
+    word: &'w str,
+    behind: &[&'w str],
+    given: Given<'w, A>,
+) -> Result<Choice<'w, A>, WordFault<'w>>
+    ensures ok { IfOk result (λ choice.
+        Takes terminal word.now (words_said behind.now) (given_of given.entry) (choice_said choice)) }
+    ensures err { IfErr result (λ _. (choice : ChoiceSaid)
+        → ¬ Takes terminal word.now (words_said behind.now) (given_of given.entry) choice) }
+{
+    match word {
+        "check" => judged(word, behind, given),
+        "all" => all_written(word, behind, given),
+        "complete" => completed(word, behind, given),
+        _ => paged(terminal, word, behind, given),
     }
 }
 
-// Whether it is judged strictly. Other options are refused.
-fn strict_alone<'w, A: Allocator>(word: &'w str, given: Given<'w, A>) -> Result<bool, WordFault<'w>>
-    ensures ok { IfOk result (λ strict. HasNoLevel (given_of given.entry) × HasNoTitle (given_of given.entry)
-        × ((given_of given.entry).folders ≡ []) × IsStrict (given_of given.entry).stricts strict) }
-    ensures err { IfErr result (λ _. (strict : _)
-        → ¬ (HasNoLevel (given_of given.entry) × HasNoTitle (given_of given.entry)
-        × ((given_of given.entry).folders ≡ []) × IsStrict (given_of given.entry).stricts strict)) }
+// The one file, if there is one.
+fn file_alone<'w>(behind: &[&'w str]) -> Result<Option<&'w str>, WordFault<'w>>
+    ensures ok { IfOk result (λ file. words_said behind.now ≡ option_to_list (text_of file)) }
+    ensures err { IfErr result (λ _. (file : _) → words_said behind.now ≢ option_to_list file) }
 {
+    match behind {
+        [] => Ok(None),
+        [file] => Ok(Some(*file)),
+        [_, word, ..] => Err(WordFault::TooMany(*word)),
+    }
+}
+
+// ---- work on descriptions
+
+fn judged<'w, A: Allocator>(
+    word: &'w str,
+    behind: &[&'w str],
+    given: Given<'w, A>,
+) -> Result<Choice<'w, A>, WordFault<'w>>
+    ensures ok { (terminal : _) → IfOk result (λ choice.
+        Takes terminal (codes "check") (words_said behind.now) (given_of given.entry) (choice_said choice)) }
+    ensures err { IfErr result (λ _. (strict file : _)
+        → ¬ IsCheck (words_said behind.now) (given_of given.entry) strict file) }
+{
+    let file = file_alone(behind)?;
     check_no_level(&given, word)?;
     check_no_title(&given, word)?;
     check_no_folder(&given, word)?;
-    strictness_of(&given.stricts)
+    let strict = strictness_of(&given.stricts)?;
+    Ok(Choice::Check { strict, file })
 }
 
 // Whether a warning is a failure.
@@ -203,24 +230,26 @@ fn strictness_of<'w>(stricts: &[&'w str]) -> Result<bool, WordFault<'w>>
     }
 }
 
-// The one folder, and the words of title lines. Other options are refused.
-fn folder_alone<'w, A: Allocator>(
+fn all_written<'w, A: Allocator>(
     word: &'w str,
+    behind: &[&'w str],
     given: Given<'w, A>,
-) -> Result<(&'w str, TitleGiven<'w>), WordFault<'w>>
-    ensures no_level { IfOk result (λ _. HasNoLevel (given_of given.entry)) }
-    ensures folder { IfOk result (λ chosen. (given_of given.entry).folders ≡ chosen.0.now ∷ []) }
-    ensures title { IfOk result (λ chosen. IsTitle (given_of given.entry) (title_said chosen.1)) }
-    ensures no_strict { IfOk result (λ _. (given_of given.entry).stricts ≡ []) }
-    ensures err { IfErr result (λ _. (folder title : _)
-        → ¬ (HasNoLevel (given_of given.entry) × IsTitle (given_of given.entry) title
-        × ((given_of given.entry).folders ≡ folder ∷ []) × ((given_of given.entry).stricts ≡ []))) }
+) -> Result<Choice<'w, A>, WordFault<'w>>
+    ensures ok { (terminal : _) → IfOk result (λ choice.
+        Takes terminal (codes "all") (words_said behind.now) (given_of given.entry) (choice_said choice)) }
+    ensures err { IfErr result (λ _. (folder title file : _)
+        → ¬ IsAll (words_said behind.now) (given_of given.entry) folder title file) }
 {
+    let file = file_alone(behind)?;
     check_no_level(&given, word)?;
     check_no_strict(&given, word)?;
     let title = title_of(&given)?;
     let folder = one_folder(&given.folders)?;
-    Ok((folder, title))
+    Ok(Choice::All {
+        folder,
+        title,
+        file,
+    })
 }
 
 fn one_folder<'w>(folders: &[&'w str]) -> Result<&'w str, WordFault<'w>>
@@ -234,23 +263,67 @@ fn one_folder<'w>(folders: &[&'w str]) -> Result<&'w str, WordFault<'w>>
     }
 }
 
-// The page that the word names with the values of options. A folder and strictness are refused. Behind the word stands
-// that file.
-fn page_alone<'w, A: Allocator>(
+fn completed<'w, A: Allocator>(
+    word: &'w str,
+    behind: &[&'w str],
+    given: Given<'w, A>,
+) -> Result<Choice<'w, A>, WordFault<'w>>
+    ensures ok { (terminal : _) → IfOk result (λ choice.
+        Takes terminal (codes "complete") (words_said behind.now) (given_of given.entry) (choice_said choice)) }
+    ensures err { IfErr result (λ _. (shell file : _)
+        → ¬ IsComplete (words_said behind.now) (given_of given.entry) shell file) }
+{
+    let Some((shell, others)) = behind.split_first() else {
+        return Err(WordFault::NoShell);
+    };
+    let shell = shell_named(*shell)?;
+    let file = file_alone(others)?;
+    check_alone(&given, word)?;
+    Ok(Choice::Page(Page::Completion(shell), file))
+}
+
+fn shell_named(word: &str) -> Result<Shell, WordFault<'_>>
+    ensures ok { IfOk result (λ shell. word.now ≡ shell_word shell) }
+    ensures err { IfErr result (λ _. (shell : _) → word.now ≢ shell_word shell) }
+{
+    match word {
+        "bash" => Ok(Shell::Bash),
+        "zsh" => Ok(Shell::Zsh),
+        "fish" => Ok(Shell::Fish),
+        _ => Err(WordFault::NoSuchShell(word)),
+    }
+}
+
+// Refuses all options.
+fn check_alone<'w, A: Allocator>(given: &Given<'w, A>, word: &'w str) -> Result<(), WordFault<'w>>
+    ensures ok { IfOk result (λ _. HasNoOption (given_of given.now)) }
+    ensures err { IfErr result (λ _. ¬ HasNoOption (given_of given.now)) }
+{
+    check_no_level(given, word)?;
+    check_no_title(given, word)?;
+    check_no_work(given, word)
+}
+
+// ---- pages
+
+// The page that the word names with the values of options. Those that are of no page are refused.
+#[tactic(auto, using(crate::proofs::Choosing::taken_page))]
+fn paged<'w, A: Allocator>(
     terminal: usize,
     word: &'w str,
-    file: Option<&'w str>,
+    behind: &[&'w str],
     given: Given<'w, A>,
-) -> Result<Page<'w, A>, WordFault<'w>>
-    ensures ok { IfOk result (λ page. NamesPage terminal word.now (given_of given.entry) (page_said page)
-        × HasNoWork (given_of given.entry)) }
-    ensures err { IfErr result (λ _. (p : PageSaid)
-        → ¬ (NamesPage terminal word.now (given_of given.entry) p × HasNoWork (given_of given.entry))) }
+) -> Result<Choice<'w, A>, WordFault<'w>>
+    ensures ok { IfOk result (λ choice.
+        Takes terminal word.now (words_said behind.now) (given_of given.entry) (choice_said choice)) }
+    ensures err { IfErr result (λ _. (p file : _)
+        → ¬ IsPageOf terminal word.now (words_said behind.now) (given_of given.entry) p file) }
 {
+    let file = file_alone(behind)?;
     let work = check_no_work(&given, word);
     let page = page_named(terminal, word, file, given)?;
     match work {
-        Ok(()) => Ok(page),
+        Ok(()) => Ok(Choice::Page(page, file)),
         Err(fault) => {
             drop(page);
             Err(fault)

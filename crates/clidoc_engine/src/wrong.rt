@@ -6,9 +6,11 @@ use description_toml::words::nearest;
 use std::alloc::{AllocError, Global};
 use std::fmt::Write;
 
-const FORMS: [&str; 8] = [
-    "usage", "full", "brief", "man", "markdown", "html", "check", "all",
+const FORMS: [&str; 9] = [
+    "usage", "full", "brief", "man", "markdown", "html", "complete", "check", "all",
 ];
+
+const SHELLS: [&str; 3] = ["bash", "zsh", "fish"];
 
 const OPTIONS: [&str; 10] = [
     "--command",
@@ -40,6 +42,8 @@ pub fn line_of(global: Global, fault: &WordFault<'_>) -> Result<String, AllocErr
                 word,
             )?
         }
+        WordFault::NoShell => line.push_str("complete needs a shell")?,
+        WordFault::NoSuchShell(word) => put(&mut line, "no shell ", word)?,
         WordFault::NoFolder => line.push_str("all needs a folder: --into FOLDER")?,
         WordFault::Twice(option) => {
             line.push_str(word_of(*option))?;
@@ -120,6 +124,7 @@ fn put_known(line: &mut String, global: Global, fault: &WordFault<'_>) -> Result
             Some(form) => put_question(line, form),
             None => put_all(line, "; forms are ", &FORMS),
         },
+        WordFault::NoShell | WordFault::NoSuchShell(_) => put_all(line, "; shells are ", &SHELLS),
         WordFault::NoSuchOption(word) => match nearest(global, before_value(word), &OPTIONS)? {
             Some(option) => put_question(line, option),
             None => put_all(line, "; options are ", &OPTIONS),

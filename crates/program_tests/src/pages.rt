@@ -6,13 +6,14 @@ use crate::engines::{
 };
 use crate::programs::answers;
 use crate::{clidoc, helpdoc};
+use clidoc_engine::words::Shell;
 use helpdoc_engine::words::{Choice, Form};
 use std::alloc::Global;
 
 // What an engine is asked for, by which words, on what, and the page.
-type Row = (Asked, &'static str, &'static [u8], &'static [u8]);
+type Row<'p> = (Asked, &'static str, &'static [u8], &'p [u8]);
 
-const HELPDOC: &[Row] = &[
+const HELPDOC: &[Row<'static>] = &[
     (
         Asked::Helpdoc(Choice::Text(Form::Full)),
         "helpdoc|text|full",
@@ -75,7 +76,7 @@ const HELPDOC: &[Row] = &[
     ),
 ];
 
-const CLIDOC: &[Row] = &[
+const CLIDOC: &[Row<'static>] = &[
     (
         Asked::Clidoc(clidoc::pages::Form::Usage),
         "clidoc|usage",
@@ -120,6 +121,25 @@ const CLIDOC: &[Row] = &[
     ),
 ];
 
+// The scripts of completions: of which shell, by which words, and a line of the data.
+const SCRIPTS: &[(Shell, &str, &str)] = &[
+    (
+        Shell::Bash,
+        "clidoc|complete|bash",
+        "    'name' '--verbose' '' ''\n",
+    ),
+    (
+        Shell::Zsh,
+        "clidoc|complete|zsh",
+        "    'name' '--verbose' '' ''\n",
+    ),
+    (
+        Shell::Fish,
+        "clidoc|complete|fish",
+        "    'name' '--verbose' '' '' \\\n",
+    ),
+];
+
 // Whether the page stands in memory.
 fn is_page(global: Global, asked: Asked, input: &[u8], page: &[u8]) -> bool {
     match asked {
@@ -135,7 +155,7 @@ fn says_reads(global: Global, asked: Asked, input: &[u8], page: &[u8]) -> bool {
 }
 
 // What does not hold of a page, if anything.
-fn fault(global: Global, &(asked, words, input, page): &Row) -> &'static str {
+fn fault(global: Global, &(asked, words, input, page): &Row<'_>) -> &'static str {
     if !is_page(global, asked, input, page) {
         "it is another page"
     } else if !answers(global, words, input, 0, (page, "")) {
@@ -166,5 +186,32 @@ fn pages_of_clidoc_are_written_or_faults_are_said(rt: HostRuntime) {
     for row in CLIDOC {
         let fault = fault(rt.alloc(), row);
         assert!(rt; fault.is_empty(), "{}: {fault}", row.1);
+    }
+}
+
+// What does not hold of a script, if anything.
+fn script_fault(global: Global, shell: Shell, words: &'static str, line: &str) -> &'static str {
+    let form = clidoc::pages::Form::Completion(shell);
+    let input = clidoc::pages::INPUT;
+    let Some(script) = clidoc::pages::whole_page(global, form, input) else {
+        return "there is none";
+    };
+    let asked = Asked::Clidoc(form);
+    if !str::from_utf8(&script).is_ok_and(|text| text.contains(line)) {
+        "its data is another"
+    } else if !answers(global, words, input, 0, (&script, "")) {
+        "words choose another page"
+    } else if !refuses_until_ample(global, asked, input, &script) {
+        "a refused growth is not said"
+    } else {
+        ""
+    }
+}
+
+#[test]
+fn completions_are_written_or_faults_are_said(rt: HostRuntime) {
+    for &(shell, words, line) in SCRIPTS {
+        let fault = script_fault(rt.alloc(), shell, words, line);
+        assert!(rt; fault.is_empty(), "{words}: {fault}");
     }
 }

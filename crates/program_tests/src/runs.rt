@@ -12,26 +12,27 @@ use std::alloc::Global;
 const WRONG: &str = "clidoc
 clidoc FORM [--command NAME]... [--deep] [--width COLUMNS] [--fragment] [--date DATE]
        [--vendor TEXT] [FILE]
+clidoc complete SHELL [FILE]
 clidoc all --into FOLDER [--date DATE] [--vendor TEXT] [FILE]
 clidoc check [--strict] [FILE]
 
 clidoc|--width=3
-clidoc: no form; forms are usage, full, brief, man, markdown, html, check and all
+clidoc: no form; forms are usage, full, brief, man, markdown, html, complete, check and all
 
 clidoc|--|full
-clidoc: no form; forms are usage, full, brief, man, markdown, html, check and all
+clidoc: no form; forms are usage, full, brief, man, markdown, html, complete, check and all
 
 clidoc|
-clidoc: no form ''; forms are usage, full, brief, man, markdown, html, check and all
+clidoc: no form ''; forms are usage, full, brief, man, markdown, html, complete, check and all
 
 clidoc|\u{1b}[2J
-clidoc: no form \"\\u{1b}[2J\"; forms are usage, full, brief, man, markdown, html, check and all
+clidoc: no form \"\\u{1b}[2J\"; forms are usage, full, brief, man, markdown, html, complete, check and all
 
 clidoc|Full
 clidoc: no form Full; is it full?
 
 clidoc|xml
-clidoc: no form xml; forms are usage, full, brief, man, markdown, html, check and all
+clidoc: no form xml; forms are usage, full, brief, man, markdown, html, complete, check and all
 
 clidoc|a.toml|full
 clidoc: no form a.toml; the form comes first: clidoc full a.toml
@@ -40,10 +41,10 @@ clidoc|a b.toml|--|man
 clidoc: no form \"a b.toml\"; the form comes first: clidoc man \"a b.toml\"
 
 clidoc|--command|full|a.toml
-clidoc: no form a.toml; forms are usage, full, brief, man, markdown, html, check and all
+clidoc: no form a.toml; forms are usage, full, brief, man, markdown, html, complete, check and all
 
 clidoc|a.toml|b.toml
-clidoc: no form a.toml; forms are usage, full, brief, man, markdown, html, check and all
+clidoc: no form a.toml; forms are usage, full, brief, man, markdown, html, complete, check and all
 
 clidoc|full|a|b
 clidoc: one word too many: b
@@ -54,8 +55,20 @@ clidoc: one word too many: b
 clidoc|full|--|a|b
 clidoc: one word too many: b
 
+clidoc|complete
+clidoc: complete needs a shell; shells are bash, zsh and fish
+
+clidoc|complete|a.toml
+clidoc: no shell a.toml; shells are bash, zsh and fish
+
+clidoc|complete|fish|a|b
+clidoc: one word too many: b
+
+clidoc|complete|--command=a|zsh
+clidoc: --command is no option of complete; it goes with usage, full, brief, man, markdown and html
+
 clidoc|page
-clidoc: no form page; forms are usage, full, brief, man, markdown, html, check and all
+clidoc: no form page; forms are usage, full, brief, man, markdown, html, complete, check and all
 
 clidoc|--wdth|3|full
 clidoc: no option --wdth; is it --width?
@@ -127,7 +140,7 @@ clidoc|all|--into=a|--strict
 clidoc: --strict is no option of all; it goes with check
 
 clidoc|page|--strict
-clidoc: no form page; forms are usage, full, brief, man, markdown, html, check and all
+clidoc: no form page; forms are usage, full, brief, man, markdown, html, complete, check and all
 
 clidoc|check|--strict|--strict
 clidoc: --strict stands twice

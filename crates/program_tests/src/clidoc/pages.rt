@@ -7,7 +7,7 @@ ghost use Rattle.clidoc_engine.specs.Runs.{HasPage};
 use crate::engines::AMPLE;
 use clidoc_engine::engine::run_description;
 use clidoc_engine::places::{Place, place_behind};
-use clidoc_engine::words::{Console, ConsoleForm, Extent, Page, TitleGiven};
+use clidoc_engine::words::{Console, ConsoleForm, Extent, Page, Shell, TitleGiven};
 use description_pages::Depth;
 use linked_list_allocator::LocalHeap;
 use std::alloc::Global;
@@ -33,6 +33,7 @@ pub enum Form {
     Fragment,
     Markdown,
     Man,
+    Completion(Shell),
 }
 
 // No words for a title line.
@@ -57,6 +58,7 @@ pub fn page_of(global: Global, form: Form) -> Page<'static, Global> {
         Form::Brief => ConsoleForm::Brief,
         Form::Html => return html(global, Extent::Page),
         Form::Fragment => return html(global, Extent::Fragment),
+        Form::Completion(shell) => return Page::Completion(shell),
         Form::Markdown => {
             return Page::Markdown {
                 commands: Vec::new(global),
@@ -113,6 +115,15 @@ pub fn has_page(global: Global, form: Form, input: &[u8], want: &[u8]) -> bool {
         Some(page) => page.as_slice() == want,
         None => false,
     }
+}
+
+/// The page of a description in this form, with ample memory.
+pub fn whole_page(global: Global, form: Form, input: &[u8]) -> Option<Vec<u8>> {
+    let heap = LocalHeap::new(global, AMPLE).ok()?;
+    let page = page(&heap, global, &page_of(global, form), input)?;
+    let mut kept = Vec::new(global);
+    kept.extend_from_slice(&page).ok()?;
+    Some(kept)
 }
 
 // A front of a text, and the line and the column of the place behind it.

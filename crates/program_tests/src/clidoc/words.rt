@@ -1,6 +1,6 @@
 //! What words choose, with each growth refused in turn. Which words choose what is said by a clause of `choose`.
 use clidoc_engine::reading::WordFault;
-use clidoc_engine::words::{Choice, ConsoleForm, Extent, Page, choose};
+use clidoc_engine::words::{Choice, ConsoleForm, Extent, Page, Shell, choose};
 use linked_list_allocator::LocalHeap;
 use std::alloc::{Allocator, Global};
 
@@ -25,6 +25,8 @@ const HTML_WORDS: &[&str] = &[
 ];
 
 const CHECK_WORDS: &[&str] = &["--strict", "check", "c"];
+
+const SHELL_WORDS: &[&str] = &["complete", "zsh", "--", "c"];
 
 fn is_that<A: Allocator>(choice: &Choice<'_, A>) -> bool {
     match choice {
@@ -55,6 +57,13 @@ fn is_fragment<A: Allocator>(choice: &Choice<'_, A>) -> bool {
     }
 }
 
+fn is_completion<A: Allocator>(choice: &Choice<'_, A>) -> bool {
+    matches!(
+        choice,
+        Choice::Page(Page::Completion(Shell::Zsh), Some("c"))
+    )
+}
+
 // Whether the words choose what they say, on so much memory. None where a growth is refused.
 fn chosen(global: Global, budget: usize, words: &[&str]) -> Option<bool> {
     let Ok(heap) = LocalHeap::new(global, budget) else {
@@ -62,7 +71,7 @@ fn chosen(global: Global, budget: usize, words: &[&str]) -> Option<bool> {
     };
     match choose(&heap, 100, words) {
         Ok(Choice::Check { strict, file }) => Some(strict && file == Some("c")),
-        Ok(choice) => Some(is_that(&choice) || is_fragment(&choice)),
+        Ok(choice) => Some(is_that(&choice) || is_fragment(&choice) || is_completion(&choice)),
         Err(WordFault::Refused(_)) => None,
         Err(_) => Some(false),
     }
@@ -83,4 +92,5 @@ fn a_refused_growth_chooses_nothing(rt: HostRuntime) {
     assert!(rt; chooses_when_ample(rt.alloc(), WORDS));
     assert!(rt; chooses_when_ample(rt.alloc(), HTML_WORDS));
     assert!(rt; chooses_when_ample(rt.alloc(), CHECK_WORDS));
+    assert!(rt; chooses_when_ample(rt.alloc(), SHELL_WORDS));
 }

@@ -5,4 +5,4 @@ use Rattle.clidoc_engine.proofs.words.choose.Goals as goal
 
 pub returns-clause-err : goal.returns-clause-err
 returns-clause-err g c =
-    no_choice c.args.terminal (words_said c.args.words.now) c.with_input.result c.with_input.ensures.no_check c.with_input.ensures.no_all c.with_input.ensures.no_page (sym c.is_one_of.ensures ∙ c.if-is_one_of.false) (sym c.is_one_of-2.ensures ∙ c.if-is_one_of-2.false)
+    no_choice c.args.terminal (words_said c.args.words.now) c.with_input.result c.with_input.ensures.err (sym c.is_one_of.ensures ∙ c.if-is_one_of.false) (sym c.is_one_of-2.ensures ∙ c.if-is_one_of-2.false)
