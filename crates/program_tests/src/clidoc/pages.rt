@@ -120,7 +120,7 @@ pub fn has_page(global: Global, form: Form, input: &[u8], want: &[u8]) -> bool {
 /// The page of a description in this form, with ample memory.
 pub fn whole_page(global: Global, form: Form, input: &[u8]) -> Option<Vec<u8>> {
     let heap = LocalHeap::new(global, AMPLE).ok()?;
-    let page = page(&heap, global, &page_of(global, form), input)?;
+    let page = page(&heap, global, &page_of(global, form), "-", input)?;
     let mut kept = Vec::new(global);
     kept.extend_from_slice(&page).ok()?;
     Some(kept)
