@@ -1,5 +1,5 @@
 -- What the types of words say.
-use Rattle.std.specs.Prelude.{ℕ, List, map}
+use Rattle.std.specs.Prelude.{ℕ, List, [], map}
 use Rattle.std.specs.Borrow.{Bor}
 use Rattle.description.specs.View.{text_of}
 use Rattle.command_pages.specs.View.{title_said}

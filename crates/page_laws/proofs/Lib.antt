@@ -9,3 +9,4 @@ pub mod Capitals
 pub mod Pages
 pub mod Chapters
 pub mod PageLaws
+mod Rows

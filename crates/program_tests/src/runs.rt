@@ -393,6 +393,7 @@ Makes pages of the description of a command line.
 
 Usage: clidoc FORM [--command NAME]... [--deep] [--width COLUMNS] [--fragment] [--date DATE]
               [--vendor TEXT] [FILE]
+       clidoc complete SHELL [FILE]
        clidoc all --into FOLDER [--date DATE] [--vendor TEXT] [FILE]
        clidoc check [--strict] [FILE]
 
@@ -408,6 +409,8 @@ Arguments:
                          - man: a manual page.
                          - markdown: a page in markdown.
                          - html: an HTML page with all commands below.
+                         - complete: a script that completes the words of the program in SHELL,
+                           which is bash, zsh or fish.
                          - check: no page. It is told whether FILE is a description, and what it
                            would better say.
                          - all: the manual page and the page in markdown of each level, and the HTML
@@ -476,6 +479,10 @@ Examples:
 
         clidoc html greet.toml > greet.html
         clidoc html --fragment greet.toml
+
+    Completions for bash, in a file that ~/.bashrc reads, or that stands where bash looks for them:
+
+        clidoc complete bash greet.toml > greet.bash
 
     Whether it is a description that nothing is to be said about, and all pages at once:
 
@@ -656,6 +663,7 @@ const NARROW_USAGE: &str = "clidoc FORM [--command NAME]... [--deep]
        [--width COLUMNS] [--fragment]
        [--date DATE] [--vendor TEXT]
        [FILE]
+clidoc complete SHELL [FILE]
 clidoc all --into FOLDER [--date DATE]
        [--vendor TEXT] [FILE]
 clidoc check [--strict] [FILE]";
@@ -862,7 +870,7 @@ const FAULTY: &[Faulty] = &[
         FIRST,
         2,
         0,
-        "clidoc FORM [--command NAME]... [--deep] [--width COLUMNS] [--fragment] [--date DATE]\n       [--vendor TEXT] [FILE]\nclidoc all --into FOLDER [--date DATE] [--vendor TEXT] [FILE]\nclidoc check [--strict] [FILE]",
+        "clidoc FORM [--command NAME]... [--deep] [--width COLUMNS] [--fragment] [--date DATE]\n       [--vendor TEXT] [FILE]\nclidoc complete SHELL [FILE]\nclidoc all --into FOLDER [--date DATE] [--vendor TEXT] [FILE]\nclidoc check [--strict] [FILE]",
     ),
     (
         "clidoc|full",
