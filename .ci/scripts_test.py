@@ -5,6 +5,7 @@
 """
 import os
 import pathlib
+import re
 import shutil
 import subprocess
 import sys
@@ -429,9 +430,11 @@ class Tests(OverStandIn):
             (self.folder / "crates" / path).parent.mkdir(parents=True, exist_ok=True)
             (self.folder / "crates" / path).write_text(text)
 
-    # It stands for the run of a program: of each case it says by its words how it ends, and whether the output is that which is stored.
+    # It stands for the run of a program: of each case it says by its words how it ends, and whether the output is that which is stored, or
+    # prints it where none is.
     CASES = """cd "$5"; for case in *.args; do case "$(cat $case)" in %s) how='%s';; *) how='ended status=0 runners=1';; esac
-        name=${case%%.args}; [ -f $name.stdout ] && how="$how output=$(sed s/^/read:/ $name | cmp -s - $name.stdout && echo expected || echo differs)"
+        name=${case%%.args}; sed s/^/read:/ $name > out; [ -f $name.stdout ] || { echo "== $name"; cat out; }
+        [ -f $name.stdout ] && how="$how output=$(cmp -s out $name.stdout && echo expected || echo differs)"
         echo "case=$name run=$how proved=no" >&2; done"""
 
     def told(self, tests, program):
@@ -458,18 +461,28 @@ class Tests(OverStandIn):
         self.assertEqual((status, told.splitlines()[-1]), (1, "1 passed, 1 failed"))
         self.assertIn("output=differs", told)
 
-    def test_runs_each_example_in_each_form(self):
-        for path in ("crates/clidoc/src/main.rt", "examples/one.toml", "examples/two.toml"):
-            (self.folder / path).parent.mkdir(parents=True, exist_ok=True)
-            (self.folder / path).write_text(f"{path}\n")
-        (self.folder / "crates.txt").write_text("clidoc:\n")
-        (self.folder / "docs").mkdir()
-        calls = "".join(f"```console\n$ clidoc full app.toml\n{page}\n```\n" for page in ("read:x", "another"))
-        (self.folder / "docs/guide.md").write_text(f"```toml\nx\n```\n{calls}")
+    def told_of_examples(self, examples, guide):
         self.stand_in("rt", self.CASES % ("man", "ended status=1 runners=1"))
+        for path, text in {"crates/clidoc/src/main.rt": "\n", "docs/guide.md": guide, **examples}.items():
+            (self.folder / path).parent.mkdir(parents=True, exist_ok=True)
+            (self.folder / path).write_text(text)
+        (self.folder / "crates.txt").write_text("clidoc:\n")
         status, told, _ = self.call(self.folder / "test")
-        self.assertEqual((status, told.splitlines()[-1]), (1, "22 passed, 3 failed"))
+        self.assertEqual(status, 1)
+        return told
+
+    def test_runs_each_example_in_each_form(self):
+        calls = "".join(f"```console\n$ clidoc full app.toml\n{page}\n```\n" for page in ("read:x", "another"))
+        told = self.told_of_examples({"examples/one.toml": "1\n", "examples/two.toml": "2\n"}, f"```toml\nx\n```\n{calls}")
+        self.assertEqual(told.splitlines()[-1], "22 passed, 3 failed")
         self.assertIn("it fails: one-man\n    it fails: two-man\n    it fails: guide-1\n", told)
+
+    def test_compares_examples_in_json(self):
+        examples = {"examples/one.toml": "1\n", "examples/one.json": "1\n", "examples/two.toml": "2\n", "examples/two.json": "3\n"}
+        told = self.told_of_examples(examples, "```json\nx\n```\n```console\n$ clidoc full app.json\nread:x\n```\n")
+        self.assertEqual(told.splitlines()[-1], "32 passed, 14 failed")
+        self.assertEqual(set(re.findall("it fails: ([a-z]+-one-.*)", told)), {"json-one-man"})
+        self.assertNotIn("it fails: guide", told)
 
     def test_ends_hints_and_nothing_else(self):
         hints = "sleep 60 & names=$!; wait $tool; wait $names; echo $? > ended"
