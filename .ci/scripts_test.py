@@ -3,6 +3,8 @@
 
 `.ci/run`, `.ci/mutants`, `test` and `install` call the toolchain's `rt`, and `release` calls `install`. Here stand-ins answer in their place.
 """
+import importlib.machinery
+import importlib.util
 import os
 import pathlib
 import re
@@ -605,15 +607,22 @@ class Speed(OverStandIn):
         self.assertIn("no valgrind", why)
 
 
-# It stands for `rt`. Of a body `wrong` a goal is open, of `unsaid` no report tells, `same` is proved, and `stray` does not compile.
+# It stands for `rt`. Of a body `wrong` a goal is open, of `unsaid` no report tells, `same` is proved, and `stray` does not compile. Of `odd` a
+# goal is open in a report alone.
 STAND_IN = r"""
 import pathlib, re, sys
 if sys.argv[1] == "must-fail":
     for edit in pathlib.Path("crates/one/must-fail").iterdir():
-        told = {"same": "NOT REFUSED: it is proved", "stray": "BAD EDIT: no"}
+        told = {"same": "NOT REFUSED: it is proved", "odd": "NOT REFUSED: it is proved"}
         print(f"rt: must-fail one/{edit.name}: {told.get(re.search('new: (.*)', edit.read_text())[1], 'refused')}")
     sys.exit()
 bodies = re.findall(r"fn (\w+)\(\) \{\n    (\w+)", pathlib.Path("src/lib.rt").read_text())
+if sys.argv[1] == "try" and "stray" not in dict(bodies).values():
+    sys.exit("test passes ... " + ("FAILED" if "wrong" in dict(bodies).values() else "ok"))
+if "stray" in dict(bodies).values():
+    sys.exit("src/lib.rt:1:1: error[unknown-name]: stray")
+if sys.argv[-1] == "":
+    sys.exit("only=0 proved=0")
 with pathlib.Path(__file__).with_name("seen").open("w") as told:
     for file in [*sorted(pathlib.Path("src").rglob("*.rt")), *sorted(pathlib.Path("proofs").rglob("*.antt"))]:
         print(file, file.read_text(), sep="\n", file=told)
@@ -624,21 +633,24 @@ if asked:
     bodies = [it for it in bodies if it[0] in asked]
     if "d" in asked:
         sys.exit(2)
-if "stray" in dict(bodies).values():
-    sys.exit("src/lib.rt:1:1: error[unknown-name]: stray")
 for name, body in bodies:
-    told = {"wrong": "`search` did not prove `returns`", "unsaid": "it calls `one::a`, which is not proved"}
+    open = "`search` did not prove `returns`"
+    told = {"wrong": open, "odd": open, "unsaid": "it calls `one::a`, which is not proved"}
     print(f"fn one::{name}:", "no proof: " + told[body] if body in told else "proved")
 pathlib.Path("out/incremental").mkdir(parents=True, exist_ok=True)
-sys.exit(1 if {"wrong", "unsaid"} & set(dict(bodies).values()) else 0)
+sys.exit(1 if {"wrong", "odd", "unsaid"} & set(dict(bodies).values()) else 0)
 """
 
 
 class Mutants(InFolder):
+    """The mutants of a crate `one`, tried by a stand-in for `rt`. The sources are read by the toolchain's own program."""
+
     def setUp(self):
         super().setUp()
-        self.write(".ci/mutants", (TOP / ".ci" / "mutants").read_text(encoding="utf-8"))
+        for name in ("mutants", "functions.py", "common.py"):
+            self.write(f".ci/{name}", (TOP / ".ci" / name).read_text(encoding="utf-8"))
         self.write("bin/rt", f"#!{sys.executable}{STAND_IN}").chmod(0o755)
+        (self.folder / "bin" / "rattle").symlink_to(pathlib.Path(shutil.which("rt")).resolve().with_name("rattle"))
         self.write("crates/one/src/lib.rt", "\n".join(f"fn {name}() {{\n    {name}_body\n}}\n" for name in "abcd"))
 
     def write(self, path, text):
@@ -655,6 +667,18 @@ class Mutants(InFolder):
         words = [sys.executable, self.folder / ".ci" / "mutants", *words]
         asked = subprocess.run(words, capture_output=True, text=True, env={**os.environ, **path, **more})
         return asked.returncode, asked.stdout.splitlines()
+
+    def module(self, name):
+        """A script over this folder as a module. It does nothing when it is imported."""
+        for it in ("common", "functions"):
+            sys.modules.pop(it, None)
+        folder = str(self.folder / ".ci")
+        sys.path.insert(0, folder)
+        self.addCleanup(sys.path.remove, folder)
+        loader = importlib.machinery.SourceFileLoader(name, f"{folder}/{name}")
+        made = importlib.util.module_from_spec(importlib.util.spec_from_loader(name, loader))
+        loader.exec_module(made)
+        return made
 
     def test_tells_what_does_not_apply(self):
         self.mutant("twice", "_body", "wrong")
@@ -674,22 +698,23 @@ class Mutants(InFolder):
             self.mutant(f"of_{'abcd'[number]}", f"{'abcd'[number]}_body", new)
         self.mutant("other_of_a", "a_body", "wrong")
         status, told = self.told()
-        self.assertEqual((status, told[-1]), (0, "5 refused, 0 let through"))
-        self.assertEqual(told[:3], ["one/of_a: refused", "one/of_b: refused", "one/of_d: refused"])
+        self.assertEqual((status, told[-1]), (0, "5 refused, 0 let through, 0 compile no more, 0 differ"))
+        self.assertEqual(told[1:4], ["one/of_a: refused", "one/of_b: refused", "one/of_d: refused"])
+        self.assertEqual(told[-2], "one/of_c: refused 'rt must-fail' says: refused")
 
     def test_leaves_out_the_bodies_of_others(self):
-        called = "fn loose() {\n    called\n}\n\n#[cycle(round)]\nfn round() {\n    called\n}\n\npub struct Held;\n"
+        called = "fn loose() {\n    called\n}\n\n#[cycle(round)]\nfn round() {\n    called\n}\n\npub(super) struct Held;\n"
         self.write("crates/one/src/low.rt", f"{called}\nimpl Held {{\n    const fn kept() {{\n        called\n    }}\n}}\n")
         self.write("crates/one/src/up.rt", "impl Held {\n    fn far(\n        &self,\n    )\n        ensures {}\n    {\n        called\n    }\n}\n")
         self.write("crates/one/src/of.rt", "impl Eq for Held {\n    fn eq() {\n        called\n    }\n}\n\ntrait Of {\n    fn of();\n}\n\nfn law()\n    ensures {}\n{}\n")
         for path in ("a", "low/loose", "low/+round"):
             self.write(f"crates/one/proofs/{path}/Answers.antt", "held\n")
         self.mutant("of_a", "a_body", "wrong")
-        self.assertEqual(self.told()[1][-1], "1 refused, 0 let through")
-        seen = (self.folder / "bin" / "seen").read_text().replace("        unreachable!()", "        UNREACHABLE").split("proofs/", 1)
-        for text in ("    wrong\n", "const fn kept() {\n        called", "fn eq() {\n        called", "fn of();", "{}\n{}\n", "    {\n        UNREACHABLE\n    }"):
+        self.assertIn("1 refused, 0 let through", self.told()[1][-1])
+        seen = (self.folder / "bin" / "seen").read_text().split("proofs/", 1)
+        for text in ("    wrong\n", "const fn kept() {\n        called", "fn eq() {\n        called", "fn of();", "{}\n{}\n", "    {\nunreachable!()\n    }"):
             self.assertIn(text, seen[0])
-        self.assertEqual((seen[0].count("    unreachable!()"), seen[0].count("cycle")), (5, 0))
+        self.assertEqual((seen[0].count("unreachable!()"), seen[0].count("cycle")), (6, 0))
         proofs = [line for line in ("proofs/" + seen[1]).splitlines() if line.startswith("proofs/") or line in ("held", "far_spec = ?")]
         holes = [f"proofs/{name}/Proof.antt" for name in ("b", "c", "d", "low/Held/far", "low/loose", "low/round")]
         self.assertEqual(proofs, ["proofs/a/Answers.antt", "held", *holes[:4], "far_spec = ?", *holes[4:]])
@@ -701,28 +726,59 @@ class Mutants(InFolder):
         for name, new in zip("abc", ["wrong", "same", "wrong"]):
             self.mutant(f"of_{name}", f"{name}_body", new)
         status, told = self.told("--over", self.folder / "run")
-        self.assertEqual((status, told[-1]), (1, "2 refused, 1 let through"))
+        self.assertEqual((status, told[-1]), (1, "2 refused, 1 let through, 0 compile no more, 0 differ"))
         self.assertEqual((self.folder / "bin" / "asked").read_text(), "a b c\nb\n")
         self.mutant("of_d", "d_body", "wrong")
-        self.assertEqual(self.told("--over", self.folder / "run")[1][-1], "3 refused, 1 let through")
+        self.assertIn("3 refused, 1 let through", self.told("--over", self.folder / "run")[1][-1])
 
     def test_has_one_lane_where_there_are_no_jobs(self):
         self.mutant("of_a", "a_body", "wrong")
-        self.assertEqual(self.told("one", RT_JOBS="0")[1][-1], "1 refused, 0 let through")
+        self.assertIn("1 refused, 0 let through", self.told("one", RT_JOBS="0")[1][-1])
 
-    def test_does_nothing_when_it_is_imported(self):
-        script = "import importlib.util as u; from importlib.machinery import SourceFileLoader as L; "
-        script += "m = u.module_from_spec(u.spec_from_loader('m', L('m', '.ci/mutants'))); m.__loader__.exec_module(m); print(m.short('a::B::c'))"
-        asked = subprocess.run([sys.executable, "-B", "-c", script], capture_output=True, text=True, cwd=self.folder)
-        self.assertEqual((asked.returncode, asked.stdout), (0, "a::c\n"), asked.stderr)
-
-    def test_lets_through_what_is_proved_or_does_not_compile(self):
+    def test_says_what_is_let_through_and_what_compiles_no_more(self):
         for name, new in zip("abcd", ["same", "stray", "wrong", "wrong"]):
             self.mutant(f"of_{name}", f"{name}_body", new)
         status, told = self.told("one")
-        self.assertEqual((status, told[-1]), (1, "2 refused, 2 let through"))
-        self.assertIn("one/of_a: LET THROUGH: NOT REFUSED: it is proved", told)
-        self.assertIn("one/of_b: LET THROUGH: BAD EDIT: no", told)
+        self.assertEqual((status, told[-1]), (1, "2 refused, 1 let through, 1 compile no more, 0 differ"))
+        self.assertIn("one/of_a: LET THROUGH: 'rt must-fail' says: NOT REFUSED: it is proved", told)
+        self.assertIn("one/of_b: COMPILES NO MORE: src/lib.rt:1:1: error[unknown-name]: stray", told)
+
+    def test_tries_by_a_test_what_no_proof_refuses(self):
+        self.write("crates/one/src/calls.rt", "#[test]\nfn passes(rt: HostRuntime) {}\n")
+        for name, new in zip("abc", ["same", "stray", "wrong"]):
+            self.mutant(f"of_{name}", f"{name}_body", new, "test: one passes\n")
+        told = self.told("one")[1]
+        self.assertEqual(told[1], "one/of_a: LET THROUGH: a test that it names passes, or did not run")
+        self.assertEqual(told[2], "one/of_b: COMPILES NO MORE: src/lib.rt:1:1: error[unknown-name]: stray")
+        self.assertEqual(told[3:], ["one/of_c: refused by a test", "1 refused, 1 let through, 1 compile no more, 0 differ"])
+
+    def test_fails_where_the_command_refuses_no_drawn_one(self):
+        self.mutant("of_a", "a_body", "odd")
+        status, told = self.told("one", "--seed", "7")
+        self.assertEqual(told[0], "tried by 'rt must-fail' too, drawn by --seed 7: one/of_a")
+        self.assertEqual(told[1:3], ["one/of_a: refused", "one/of_a: DIFFERS: 'rt must-fail' says: NOT REFUSED: it is proved"])
+        self.assertEqual((status, told[-1]), (1, "1 refused, 0 let through, 0 compile no more, 1 differ"))
+
+    def test_draws_one_in_fifty_by_a_seed(self):
+        of = self.module("mutants")
+        mutants = [of.Mutant("one", number, [], [("one", "holds")] * (number % 2)) for number in range(202)]
+        drawn = [of.draw(mutants, seed) for seed in (1, 1, 2)]
+        self.assertEqual([len(it) for it in drawn], [3, 3, 3])
+        self.assertFalse([it for it in drawn[0] if it.tests])
+        self.assertEqual(drawn[0], drawn[1])
+        self.assertNotEqual(drawn[0], drawn[2])
+
+    def test_knows_functions_by_the_names_in_a_report(self):
+        text = 'fn first() {\n    "fn none() {"; // }\n    all(|it| { it })\n}\n\npub struct Held<A>(A);\n\n'
+        text += "impl<'a, A: Of> From<&'a [A; 2]> for Held<A> {\n    ghost from_gives = { λ x. x };\n\n    fn from() {\n        it\n    }\n}\n\n"
+        text += "impl<A> From<u8> for Held<A> {\n    fn from() {\n        it\n    }\n}\n\n"
+        text += "impl<A> Held<A> {\n    fn first(&self) -> [A; 2]\n        ensures { {} }\n    {\n        it\n    }\n}\n"
+        self.write("crates/one/src/low.rt", text)
+        crate = self.module("functions.py").Crate("one")
+        heads = {name: crate.unit_named(f"one::low::{name}") for name in ("first", "fn::first::all+FnMut::call_mut", "HeldFromU8::from", "Held/first")}
+        self.assertEqual(list(heads.values()), [f"src/low.rt:{line}" for line in (0, 0, 16, 22)])
+        self.assertEqual([crate.unit_named(it) for it in ("one::low::Held::from", "one::first", "one::low::+round")], [None, None, "+round"])
+        self.assertEqual([crate.unit_at("src/low.rt", line) for line in (3, 4, 12, 24)], ["src/low.rt:0", None, "src/low.rt:10", "src/low.rt:22"])
 
 
 unittest.main()
