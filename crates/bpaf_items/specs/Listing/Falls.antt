@@ -87,7 +87,8 @@ outside_groups es = map (λ p. p.1) (filter (λ p. not (is_in_group p)) (placed 
 
 -- more adjacent starts than adjacent stops stand since the last group start
 abbrev pub is_adjacent_in_group : List Entry → Bool
-is_adjacent_in_group before = nat_lt (count_by is_adjacent_stop (after_last is_group_start before)) (count_by is_adjacent_start (after_last is_group_start before))
+is_adjacent_in_group before = nat_lt (count_by is_adjacent_stop (after_last is_group_start before))
+    (count_by is_adjacent_start (after_last is_group_start before))
 
 -- under the group of that number, the first being 1; under the heading of a type; or under nothing
 pub data Destination : Type 0 where
@@ -95,18 +96,23 @@ pub data Destination : Type 0 where
   heading : HiTy → Destination
   nowhere : Destination
 
--- an entry after a last adjacent mark: that mark's heading if it is a start and the entry has help, no heading if it has none; else the heading of its own type
+-- an entry after a last adjacent mark: that mark's heading if it is a start and the entry has help, no heading if it
+-- has none; else the heading of its own type
 abbrev pub heading_after : Option Entry → Entry → Destination
 heading_after (Some (adjacent_start t k)) e = if lacks_help e then nowhere else heading k
 heading_after mark e = heading (type_of e)
 
 -- inside group marks: under that group, but under nothing without help in an adjacent block of it
 abbrev pub group_destination : Placed → Destination
-group_destination p = if lacks_help p.1 && is_adjacent_in_group p.0 then nowhere else group (count_by is_group_start (p.0 ++ p.1 ∷ []))
+group_destination p =
+    if lacks_help p.1 && is_adjacent_in_group p.0 then nowhere
+    else group (count_by is_group_start (p.0 ++ p.1 ∷ []))
 
 -- outside them: a mark under the heading of its own type, any other by the last adjacent mark, groups left out
 abbrev pub heading_destination : Placed → Destination
-heading_destination p = if is_mark p.1 then heading (type_of p.1) else heading_after (last_that is_adjacent_mark (outside_groups p.0)) p.1
+heading_destination p =
+    if is_mark p.1 then heading (type_of p.1)
+    else heading_after (last_that is_adjacent_mark (outside_groups p.0)) p.1
 
 -- where an entry falls
 abbrev pub destination : Placed → Destination
@@ -154,7 +160,8 @@ shown_places es = filter is_shown (placed es)
 abbrev pub shown_entries : List Entry → List Entry
 shown_entries es = map (λ p. p.1) (shown_places es)
 
--- what `items_of_ty` gives: a mark by its own type; any other by the last mark before it. In an open block it goes by the block's type, and in an adjacent one it needs help
+-- what `items_of_ty` gives: a mark by its own type; any other by the last mark before it. In an open block it goes by
+-- the block's type, and in an adjacent one it needs help
 abbrev pub is_given_after : Option Entry → HiTy → Entry → Bool
 is_given_after (Some (adjacent_start t j)) k e = not (lacks_help e) && same_type j k
 is_given_after (Some (group_start d j)) k e = same_type j k

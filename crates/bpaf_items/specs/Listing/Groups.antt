@@ -21,8 +21,11 @@ HasNoGroupMark es = list_any is_group_mark es ≡ false
 -- nothing; an entry outside groups, and others; a group without groups in it, and others
 pub data HasPairedGroups : List Entry → Type 0 where
   empty : {es : List Entry} → es ≡ [] → HasPairedGroups es
-  outer : {es : List Entry} (e : Entry) (rest : List Entry) → es ≡ e ∷ rest → is_group_mark e ≡ false → HasPairedGroups rest → HasPairedGroups es
-  whole : {es : List Entry} (d : List Part) (j k : HiTy) (inner rest : List Entry) → es ≡ group_start d j ∷ (inner ++ group_end k ∷ rest) → HasNoGroupMark inner → HasPairedGroups rest → HasPairedGroups es
+  outer : {es : List Entry} (e : Entry) (rest : List Entry) → es ≡ e ∷ rest
+      → is_group_mark e ≡ false → HasPairedGroups rest → HasPairedGroups es
+  whole : {es : List Entry} (d : List Part) (j k : HiTy) (inner rest : List Entry)
+      → es ≡ group_start d j ∷ (inner ++ group_end k ∷ rest)
+      → HasNoGroupMark inner → HasPairedGroups rest → HasPairedGroups es
 
 -- the entries between the marks of a group that stay there: all but those without help in an adjacent block of it
 abbrev pub stays : Placed → Bool

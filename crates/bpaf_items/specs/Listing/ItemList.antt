@@ -6,7 +6,8 @@ use Rattle.bpaf_items.specs.declared.meta_help.entry.HiTy.{HiTy}
 use Rattle.bpaf_items.specs.declared.meta_help.entry.HiTy.TheVariants as ty
 use Rattle.bpaf_meta.specs.Content.{Tree, and_of, or_of, optional, required, adjacent, item, many, subsection, suffix, skip, custom_usage, strict, Trees, no_trees, tree, Leaf, any, positional, command, flag, argument}
 
--- the content of a `HelpItem`: an item, the start or the end of a group or of an adjacent block, or a note (`DecorSuffix`)
+-- the content of a `HelpItem`: an item, the start or the end of a group or of an adjacent block, or a note
+-- (`DecorSuffix`)
 pub data Entry : Type 0 where
   listed : Leaf → Entry
   note : List Part → HiTy → Entry
@@ -24,7 +25,8 @@ type_of_item (command n c h t i) = ty.Command
 type_of_item (flag n s e h) = ty.Flag
 type_of_item (argument n s m e h) = ty.Flag
 
--- the front type: an item's type; of an And or an Or the first that a part gives; none of Skip; else that of the inner tree
+-- the front type: an item's type; of an And or an Or the first that a part gives; none of Skip; else that of the inner
+-- tree
 abbrev mutual
   pub front_type : Tree → Option HiTy
   front_type (and_of ts) = first_front_type ts

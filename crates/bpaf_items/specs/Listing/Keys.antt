@@ -83,20 +83,25 @@ key_help (argument_key n m h) = h
 -- ---- equality
 
 abbrev pub same_name : Name → Name → Bool
-same_name = eq_of_both (on name_form_number nat_eq) (eq_of_both (on name_character (option_eq nat_eq)) (on name_text same_text))
+same_name = eq_of_both (on name_form_number nat_eq)
+    (eq_of_both (on name_character (option_eq nat_eq)) (on name_text same_text))
 
 abbrev pub same_help : Option (List Part) → Option (List Part) → Bool
 same_help = option_eq same_document
 
 -- of the same class, with the same document, name, text and help, where the class has them
 abbrev pub same_key : Key → Key → Bool
-same_key = eq_of_both (on key_class nat_eq) (eq_of_both (on key_document same_document) (eq_of_both (on key_name (option_eq same_name)) (eq_of_both (on key_text same_text) (on key_help same_help))))
+same_key = eq_of_both (on key_class nat_eq)
+    (eq_of_both (on key_document same_document)
+    (eq_of_both (on key_name (option_eq same_name))
+    (eq_of_both (on key_text same_text) (on key_help same_help))))
 
 -- ---- order
 
 -- by the form of the name, then the character, then the text
 abbrev pub name_cmp : Name → Name → Ordering
-name_cmp = then_cmp (on name_form_number nat_cmp) (then_cmp (on name_character (option_cmp nat_cmp)) (on name_text (slice_cmp nat_cmp)))
+name_cmp = then_cmp (on name_form_number nat_cmp)
+    (then_cmp (on name_character (option_cmp nat_cmp)) (on name_text (slice_cmp nat_cmp)))
 
 -- no help comes before a help
 abbrev pub help_cmp : Option (List Part) → Option (List Part) → Ordering
@@ -104,7 +109,10 @@ help_cmp = option_cmp document_cmp
 
 -- by class, and in a class by document, name and text, as it has them, and then by help
 abbrev pub key_cmp : Key → Key → Ordering
-key_cmp = then_cmp (on key_class nat_cmp) (then_cmp (on key_document document_cmp) (then_cmp (on key_name (option_cmp name_cmp)) (then_cmp (on key_text (slice_cmp nat_cmp)) (on key_help help_cmp))))
+key_cmp = then_cmp (on key_class nat_cmp)
+    (then_cmp (on key_document document_cmp)
+    (then_cmp (on key_name (option_cmp name_cmp))
+    (then_cmp (on key_text (slice_cmp nat_cmp)) (on key_help help_cmp))))
 
 -- ---- laws
 

@@ -15,11 +15,13 @@ IsInNoAdjacentBlock p = count_by is_adjacent_start p.0 ≤ count_by is_adjacent_
 
 -- in an item list each entry that has help, or stands in no adjacent block, falls under a group or a heading
 abbrev pub FallsSomewhere : Type 0
-FallsSomewhere = (es : List Entry) → IsItemList es → All (λ p. IsTrue (not (lacks_help p.1)) ⊎ IsInNoAdjacentBlock p → destination p ≢ nowhere) (placed es)
+FallsSomewhere = (es : List Entry) → IsItemList es
+    → All (λ p. IsTrue (not (lacks_help p.1)) ⊎ IsInNoAdjacentBlock p → destination p ≢ nowhere) (placed es)
 
 -- in an item list a group that an entry falls under is one of those that are written
 abbrev pub FallsUnderWritten : Type 0
-FallsUnderWritten = (es : List Entry) → IsItemList es → All (λ p. (n : ℕ) → destination p ≡ group n → Contains (group_numbers es) n) (placed es)
+FallsUnderWritten = (es : List Entry) → IsItemList es
+    → All (λ p. (n : ℕ) → destination p ≡ group n → Contains (group_numbers es) n) (placed es)
 
 -- of the places that hold an item with this key just the first is shown, so that a listed item is shown once
 pub record IsShownOnce (es : List Entry) (l : Leaf) : Type 0 where

@@ -55,7 +55,8 @@ env_term None = []
 env_term (Some d) = term []
 
 -- the environment of an item, by the text for its name
-abbrev pub env_writes : (include_env : Bool) → (text : List ℕ → List ℕ) → (help : Option (List Part)) → (env : Option (List ℕ)) → List Write
+abbrev pub env_writes : (include_env : Bool) → (text : List ℕ → List ℕ) → (help : Option (List Part))
+    → (env : Option (List ℕ)) → List Write
 env_writes include text help None = []
 env_writes include text help (Some n) = env_term help ++ body (env_body include n (text n))
 
@@ -63,14 +64,17 @@ abbrev pub listed_writes : (include_env : Bool) → Texts → Leaf → List Writ
 listed_writes include texts (any m a h) = term (doc_writes m) ++ help_writes h
 listed_writes include texts (positional m h) = term (metavar_writes m) ++ help_writes h
 listed_writes include texts (command n c h t i) = term (command_writes n c) ++ help_writes h
-listed_writes include texts (flag n s e h) = term (names_writes n) ++ help_writes h ++ env_writes include (λ v. flag_env_text v (texts v)) h e
-listed_writes include texts (argument n s m e h) = term (names_writes n ++ plain (codes "=") ∷ metavar_writes m) ++ help_writes h ++ env_writes include (λ v. argument_env_text v (texts v)) h e
+listed_writes include texts (flag n s e h) = term (names_writes n) ++ help_writes h
+    ++ env_writes include (λ v. flag_env_text v (texts v)) h e
+listed_writes include texts (argument n s m e h) = term (names_writes n ++ plain (codes "=") ∷ metavar_writes m)
+    ++ help_writes h ++ env_writes include (λ v. argument_env_text v (texts v)) h e
 
 -- what an entry writes
 abbrev pub entry_writes : (include_env : Bool) → Texts → Entry → List Write
 entry_writes include texts (listed l) = listed_writes include texts l
 entry_writes include texts (note d k) = term [] ++ body (doc_writes d)
-entry_writes include texts (group_start d k) = start block.Block ∷ inside block.Section2 (em_doc_writes d) ++ start block.DefinitionList ∷ []
+entry_writes include texts (group_start d k) =
+    start block.Block ∷ inside block.Section2 (em_doc_writes d) ++ start block.DefinitionList ∷ []
 entry_writes include texts (group_end k) = end block.DefinitionList ∷ end block.Block ∷ []
 entry_writes include texts (adjacent_start t k) = inside block.Section4 (usage_writes true t)
 entry_writes include texts (adjacent_stop k) = inside block.Block []

@@ -19,7 +19,8 @@ list_writes include texts es = flat_map (entry_writes include texts) (shown_entr
 -- a heading over its entries; nothing without entries
 abbrev pub heading_writes : (include_env : Bool) → Texts → (title : List ℕ) → List Entry → List Write
 heading_writes include texts title [] = []
-heading_writes include texts title (e ∷ es) = inside block.Block (inside block.Section2 (emphasis title ∷ []) ++ inside block.DefinitionList (list_writes include texts (e ∷ es)))
+heading_writes include texts title (e ∷ es) = inside block.Block (inside block.Section2 (emphasis title ∷ [])
+    ++ inside block.DefinitionList (list_writes include texts (e ∷ es)))
 
 -- `write_help_item_groups`: the groups in order, and then the three headings
 abbrev pub groups_writes : (include_env : Bool) → Texts → List Entry → List Write
@@ -37,10 +38,12 @@ doc_within b (Some d) = inside b (doc_writes d)
 -- an info's own usage document, or else `Usage: `, the path and the usage of the tree
 abbrev pub usage_line_writes : (path : List (List ℕ)) → (usage : Option (List Part)) → Tree → List Write
 usage_line_writes path (Some d) t = doc_writes d
-usage_line_writes path None t = emphasis (codes "Usage") ∷ plain (codes ": ") ∷ inside block.Mono (path_writes path ++ usage_writes true t)
+usage_line_writes path None t = emphasis (codes "Usage") ∷ plain (codes ": ")
+    ∷ inside block.Mono (path_writes path ++ usage_writes true t)
 
 -- `render_help`, without its check: h is the help tree
-abbrev pub help_page_writes : (path : List (List ℕ)) → Head → Tree → (help : Tree) → (include_env : Bool) → Texts → List Write
+abbrev pub help_page_writes : (path : List (List ℕ)) → Head → Tree → (help : Tree) → (include_env : Bool) → Texts
+    → List Write
 help_page_writes path (head descr header footer usage own) t help include texts =
     doc_within block.Block descr
     ++ inside block.Block (usage_line_writes path usage t)

@@ -45,7 +45,8 @@ abbrev mutual
 
 -- the texts of an info, and those of its help tree
 abbrev pub HasNestedHead : Head → Type 0
-HasNestedHead (head descr header footer usage help) = IsNestedText descr × IsNestedText header × IsNestedText footer × IsNestedText usage × HasNestedTexts help
+HasNestedHead (head descr header footer usage help) = IsNestedText descr × IsNestedText header × IsNestedText footer
+    × IsNestedText usage × HasNestedTexts help
 
 -- what an entry writes of documents
 abbrev pub HasNestedEntry : Entry → Type 0
@@ -67,8 +68,10 @@ abbrev pub ItemListsAreNested : Type 0
 ItemListsAreNested = (t : Tree) → HasNestedTexts t → All HasNestedEntry (item_list t)
 
 abbrev pub GroupsAreNested : Type 0
-GroupsAreNested = (include_env : Bool) (texts : Texts) (es : List Entry) → IsItemList es → All HasNestedEntry es → KeepsNested (groups_writes include_env texts es)
+GroupsAreNested = (include_env : Bool) (texts : Texts) (es : List Entry) → IsItemList es → All HasNestedEntry es
+    → KeepsNested (groups_writes include_env texts es)
 
 abbrev pub HelpPagesAreNested : Type 0
 HelpPagesAreNested = (path : List (List ℕ)) (i : Head) (t help : Tree) (include_env : Bool) (texts : Texts)
-    → HasNestedHead i → HasNestedTexts t → HasNestedTexts help → IsWellNested (document_of (help_page_writes path i t help include_env texts))
+    → HasNestedHead i → HasNestedTexts t → HasNestedTexts help
+    → IsWellNested (document_of (help_page_writes path i t help include_env texts))

@@ -14,7 +14,9 @@ pub data Answer (A : Type 0) : Type 0 where
   memory : Answer A
 
 -- `render_help`: the check of the tree comes before any allocation
-abbrev pub IsHelpPageAnswer : (path : List (List ℕ)) → Head → Tree → (help : Tree) → (include_env : Bool) → Texts → Answer (List Part) → Type 0
-IsHelpPageAnswer path i t help include_env texts (page document) = IsWellPlaced t × (document ≡ document_of (help_page_writes path i t help include_env texts))
+abbrev pub IsHelpPageAnswer : (path : List (List ℕ)) → Head → Tree → (help : Tree) → (include_env : Bool) → Texts
+    → Answer (List Part) → Type 0
+IsHelpPageAnswer path i t help include_env texts (page document) = IsWellPlaced t
+    × (document ≡ document_of (help_page_writes path i t help include_env texts))
 IsHelpPageAnswer path i t help include_env texts (misplaced l) = IsFirstMisplaced t l
 IsHelpPageAnswer path i t help include_env texts memory = IsWellPlaced t

@@ -1,4 +1,5 @@
--- Which items are listed, and what `items_of_ty` gives, one entry after another, with the block kept that was started last.
+-- Which items are listed, and what `items_of_ty` gives, one entry after another, with the block kept that was started
+-- last.
 use Rattle.std.specs.Prelude.{Bool, true, false, not, ◌&&◌, if◌then◌else◌, List, [], ◌∷◌, None}
 use Rattle.bpaf_meta.specs.Content.{Leaf, positional}
 use Rattle.bpaf_items.specs.declared.meta_help.entry.HiTy.{HiTy}
@@ -27,7 +28,9 @@ is_given_in s k e = if is_mark e then same_type (type_of e) k else is_given_with
 -- the entries of a list that are given
 abbrev pub given_from : State → HiTy → List Entry → List Entry
 given_from s k [] = []
-given_from s k (e ∷ es) = if is_given_in s k e then e ∷ given_from (state_after s e) k es else given_from (state_after s e) k es
+given_from s k (e ∷ es) =
+    if is_given_in s k e then e ∷ given_from (state_after s e) k es
+    else given_from (state_after s e) k es
 
 abbrev pub is_listed : Leaf → Bool
 is_listed (positional m None) = false

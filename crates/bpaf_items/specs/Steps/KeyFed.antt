@@ -32,7 +32,8 @@ document_fed : (d e : List Part) → same_document d e ≡ true → document_inp
 document_fed [] [] h = refl
 document_fed [] (q ∷ e) h = apart h
 document_fed (p ∷ d) [] h = apart h
-document_fed (p ∷ d) (q ∷ e) h = λ i. part_fed p q (first_so (same_part p q) (same_document d e) h) i ++ document_fed d e (second_so (same_part p q) (same_document d e) h) i
+document_fed (p ∷ d) (q ∷ e) h = λ i. part_fed p q (first_so (same_part p q) (same_document d e) h) i
+    ++ document_fed d e (second_so (same_part p q) (same_document d e) h) i
 
 help_fed : (h i : Option (List Part)) → same_help h i ≡ true → help_input h ≡ help_input i
 help_fed None None e = refl
@@ -52,21 +53,26 @@ name_fed (both c n) (long m) h = apart h
 name_fed (both c n) (both d m) h = ap (λ bytes. bytes ∷ []) (text_is n m (second_so (nat_eq c d) (same_text n m) h))
 
 pub key_fed : (k l : Key) → same_key k l ≡ true → key_input k ≡ key_input l
-key_fed (any_key m h) (any_key n i) e = λ j. document_fed m n (first_so (same_document m n) (same_help h i) e) j ++ help_fed h i (second_so (same_document m n) (same_help h i) e) j
+key_fed (any_key m h) (any_key n i) e = λ j. document_fed m n (first_so (same_document m n) (same_help h i) e) j
+    ++ help_fed h i (second_so (same_document m n) (same_help h i) e) j
 key_fed (any_key m h) (word_key n i) e = apart e
 key_fed (any_key m h) (flag_key n i) e = apart e
 key_fed (any_key m h) (argument_key n v i) e = apart e
 key_fed (word_key m h) (any_key n i) e = apart e
-key_fed (word_key m h) (word_key n i) e = λ j. (text_is m n (first_so (same_text m n) (same_help h i) e) j ∷ []) ++ help_fed h i (second_so (same_text m n) (same_help h i) e) j
+key_fed (word_key m h) (word_key n i) e = λ j. (text_is m n (first_so (same_text m n) (same_help h i) e) j ∷ [])
+    ++ help_fed h i (second_so (same_text m n) (same_help h i) e) j
 key_fed (word_key m h) (flag_key n i) e = apart e
 key_fed (word_key m h) (argument_key n v i) e = apart e
 key_fed (flag_key m h) (any_key n i) e = apart e
 key_fed (flag_key m h) (word_key n i) e = apart e
-key_fed (flag_key m h) (flag_key n i) e = λ j. name_fed m n (first_so (same_name m n) (same_help h i) e) j ++ help_fed h i (second_so (same_name m n) (same_help h i) e) j
+key_fed (flag_key m h) (flag_key n i) e = λ j. name_fed m n (first_so (same_name m n) (same_help h i) e) j
+    ++ help_fed h i (second_so (same_name m n) (same_help h i) e) j
 key_fed (flag_key m h) (argument_key n v i) e = apart e
 key_fed (argument_key m v h) (any_key n i) e = apart e
 key_fed (argument_key m v h) (word_key n i) e = apart e
 key_fed (argument_key m v h) (flag_key n i) e = apart e
 key_fed (argument_key m v h) (argument_key n w i) e =
     let rest = second_so (same_name m n) (same_text v w && same_help h i) e in
-    λ j. name_fed m n (first_so (same_name m n) (same_text v w && same_help h i) e) j ++ (text_is v w (first_so (same_text v w) (same_help h i) rest) j ∷ []) ++ help_fed h i (second_so (same_text v w) (same_help h i) rest) j
+    λ j. name_fed m n (first_so (same_name m n) (same_text v w && same_help h i) e) j
+    ++ (text_is v w (first_so (same_text v w) (same_help h i) rest) j ∷ [])
+    ++ help_fed h i (second_so (same_text v w) (same_help h i) rest) j

@@ -1,4 +1,5 @@
--- How the content of a list is kept as a tree of numbers, which gives it back. No promise is about this: it lets a type be seen as its entries.
+-- How the content of a list is kept as a tree of numbers, which gives it back. No promise is about this: it lets a type
+-- be seen as its entries.
 use Rattle.std.specs.Prelude.{◌≡◌, refl, ℕ, Bool, true, false, List, [], ◌∷◌, Option, Some, None}
 use Rattle.std.proofs.Common.{ap, ◌∙◌, get_or, zero, suc}
 use Rattle.std.specs.Coded.{Coded, code_by, coded_list}
@@ -109,7 +110,9 @@ keep_block block.Meta = gnum 10
 keep_block block.Mono = gnum 11
 
 abbrev read_block : Gv → Block
-read_block g = get_or (block.Header ∷ block.Section2 ∷ block.Section3 ∷ block.Section4 ∷ block.ItemTerm ∷ block.ItemBody ∷ block.DefinitionList ∷ block.Block ∷ block.InlineBlock ∷ block.TermRef ∷ block.Meta ∷ []) (read_number g) block.Mono
+read_block g = get_or (block.Header ∷ block.Section2 ∷ block.Section3 ∷ block.Section4 ∷ block.ItemTerm
+    ∷ block.ItemBody ∷ block.DefinitionList ∷ block.Block ∷ block.InlineBlock ∷ block.TermRef ∷ block.Meta ∷ [])
+    (read_number g) block.Mono
 
 block_back : (b : Block) → read_block (keep_block b) ≡ b
 block_back block.Header = refl
@@ -137,7 +140,8 @@ read_part (gcons (gcons g h) b) = End (read_block b)
 read_part g = Start block.Header
 
 part_back : (p : Part) → read_part (keep_part p) ≡ p
-part_back (Text bytes s) = ap (λ t. Text t (read_style (keep_style s))) (texts.back bytes) ∙ ap (Text bytes) (style_back s)
+part_back (Text bytes s) = ap (λ t. Text t (read_style (keep_style s))) (texts.back bytes)
+    ∙ ap (Text bytes) (style_back s)
 part_back (Start b) = ap Start (block_back b)
 part_back (End b) = ap End (block_back b)
 
@@ -200,12 +204,16 @@ abbrev mutual
   keep_leaf : Leaf → Gv
   keep_leaf (any m a h) = gcons (gnum 0) (gcons (documents.keep m) (gcons (keep_truth a) (helps.keep h)))
   keep_leaf (positional m h) = gcons gnil (gcons (texts.keep m) (helps.keep h))
-  keep_leaf (command n c h t i) = gcons (gcons (texts.keep n) (gcons ((options numbers).keep c) (helps.keep h))) (gcons (keep_tree t) (keep_head i))
-  keep_leaf (flag n s e h) = gcons (gnum 1) (gcons (gcons (keep_name n) (texts.keep s)) (gcons ((options texts).keep e) (helps.keep h)))
-  keep_leaf (argument n s m e h) = gcons (gnum 2) (gcons (gcons (keep_name n) (gcons (texts.keep s) (texts.keep m))) (gcons ((options texts).keep e) (helps.keep h)))
+  keep_leaf (command n c h t i) = gcons (gcons (texts.keep n) (gcons ((options numbers).keep c) (helps.keep h)))
+      (gcons (keep_tree t) (keep_head i))
+  keep_leaf (flag n s e h) = gcons (gnum 1) (gcons (gcons (keep_name n) (texts.keep s))
+      (gcons ((options texts).keep e) (helps.keep h)))
+  keep_leaf (argument n s m e h) = gcons (gnum 2) (gcons (gcons (keep_name n) (gcons (texts.keep s) (texts.keep m)))
+      (gcons ((options texts).keep e) (helps.keep h)))
 
   keep_head : Head → Gv
-  keep_head (head d h f u t) = gcons (gcons (gcons (helps.keep d) (helps.keep h)) (gcons (helps.keep f) (helps.keep u))) (keep_tree t)
+  keep_head (head d h f u t) = gcons (gcons (gcons (helps.keep d) (helps.keep h))
+      (gcons (helps.keep f) (helps.keep u))) (keep_tree t)
 
 abbrev mutual
   read_tree : Gv → Tree
@@ -224,14 +232,18 @@ abbrev mutual
 
   read_leaf : Gv → Leaf
   read_leaf (gcons gnil (gcons m h)) = positional (texts.read m) (helps.read h)
-  read_leaf (gcons (gcons n (gcons c h)) (gcons t i)) = command (texts.read n) ((options numbers).read c) (helps.read h) (read_tree t) (read_head i)
+  read_leaf (gcons (gcons n (gcons c h)) (gcons t i)) = command (texts.read n) ((options numbers).read c)
+      (helps.read h) (read_tree t) (read_head i)
   read_leaf (gcons (gnum zero) (gcons m (gcons a h))) = any (documents.read m) (read_truth a) (helps.read h)
-  read_leaf (gcons (gnum (suc zero)) (gcons (gcons n s) (gcons e h))) = flag (read_name n) (texts.read s) (read_text_option e) (helps.read h)
-  read_leaf (gcons (gnum (suc (suc zero))) (gcons (gcons n (gcons s m)) (gcons e h))) = argument (read_name n) (texts.read s) (texts.read m) (read_text_option e) (helps.read h)
+  read_leaf (gcons (gnum (suc zero)) (gcons (gcons n s) (gcons e h))) = flag (read_name n) (texts.read s)
+      (read_text_option e) (helps.read h)
+  read_leaf (gcons (gnum (suc (suc zero))) (gcons (gcons n (gcons s m)) (gcons e h))) = argument (read_name n)
+      (texts.read s) (texts.read m) (read_text_option e) (helps.read h)
   read_leaf g = positional [] None
 
   read_head : Gv → Head
-  read_head (gcons (gcons (gcons d h) (gcons f u)) t) = head (helps.read d) (helps.read h) (helps.read f) (helps.read u) (read_tree t)
+  read_head (gcons (gcons (gcons d h) (gcons f u)) t) = head (helps.read d) (helps.read h) (helps.read f)
+      (helps.read u) (read_tree t)
   read_head g = head None None None None skip
 
 mutual

@@ -24,7 +24,8 @@ headings include texts es =
 
 -- a heading's title, up to where its list starts; and the end of the list and the heading
 abbrev pub title_front : List ℕ → List Write
-title_front title = start block.Block ∷ start block.Section2 ∷ emphasis title ∷ end block.Section2 ∷ start block.DefinitionList ∷ []
+title_front title = start block.Block ∷ start block.Section2 ∷ emphasis title ∷ end block.Section2
+    ∷ start block.DefinitionList ∷ []
 
 abbrev pub heading_end : List Write
 heading_end = end block.DefinitionList ∷ end block.Block ∷ []
@@ -37,10 +38,13 @@ len_through (Some i) n = i + 1
 abbrev pub group_len : List Entry → ℕ
 group_len es = len_through (position is_group_end es) (length es)
 
--- a first group was written, or a first entry outside groups was kept: so many entries were taken, and the rest has what is left
-pub record Takes (include_env : Bool) (texts : Texts) (es : List Entry) (count : ℕ) (before now : List Part) (outside kept : List Entry) : Type 0 where
+-- a first group was written, or a first entry outside groups was kept: so many entries were taken, and the rest has
+-- what is left
+pub record Takes (include_env : Bool) (texts : Texts) (es : List Entry) (count : ℕ) (before now : List Part)
+    (outside kept : List Entry) : Type 0 where
   pub some : 0 < count
   pub within : count ≤ length es
   pub paired : HasPairedGroups (drop count es)
-  pub written : with_writes now (group_lists include_env texts (drop count es)) ≡ with_writes before (group_lists include_env texts es)
+  pub written : with_writes now (group_lists include_env texts (drop count es))
+      ≡ with_writes before (group_lists include_env texts es)
   pub others : kept ++ outside_groups (drop count es) ≡ outside ++ outside_groups es

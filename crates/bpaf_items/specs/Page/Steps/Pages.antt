@@ -7,7 +7,8 @@ use Rattle.bpaf_items.specs.Page.HelpPage.{doc_within, usage_line_writes}
 
 -- above the list
 abbrev pub front_writes : (path : List (List ℕ)) → Head → Tree → List Write
-front_writes path (head descr header footer usage own) t = doc_within block.Block descr ++ inside block.Block (usage_line_writes path usage t) ++ doc_within block.Block header
+front_writes path (head descr header footer usage own) t = doc_within block.Block descr
+    ++ inside block.Block (usage_line_writes path usage t) ++ doc_within block.Block header
 
 -- below it
 abbrev pub footer_writes : Head → List Write

@@ -54,8 +54,10 @@ entry_hash e = []
 abbrev pub AreApart : List Entry → Type 0
 AreApart es = IsDistinct nat_eq (flat_map entry_hash es)
 
--- of all these entries: their items are apart, or the keys are those of the items before; the mark says whether a note would be shown now
-pub record Remembers {B : Type 0} (all : List Entry) (are_apart : Bool) (keys : List (Hashed B)) (shown : Bool) (before : List Entry) : Type 0 where
+-- of all these entries: their items are apart, or the keys are those of the items before; the mark says whether a note
+-- would be shown now
+pub record Remembers {B : Type 0} (all : List Entry) (are_apart : Bool) (keys : List (Hashed B)) (shown : Bool)
+    (before : List Entry) : Type 0 where
   pub apart : are_apart ≡ true → AreApart all
   pub hashed : AreHashed keys
   pub seen : are_apart ≡ false → (l : Leaf) → has_key keys (key_of l) ≡ list_any (has_key_of l) before
