@@ -10,7 +10,7 @@ use bpaf_doc::buffer::Doc;
 use bpaf_meta::item::{Item, ShortLong};
 use bpaf_meta::meta::Meta;
 use bpaf_meta::meta_help::{Info, Metavar};
-use std::alloc::{AllocError, Allocator, Global};
+use std::alloc::{Allocator, Global};
 
 /// The heading that an item stands under.
 #[derive(Clone, Copy, Debug, PartialEq, Eq)]
@@ -22,7 +22,7 @@ pub enum HiTy {
 
 /// An entry of an item list: an item, a note below the items before it (`DecorSuffix`), or a mark that starts or ends a
 /// group or an adjacent block. Texts and trees are borrowed.
-#[derive_where(Debug)]
+#[derive_where(Clone, Copy, Debug)]
 pub enum HelpItem<'a, A: Allocator = Global> {
     DecorSuffix {
         help: &'a Doc<A>,
@@ -70,20 +70,6 @@ pub enum HelpItem<'a, A: Allocator = Global> {
         ty: HiTy,
     },
 }
-
-impl<'a, A: Allocator> Clone for HelpItem<'a, A> {
-    ghost use Rattle.std.specs.Prelude.{◌≡◌, ⊤};
-
-    ghost is_clone = { λ x y. y ≡ x };
-
-    ghost is_infallible = { λ _. ⊤ };
-
-    fn clone(&self) -> Result<HelpItem<'a, A>, AllocError> {
-        Ok(*self)
-    }
-}
-
-impl<'a, A: Allocator> Copy for HelpItem<'a, A> {}
 
 impl<'a, A: Allocator> From<&'a Item<A>> for HiTy {
     ghost use Rattle.std.specs.Prelude.{◌≡◌};

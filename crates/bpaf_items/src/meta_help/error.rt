@@ -6,25 +6,11 @@ use std::error::Error;
 use std::fmt;
 
 /// No help page: an allocation failed, or this named item stands after a positional one.
-#[derive_where(Debug)]
+#[derive_where(Clone, Copy, Debug)]
 pub enum HelpError<'m, A: Allocator = Global> {
     Memory(AllocError),
     Misplaced(&'m Item<A>),
 }
-
-impl<'m, A: Allocator> Clone for HelpError<'m, A> {
-    ghost use Rattle.std.specs.Prelude.{◌≡◌, ⊤};
-
-    ghost is_clone = { λ x y. y ≡ x };
-
-    ghost is_infallible = { λ _. ⊤ };
-
-    fn clone(&self) -> Result<HelpError<'m, A>, AllocError> {
-        Ok(*self)
-    }
-}
-
-impl<'m, A: Allocator> Copy for HelpError<'m, A> {}
 
 /// `no memory` or `misplaced item`, without the item.
 impl<'m, A: Allocator> fmt::Display for HelpError<'m, A> {

@@ -10,14 +10,14 @@ ghost use Rattle.bpaf_items.specs.Listing.KeyInput.{document_input, help_input, 
 use bpaf_doc::buffer::{Doc, Part};
 use bpaf_meta::item::ShortLong;
 use bpaf_meta::meta_help::Metavar;
-use std::alloc::{AllocError, Allocator, Global};
+use std::alloc::{Allocator, Global};
 use std::cmp::Ordering;
 use std::hash::{Hash, Hasher};
 
 /// The key of an item: two items of one group or heading with equal keys are shown once. A positional value and a
 /// command share a class; short command names, names of environment variables and `anywhere` are in no key. Each key
 /// ends in the help.
-#[derive_where(Debug)]
+#[derive_where(Clone, Copy, Debug)]
 pub enum ItemKey<'a, A: Allocator = Global> {
     /// The metavar of an `Any`.
     Any(&'a Doc<A>, Option<&'a Doc<A>>),
@@ -26,20 +26,6 @@ pub enum ItemKey<'a, A: Allocator = Global> {
     Flag(ShortLong, Option<&'a Doc<A>>),
     Argument(ShortLong, Metavar, Option<&'a Doc<A>>),
 }
-
-impl<'a, A: Allocator> Clone for ItemKey<'a, A> {
-    ghost use Rattle.std.specs.Prelude.{◌≡◌, ⊤};
-
-    ghost is_clone = { λ x y. y ≡ x };
-
-    ghost is_infallible = { λ _. ⊤ };
-
-    fn clone(&self) -> Result<ItemKey<'a, A>, AllocError> {
-        Ok(*self)
-    }
-}
-
-impl<'a, A: Allocator> Copy for ItemKey<'a, A> {}
 
 impl<'a, A: Allocator> PartialEq for ItemKey<'a, A> {
     ghost use Rattle.std.specs.Ordering.{on};

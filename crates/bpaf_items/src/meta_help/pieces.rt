@@ -14,6 +14,7 @@ use bpaf_meta::usage::{metavar, write_meta, write_shortlong};
 use std::alloc::{AllocError, Allocator, Global};
 
 /// What is written at once.
+#[derive_where(Clone, Copy)]
 pub enum Piece<'a, A: Allocator> {
     Start(Block),
     End(Block),
@@ -33,20 +34,6 @@ pub enum Piece<'a, A: Allocator> {
     /// The usage line of a tree.
     Usage(&'a Meta<A>),
 }
-
-impl<'a, A: Allocator> Clone for Piece<'a, A> {
-    ghost use Rattle.std.specs.Prelude.{◌≡◌, ⊤};
-
-    ghost is_clone = { λ x y. y ≡ x };
-
-    ghost is_infallible = { λ _. ⊤ };
-
-    fn clone(&self) -> Result<Piece<'a, A>, AllocError> {
-        Ok(*self)
-    }
-}
-
-impl<'a, A: Allocator> Copy for Piece<'a, A> {}
 
 // What these functions wrote stays where an allocation fails: the public calls above them take it back.
 
