@@ -186,31 +186,25 @@ impl<'a, A: Allocator> HelpItem<'a, A> {
     pub(crate) fn is_group_start(&self) -> bool
         ensures { result ≡ is_group_start (entry_of self.now) }
     {
-        match self {
-            HelpItem::GroupStart { .. } => true,
-            _ => false,
-        }
+        matches!(self, HelpItem::GroupStart { .. })
     }
 
     pub(crate) fn is_group_end(&self) -> bool
         ensures { result ≡ is_group_end (entry_of self.now) }
     {
-        match self {
-            HelpItem::GroupEnd { .. } => true,
-            _ => false,
-        }
+        matches!(self, HelpItem::GroupEnd { .. })
     }
 
     // Whether it starts or ends a group or an adjacent block.
     pub(crate) fn is_mark(&self) -> bool
         ensures { result ≡ is_mark (entry_of self.now) }
     {
-        match self {
+        matches!(
+            self,
             HelpItem::GroupStart { .. }
-            | HelpItem::GroupEnd { .. }
-            | HelpItem::AdjacentStart { .. }
-            | HelpItem::AdjacentStop { .. } => true,
-            _ => false,
-        }
+                | HelpItem::GroupEnd { .. }
+                | HelpItem::AdjacentStart { .. }
+                | HelpItem::AdjacentStop { .. }
+        )
     }
 }
