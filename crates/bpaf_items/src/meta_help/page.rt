@@ -63,6 +63,23 @@ impl<'t, C: Allocator, L: Allocator + Copy> Writer<'t, C, L> {
         let written = self.put_all(doc, entries);
         doc.settle(before, written)
     }
+
+    fn put_page<A: Allocator, P: Allocator, B: Allocator + Copy>(
+        &self,
+        doc: &mut Doc<A>,
+        path: &[String<P>],
+        info: &Info<B>,
+        parser: &Meta<B>,
+        help: &Meta<B>,
+    ) -> Result<(), AllocError>
+        ensures { Leaves result doc.old doc.new (help_page_writes (map string_bytes path.now) (head_of info.now)
+            (tree_of parser.now) (tree_of help.now) self.now.include_env (texts_in self.now.texts.now)) }
+    {
+        let items = listing(self.alloc, parser, help)?;
+        put_front(doc, path, info, parser)?;
+        self.put_all(doc, items.items())?;
+        put_within(doc, &info.footer)
+    }
 }
 
 /// Writes the help page of a command line behind what the document holds: its texts, its usage line behind the path to
@@ -90,8 +107,13 @@ pub fn write_help<
     ensures nested { HasNestedHead (head_of info.now) → HasNestedTexts (tree_of parser.now)
         → HasNestedTexts (tree_of help.now) → IsWellNested doc.old → IsWellNested doc.new }
 {
+    let writer = Writer {
+        include_env,
+        texts,
+        alloc,
+    };
     let before = doc.checkpoint();
-    let written = put_page(doc, alloc, path, info, parser, help, include_env, texts);
+    let written = writer.put_page(doc, path, info, parser, help);
     doc.settle(before, written)
 }
 
@@ -129,25 +151,6 @@ pub fn render_help<'m, A: Allocator + Copy, P: Allocator, B: Allocator + Copy, C
         Ok(()) => Ok(page),
         Err(refused) => Err(HelpError::Memory(refused)),
     }
-}
-
-fn put_page<A: Allocator, L: Allocator + Copy, P: Allocator, B: Allocator + Copy, C: Allocator>(
-    doc: &mut Doc<A>,
-    alloc: L,
-    path: &[String<P>],
-    info: &Info<B>,
-    parser: &Meta<B>,
-    help: &Meta<B>,
-    include_env: bool,
-    texts: &EnvTexts<C>,
-) -> Result<(), AllocError>
-    ensures { Leaves result doc.old doc.new (help_page_writes (map string_bytes path.now) (head_of info.now)
-        (tree_of parser.now) (tree_of help.now) include_env (texts_in texts.now)) }
-{
-    let items = listing(alloc, parser, help)?;
-    put_front(doc, path, info, parser)?;
-    write_help_item_groups(doc, items, include_env, texts)?;
-    put_within(doc, &info.footer)
 }
 
 fn listing<'a, A: Allocator + Copy, B: Allocator>(
