@@ -42,7 +42,8 @@ abbrev mutual
   pub item_chapters : (path : List (List ℕ)) → Leaf → List Chapter
   item_chapters path (any m a h) = []
   item_chapters path (positional m h) = []
-  item_chapters path (command n c h t i) = record { path = path ++ n ∷ []; info = i; content = t } ∷ command_chapters (path ++ n ∷ []) t
+  item_chapters path (command n c h t i) = record { path = path ++ n ∷ []; info = i; content = t }
+      ∷ command_chapters (path ++ n ∷ []) t
   item_chapters path (flag n s e h) = []
   item_chapters path (argument n s m e h) = []
 
@@ -57,7 +58,8 @@ entry_chapters path e = []
 
 -- the chapters of the commands of a tree are those of the commands that its item list has, in order
 abbrev pub ChaptersAreListed : Type 0
-ChaptersAreListed = (path : List (List ℕ)) (t : Tree) → flat_map (entry_chapters path) (item_list t) ≡ command_chapters path t
+ChaptersAreListed = (path : List (List ℕ)) (t : Tree)
+    → flat_map (entry_chapters path) (item_list t) ≡ command_chapters path t
 
 -- no item of any chapter is misplaced
 abbrev pub AreWellPlaced : List Chapter → Type 0
@@ -85,7 +87,8 @@ anchor path = map dashed_byte (str_to_ascii_lowercase (join_with_byte 45 path))
 
 -- what a line of the command summary says: the path, and a link to its chapter
 abbrev pub summary_text : List (List ℕ) → List ℕ
-summary_text path = codes "* [`" ++ spaced path ++ codes "`" ++ encode_utf8 0x21b4 ++ codes "](#" ++ anchor path ++ codes ")"
+summary_text path = codes "* [`" ++ spaced path ++ codes "`" ++ encode_utf8 0x21b4 ++ codes "](#" ++ anchor path
+    ++ codes ")"
 
 abbrev pub summary_line : Chapter → List Write
 summary_line c = body (plain (summary_text c.path) ∷ [])
@@ -97,7 +100,8 @@ if_many cs ws = []
 
 -- above the pages
 abbrev pub summary_writes : List Chapter → List Write
-summary_writes chapters = inside block.Block (inside block.Header (plain (codes "Command summary") ∷ [])) ++ flat_map summary_line chapters
+summary_writes chapters = inside block.Block (inside block.Header (plain (codes "Command summary") ∷ []))
+    ++ flat_map summary_line chapters
 
 -- the help page of a chapter, with the help tree of its own info and without environment texts
 abbrev pub own_page_writes : Chapter → List Write
@@ -120,7 +124,8 @@ synopsis_line c = path_writes c.path ++ usage_writes true c.content ++ plain (10
 
 abbrev pub manual_name : (app : List ℕ) → (descr : Option (List Part)) → List Write
 manual_name app None = []
-manual_name app (Some d) = inside block.Header (plain (codes "NAME") ∷ []) ++ plain app ∷ plain (codes " - ") ∷ doc_writes d
+manual_name app (Some d) = inside block.Header (plain (codes "NAME") ∷ [])
+    ++ plain app ∷ plain (codes " - ") ∷ doc_writes d
 
 -- a chapter of the manual page, after its own header; the usage document of the info is not used
 abbrev pub manual_chapter : (app : List ℕ) → (path : List (List ℕ)) → Tree → Head → List Write
@@ -133,11 +138,13 @@ manual_chapter app path t (head descr header footer usage help) =
 
 -- above the chapters of the manual page
 abbrev pub synopsis_writes : List Chapter → List Write
-synopsis_writes chapters = inside block.Block (inside block.Header (plain (codes "SYNOPSIS") ∷ [])) ++ inside block.Meta (flat_map synopsis_line chapters)
+synopsis_writes chapters = inside block.Block (inside block.Header (plain (codes "SYNOPSIS") ∷ []))
+    ++ inside block.Meta (flat_map synopsis_line chapters)
 
 -- what `render_manpage` writes
 abbrev pub manual_writes : (app : List ℕ) → Tree → Head → List Write
 manual_writes app t i =
     let chapters : List Chapter = chapters_of (app ∷ []) i t in
     if_many chapters (synopsis_writes chapters)
-    ++ flat_map (λ c. if_many chapters (inside block.Header (path_writes c.path)) ++ manual_chapter app c.path c.content c.info) chapters
+    ++ flat_map (λ c. if_many chapters (inside block.Header (path_writes c.path))
+    ++ manual_chapter app c.path c.content c.info) chapters

@@ -1,5 +1,5 @@
--- The headline: what is promised of the console page, the HTML and the roff of a document, of the manual page of an application and of the
--- normal form of its tree, together.
+-- The headline: what is promised of the console page, the HTML and the roff of a document, of the manual page of an
+-- application and of the normal form of its tree, together.
 use Rattle.std.specs.Prelude.{◌≡◌, true, false, string_bytes}
 use Rattle.bpaf_roff.specs.Roff.{Script}
 use Rattle.bpaf_doc.specs.Buffer.Parts.{IsWellNested, ink}
@@ -25,10 +25,13 @@ pub record IsHeadline {D M A P : Type 0} (of : Sources D M) (page : Script) (mad
   pub html : IsWellNested of.document.now → IsHtmlPageOf of.document.now true false (string_bytes made.html)
   -- `text` of `render_html`: and erases to the same characters
   pub text : IsHtmlTextPageOf of.document.now true false (string_bytes made.html)
-  -- `read` of `render_roff`: behind a page that takes a document, the body reads back to the document's controls, headings and texts
+  -- `read` of `render_roff`: behind a page that takes a document, the body reads back to the document's controls,
+  -- headings and texts
   pub read : TakesDocument page → IsPageOf page of.document.now (string_bytes made.roff)
   -- `read` of `render_manpage`: the manual page reads back to its title line and its document
-  pub manual_read : IsManualOf of.app.now (section_name of.title.section) (text_of of.title.date) (text_of of.title.vendor) (text_of of.title.title) (tree_of of.tree.now) (head_of of.info.now) (string_bytes made.manual)
+  pub manual_read : IsManualOf of.app.now (section_name of.title.section) (text_of of.title.date)
+      (text_of of.title.vendor) (text_of of.title.title) (tree_of of.tree.now) (head_of of.info.now)
+      (string_bytes made.manual)
   -- `shape` of `normalized`: the tree is normalized to the usage shape
   pub shape : HasUsageShape of.for_usage (tree_of made.normal)
   -- `strict` of `normalized`: with a `--` only where the tree has one

@@ -15,7 +15,9 @@ abbrev pub HasNestedPages : (app : List ℕ) → Head → Tree → Type 0
 HasNestedPages app i t = All HasNestedChapter (chapters_of (app ∷ []) i t)
 
 abbrev pub CollectedPagesAreNested : Type 0
-CollectedPagesAreNested = (app : List ℕ) (t : Tree) (i : Head) → HasNestedPages app i t → IsWellNested (document_of (collected_writes app t i))
+CollectedPagesAreNested = (app : List ℕ) (t : Tree) (i : Head) → HasNestedPages app i t
+    → IsWellNested (document_of (collected_writes app t i))
 
 abbrev pub ManualPagesAreNested : Type 0
-ManualPagesAreNested = (app : List ℕ) (t : Tree) (i : Head) → HasNestedPages app i t → IsWellNested (document_of (manual_writes app t i))
+ManualPagesAreNested = (app : List ℕ) (t : Tree) (i : Head) → HasNestedPages app i t
+    → IsWellNested (document_of (manual_writes app t i))

@@ -10,7 +10,8 @@ use Rattle.bpaf_items.specs.declared.meta_help.error.HelpError.{HelpError}
 use Rattle.bpaf_items.specs.declared.meta_help.error.HelpError.TheVariants as error
 use Rattle.bpaf_help.specs.Chapters.{Chapter, IsFirstMisplacedOf, collected_writes, manual_writes}
 
--- why there are no pages of some chapters: this is the first misplaced item of the first chapter that has one, or an allocation failed, be it before the first is checked
+-- why there are no pages of some chapters: this is the first misplaced item of the first chapter that has one, or an
+-- allocation failed, be it before the first is checked
 abbrev pub AreErrorOf : {A : Type 0} → List Chapter → HelpError A → Type 0
 AreErrorOf chapters (error.Memory e) = ⊤
 AreErrorOf chapters (error.Misplaced i) = IsFirstMisplacedOf chapters (leaf_of i.now)
@@ -24,9 +25,12 @@ abbrev pub manual_document : (app : List ℕ) → Tree → Head → List Part
 manual_document app t i = document_of (manual_writes app t i)
 
 -- `render_manpage`, which makes no check: a reader of roff reads the title and the document
-abbrev pub IsManualOf : (app section : List ℕ) → (date vendor title : Option (List ℕ)) → Tree → Head → (text : List ℕ) → Type 0
-IsManualOf app section date vendor title t i text = IsManualPageOf (title_event app section date vendor title) (manual_document app t i) text
+abbrev pub IsManualOf : (app section : List ℕ) → (date vendor title : Option (List ℕ)) → Tree → Head
+    → (text : List ℕ) → Type 0
+IsManualOf app section date vendor title t i text =
+    IsManualPageOf (title_event app section date vendor title) (manual_document app t i) text
 
 -- its bytes: the page that holds the title line alone, with the document behind it
 abbrev pub manual_text : (app section : List ℕ) → (date vendor title : Option (List ℕ)) → Tree → Head → List ℕ
-manual_text app section date vendor title t i = roff_page (title_page (title_arguments app section date vendor title)) (manual_document app t i)
+manual_text app section date vendor title t i =
+    roff_page (title_page (title_arguments app section date vendor title)) (manual_document app t i)
