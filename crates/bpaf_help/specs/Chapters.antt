@@ -2,6 +2,7 @@
 use Rattle.std.specs.Prelude.{◌≡◌, ℕ, true, false, if◌then◌else◌, List, [], ◌∷◌, ◌++◌, flat_map, map, All, ◌==◌, Option, Some, None, codes, encode_utf8}
 use Rattle.std.specs.List.{join_with_byte}
 use Rattle.std.specs.Str.{str_to_ascii_lowercase}
+use Rattle.bpaf_roff.specs.Escaping.{blank, dash, newline}
 use Rattle.bpaf_doc.specs.declared.buffer.Block.TheVariants as block
 use Rattle.bpaf_doc.specs.Buffer.Parts.{Part}
 use Rattle.bpaf_doc.specs.Buffer.Writes.{Write, plain, inside, doc_writes, path_writes, document_of}
@@ -75,15 +76,15 @@ pub record IsFirstMisplacedOf (chapters : List Chapter) (l : Leaf) : Type 0 wher
   pub first : IsFirstMisplaced faulty.content l
 
 abbrev pub spaced : List (List ℕ) → List ℕ
-spaced = join_with_byte 32
+spaced = join_with_byte blank
 
 -- a blank as `-`
 abbrev pub dashed_byte : ℕ → ℕ
-dashed_byte c = if c == 32 then 45 else c
+dashed_byte c = if c == blank then dash else c
 
 -- the path joined by `-`, with small ASCII letters and blanks as `-`
 abbrev pub anchor : List (List ℕ) → List ℕ
-anchor path = map dashed_byte (str_to_ascii_lowercase (join_with_byte 45 path))
+anchor path = map dashed_byte (str_to_ascii_lowercase (join_with_byte dash path))
 
 -- what a line of the command summary says: the path, and a link to its chapter
 abbrev pub summary_text : List (List ℕ) → List ℕ
@@ -120,7 +121,7 @@ collected_writes app t i =
 
 -- a line of the manual page's synopsis
 abbrev pub synopsis_line : Chapter → List Write
-synopsis_line c = path_writes c.path ++ usage_writes true c.content ++ plain (10 ∷ []) ∷ []
+synopsis_line c = path_writes c.path ++ usage_writes true c.content ++ plain (newline ∷ []) ∷ []
 
 abbrev pub manual_name : (app : List ℕ) → (descr : Option (List Part)) → List Write
 manual_name app None = []
