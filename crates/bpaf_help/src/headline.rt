@@ -3,7 +3,7 @@
 ghost use Rattle.std.specs.Prelude.{IfOk};
 ghost use Rattle.bpaf_help.specs.Headline.{IsHeadline};
 
-use crate::pages::{ManualTitle, render_manpage};
+use crate::pages::ManualTitle;
 use bpaf_doc::buffer::Doc;
 use bpaf_items::meta_help::Info;
 use bpaf_meta::meta::Meta;
@@ -48,19 +48,11 @@ pub fn show<A: Allocator + Copy, P: Allocator + Copy, D: Allocator, M: Allocator
 ) -> Result<Headline<A, P, M>, AllocError>
     ensures { IfOk result (λ made. IsHeadline of.now page made) }
 {
-    let ManualTitle {
-        section,
-        date,
-        vendor,
-        title,
-    } = of.title;
     Ok(Headline {
         console: of.document.render_console(alloc, true, of.width)?,
         html: of.document.render_html(alloc, true, false)?,
         roff: of.document.render_roff(page)?,
-        manual: render_manpage(
-            alloc, of.app, section, date, vendor, title, of.tree, of.info,
-        )?,
+        manual: of.title.page(alloc, of.app, of.tree, of.info)?,
         normal: of.tree.normalized(of.for_usage)?,
     })
 }
