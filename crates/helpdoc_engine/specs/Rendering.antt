@@ -23,8 +23,9 @@ document_of_text input = Text input style.Text ∷ []
 abbrev pub text_title : List (List ℕ)
 text_title = title_arguments (codes "helpdoc") (codes "1") None None None
 
--- What the form's renderer promises of the bytes that it makes of a document. A console page is a layout of it at 100 columns,
--- which has the ink of what is shown; a manual page is read as the title and the document's controls, headings and texts.
+-- What the form's renderer promises of the bytes that it makes of a document. A console page is a layout of it at 100
+-- columns, which has the ink of what is shown; a manual page is read as the title and the document's controls, headings
+-- and texts.
 abbrev pub IsRendering : (title : List (List ℕ)) → Form → List Part → List ℕ → Type 0
 IsRendering title Full document output = IsLayout document true 100 output
 IsRendering title Brief document output = IsLayout document false 100 output

@@ -1,5 +1,5 @@
--- What a run writes. A writer tells which bytes it holds, here before and after the run; one that doesn't tell is `None` in both
--- places, and then nothing is said of its bytes.
+-- What a run writes. A writer tells which bytes it holds, here before and after the run; one that doesn't tell is
+-- `None` in both places, and then nothing is said of its bytes.
 use Rattle.std.specs.Prelude.{ℕ, List, Option}
 use Rattle.std.specs.Io.KnownBytes.{Appends}
 use Rattle.watched.specs.Watched.{AppendsPart}
@@ -8,13 +8,15 @@ use Rattle.helpdoc_engine.specs.declared.words.Form.{Form}
 use Rattle.helpdoc_engine.specs.Rendering.{IsPage}
 
 -- the writer was given a page of the document, and nothing more
-pub record WritesPage (title : List (List ℕ)) (form : Form) (document : List Part) (before after : Option (List ℕ)) : Type 0 where
+pub record WritesPage (title : List (List ℕ)) (form : Form) (document : List Part)
+    (before after : Option (List ℕ)) : Type 0 where
   pub page : List ℕ
   pub whole : IsPage title form document page
   pub written : Appends before after page
 
 -- the writer was given a beginning of a page of the document, and not all of it
-pub record WritesBeginning (title : List (List ℕ)) (form : Form) (document : List Part) (before after : Option (List ℕ)) : Type 0 where
+pub record WritesBeginning (title : List (List ℕ)) (form : Form) (document : List Part)
+    (before after : Option (List ℕ)) : Type 0 where
   pub page : List ℕ
   pub whole : IsPage title form document page
   pub written : AppendsPart before after page
