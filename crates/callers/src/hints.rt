@@ -17,6 +17,6 @@ pub fn count_hints<'p>(
     ensures { IfOk result (λ count. count ≡ length (warnings (description_said description.now))) }
 {
     let arena = Bump::new(alloc);
-    let found = warnings_of(&arena, description)?;
+    let found = warnings_of(&arena, alloc, description)?;
     Ok(found.len())
 }

@@ -170,7 +170,7 @@ pub(crate) fn warnings_in(
     ensures told { IfOk result TellsTheFirst }
 {
     let arena = Bump::new(global);
-    let found = warnings_of(&arena, description)?;
+    let found = warnings_of(&arena, global, description)?;
     let plain = without_returns(global, text)?;
     first_lines(global, notation, &plain, &found)
 }

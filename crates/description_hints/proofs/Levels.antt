@@ -20,7 +20,7 @@ use Rattle.description_hints.specs.Sites.{choices_sites, commands_sites, groups_
 onto : {X : Type 0} (s0 s t p x : List X) → s ≡ s0 ++ p → t ≡ s ++ x → t ≡ s0 ++ (p ++ x)
 onto s0 s t p x h e = e ∙ ap (λ s. s ++ x) h ∙ append_assoc s0 p x
 
-three_put : {X : Type 0} (a b c s0 s1 s2 s3 : List X) → s1 ≡ s0 ++ a → s2 ≡ s1 ++ b → s3 ≡ s2 ++ c → s3 ≡ s0 ++ (a ++ b ++ c)
+pub three_put : {X : Type 0} (a b c s0 s1 s2 s3 : List X) → s1 ≡ s0 ++ a → s2 ≡ s1 ++ b → s3 ≡ s2 ++ c → s3 ≡ s0 ++ (a ++ b ++ c)
 three_put a b c s0 s1 s2 s3 h1 h2 h3 = onto s0 s2 s3 (a ++ b) c (onto s0 s1 s2 a b h1 h2) h3
 
 seven_put : {X : Type 0} (a b c d e f g s0 s1 s2 s3 s4 s5 s6 s7 : List X) → s1 ≡ s0 ++ a → s2 ≡ s1 ++ b → s3 ≡ s2 ++ c → s4 ≡ s3 ++ d → s5 ≡ s4 ++ e → s6 ≡ s5 ++ f → s7 ≡ s6 ++ g

@@ -1,3 +1,4 @@
+mod Alike
 mod Bounds
 mod Firsts
 mod Levels

@@ -1,5 +1,5 @@
 -- What a set of words has, and the words of a syntax.
-use Rattle.std.proofs.Common.{◌≡◌, ℕ, ◌+◌, ◌-◌, ◌<◌, ◌≤◌, Bool, true, cond, ◌||◌, false, List, [], ◌∷◌, ◌++◌, length, take, drop, get_or, sym, ap, ◌∙◌, subst, Bor, arith}
+use Rattle.std.proofs.Common.{◌≡◌, ℕ, ◌+◌, ◌-◌, ◌<◌, ◌≤◌, Bool, true, cond, ◌||◌, false, List, [], ◌∷◌, ◌++◌, length, take, drop, get_or, refl, sym, ap, ◌∙◌, subst, Bor, arith}
 use Rattle.std.specs.Prelude.{bytes_eq}
 use Rattle.std.specs.List.{list_any, position_or_len, slice_split}
 use Rattle.std.specs.Cmp.Lexicographic.{on_texts_equal, slice_cmp, texts_ties}
@@ -56,6 +56,11 @@ held_more keys more words i d h held put word =
     ∙ ap (λ b. cond b true (has_key keys word)) (texts_equal key.now word)
     ∙ one_more (bytes_eq word key.now) (has_key keys word) (is_among (words_said (take i words)) word) (held word)
     ∙ sym (ap (list_any (bytes_eq word)) (front_words words i d h) ∙ list_any-append (bytes_eq word) (words_said (take i words)) (key.now ∷ []))
+
+pub word_put : (keys more : List Key) (key : Key) → IsPut keys more key → (word : List ℕ) → has_key more word ≡ (has_key keys word || (bytes_eq word key.now || false))
+word_put keys more key put word =
+    put_by_text keys more key put (record key { now = word }) ∙ ap (λ b. cond b true (has_key keys word)) (texts_equal key.now word)
+    ∙ one_more (bytes_eq word key.now) (has_key keys word) (has_key keys word) refl
 
 -- a key that is found by its order
 pub held_by_order : (keys : List Key) (key : Key) → holds_by_order keys key ≡ has_key keys key.now

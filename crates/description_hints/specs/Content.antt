@@ -23,6 +23,8 @@ pub data HintSaid : Type 0 where
   wide_item : (columns : ℕ) → HintSaid
   not_on_level : (text : List ℕ) → HintSaid
   different_help : (name : List ℕ) → (first : Path) → HintSaid
+  no_file_name : (name : List ℕ) → HintSaid
+  alike_name : (name : List ℕ) → HintSaid
 
 -- a hint, and the way to what it is about
 pub record WarningSaid : Type 0 where
@@ -55,3 +57,8 @@ pub record HelpSaid : Type 0 where
   pub name : List ℕ
   pub help : List ℕ
   pub path : Path
+
+-- a level that has a page of its own: the way to it, and the name of its page
+pub record PageSaid : Type 0 where
+  pub path : Path
+  pub name : List ℕ

@@ -8,8 +8,10 @@ use Rattle.description.specs.Content.{OptSaid, DescriptionSaid}
 use Rattle.description_texts.specs.Texts.{first_paragraph, is_empty, text_blocks}
 use Rattle.description_usage.specs.Forms.{text_forms}
 use Rattle.description_usage.specs.Usage.{option_item}
-use Rattle.description_hints.specs.Content.{Around, HelpSaid, Path, HintSaid, no_help, nothing_said, no_about, two_sentences, wide_summary, no_such_option, plain_link, wide_item, not_on_level, different_help, WarningSaid, PartSaid, application_part, option_part, command_part, text_part, usage_part, SiteSaid}
+use Rattle.file_names.specs.Names.{is_file_name, name_key}
+use Rattle.description_hints.specs.Content.{Around, HelpSaid, Path, HintSaid, no_help, nothing_said, no_about, two_sentences, wide_summary, no_such_option, plain_link, wide_item, not_on_level, different_help, no_file_name, alike_name, PageSaid, WarningSaid, PartSaid, application_part, option_part, command_part, text_part, usage_part, SiteSaid}
 use Rattle.description_hints.specs.Names.{called, is_among, is_no_option, known_words, options_words}
+use Rattle.description_hints.specs.Pages.{manual_name, markdown_name, pages, web_name}
 use Rattle.description_hints.specs.Sites.{sites, under}
 use Rattle.description_hints.specs.Texts.{blocks_of, has_turn, line_text, paragraph_text, pieces_of}
 
@@ -144,6 +146,36 @@ abbrev pub beside_those : (before : List HelpSaid) → List HelpSaid → List Wa
 beside_those before [] = []
 beside_those before (own ∷ others) = beside (first_called own.name before) own ++ beside_those (before ++ own ∷ []) others
 
+-- ---- names of files
+
+-- one that no file may have
+abbrev pub name_hints : (name : List ℕ) → List HintSaid
+name_hints name = hint_if (not (is_file_name name)) (no_file_name name)
+
+-- of the two files of a page the first that has such a name
+abbrev pub page_hints : (section name : List ℕ) → List HintSaid
+page_hints section name =
+    if is_file_name (manual_name section name) then name_hints (markdown_name name)
+    else no_file_name (manual_name section name) ∷ []
+
+abbrev pub page_warnings : (section : List ℕ) → PageSaid → List WarningSaid
+page_warnings section p = about_path p.path (page_hints section p.name)
+
+-- what the name of a page is compared by
+abbrev pub page_key : PageSaid → List ℕ
+page_key p = name_key p.name
+
+-- each that some folders take for one before it, of which these are the keys
+abbrev pub alike_warnings : (before : List (List ℕ)) → List PageSaid → List WarningSaid
+alike_warnings before [] = []
+alike_warnings before (own ∷ others) =
+    about_path own.path (hint_if (is_among before (page_key own)) (alike_name own.name))
+    ++ alike_warnings (before ++ page_key own ∷ []) others
+
+abbrev pub file_warnings : DescriptionSaid → List WarningSaid
+file_warnings d =
+    flat_map (page_warnings d.section) (pages d) ++ about_path [] (name_hints (web_name d.name)) ++ alike_warnings [] (pages d)
+
 -- ---- all of them
 
 abbrev pub application_warnings : Path → (about : Option (List ℕ)) → List WarningSaid
@@ -165,6 +197,7 @@ site_warnings a s = part_warnings a s.path s.part
 abbrev pub around : DescriptionSaid → Around
 around d = record { fixed = d.words; has = is_among (known_words (sites d)); asks = is_among (options_words d.help_options) }
 
--- the hints about a description: those about each part in its turn, and then those about names with two helps
+-- the hints about a description: those about each part in its turn, then those about names with two helps, and those
+-- about names of files
 abbrev pub warnings : DescriptionSaid → List WarningSaid
-warnings d = flat_map (site_warnings (around d)) (sites d) ++ beside_those [] (flat_map site_helps (sites d))
+warnings d = flat_map (site_warnings (around d)) (sites d) ++ beside_those [] (flat_map site_helps (sites d)) ++ file_warnings d

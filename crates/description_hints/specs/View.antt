@@ -6,13 +6,14 @@ use Rattle.keyed.specs.declared.step.Step.{Step}
 use Rattle.keyed.specs.declared.step.Step.TheVariants.{Key, Index}
 use Rattle.description.specs.View.{opt_said, text_of}
 use Rattle.description.specs.Words as of_words
-use Rattle.description_hints.specs.Content.{Around, HelpSaid, StepSaid, key, index, Path, HintSaid, no_help, nothing_said, no_about, two_sentences, wide_summary, no_such_option, plain_link, wide_item, not_on_level, different_help, WarningSaid, PartSaid, application_part, option_part, command_part, text_part, usage_part, SiteSaid}
+use Rattle.description_hints.specs.Content.{Around, HelpSaid, StepSaid, key, index, Path, HintSaid, no_help, nothing_said, no_about, two_sentences, wide_summary, no_such_option, plain_link, wide_item, not_on_level, different_help, no_file_name, alike_name, PageSaid, WarningSaid, PartSaid, application_part, option_part, command_part, text_part, usage_part, SiteSaid}
 use Rattle.description_hints.specs.declared.around.Around as of_around
 use Rattle.description_hints.specs.declared.helps.NamedHelp.{NamedHelp}
 use Rattle.description_hints.specs.declared.hints.Hint.{Hint}
 use Rattle.description_hints.specs.declared.hints.Hint.TheVariants as hint
 use Rattle.description_hints.specs.declared.hints.Warning.{Warning}
 use Rattle.description_hints.specs.declared.known.Known.{Known}
+use Rattle.description_hints.specs.declared.pages.PageSite.{PageSite}
 use Rattle.description_hints.specs.declared.sites.Part.{Part}
 use Rattle.description_hints.specs.declared.sites.Part.TheVariants as part
 use Rattle.description_hints.specs.declared.sites.Site.{Site}
@@ -38,6 +39,8 @@ hint_said (hint.PlainLink address) = plain_link address.now
 hint_said (hint.WideItem columns) = wide_item columns
 hint_said (hint.NotOnLevel word) = not_on_level word.now
 hint_said (hint.DifferentHelp name first) = different_help name.now (path_said first.now)
+hint_said (hint.NoFileName name) = no_file_name name.now
+hint_said (hint.AlikeName name) = alike_name name.now
 
 abbrev pub warning_said : Warning → WarningSaid
 warning_said w = record { path = path_said w.path.now; hint = hint_said w.hint }
@@ -61,3 +64,6 @@ around_said a = record { fixed = of_words.words_said a.fixed; has = holds a.know
 
 abbrev pub help_said : NamedHelp → HelpSaid
 help_said h = record { name = h.name.now; help = h.help.now; path = path_said h.path.now }
+
+abbrev pub page_said : PageSite → PageSaid
+page_said p = record { path = path_said p.path.now; name = p.name.now }

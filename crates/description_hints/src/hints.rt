@@ -30,6 +30,10 @@ pub enum Hint<'a> {
         name: &'a str,
         first: &'a [Step<'a>],
     },
+    /// A file of the page would have this name, which no file may have.
+    NoFileName(&'a str),
+    /// Some folders take the page of this name for one before it.
+    AlikeName(&'a str),
 }
 
 impl Display for Hint<'_> {
@@ -53,6 +57,10 @@ impl Display for Hint<'_> {
             Hint::NotOnLevel(text) => write!(f, "no option here is called {}", Brief(*text)),
             Hint::DifferentHelp { name, .. } => {
                 write!(f, "{} has a different help", Brief(*name))
+            }
+            Hint::NoFileName(name) => write!(f, "no file may be called {}", Brief(*name)),
+            Hint::AlikeName(name) => {
+                write!(f, "some folders take its page {} for another", Brief(*name))
             }
         }
     }

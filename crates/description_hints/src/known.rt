@@ -1,5 +1,6 @@
 //! The words that options are called by, and texts that look like an option.
-ghost use Rattle.std.specs.Prelude.{◌≡◌, ◌<◌, ◌++◌, ◌∷◌, [], List, length, map, ℕ, IfOk, MatchOption, OnOk};
+ghost use Rattle.std.specs.Prelude.{◌≡◌, ◌<◌, ◌++◌, ◌∷◌, ◌||◌, [], List, bytes_eq, false, length, map, ℕ};
+ghost use Rattle.std.specs.Prelude.{IfOk, MatchOption, OnOk};
 ghost use Rattle.std.specs.Char.{encode_utf8, is_ascii_alphabetic};
 ghost use Rattle.std.specs.List.{list_all, position_or_len, prefix_len, slice_split};
 ghost use Rattle.description.specs.View.{name_said, spelling_said};
@@ -174,7 +175,17 @@ impl<'p> Known<'p> {
         known_in(arena, words.as_slice())
     }
 
-    fn has(&self, word: &'p [u8]) -> bool
+    /// Puts a word. An error comes only where an allocation failed.
+    pub fn put(&mut self, word: &'p [u8]) -> Result<(), AllocError>
+        ensures { OnOk result ((other : List ℕ)
+            → holds self.new other ≡ (holds self.old other || (bytes_eq other word.now || false))) }
+    {
+        self.words.insert(word)?;
+        Ok(())
+    }
+
+    /// Whether there is this word.
+    pub fn has(&self, word: &'p [u8]) -> bool
         ensures { result ≡ holds self.now word.now }
     {
         self.words.contains(&word)

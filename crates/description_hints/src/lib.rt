@@ -2,10 +2,12 @@
 #![tactic(auto)]
 
 mod around;
+mod files;
 mod helps;
 pub mod hints;
 mod known;
 mod level_words;
+mod pages;
 mod pieces;
 mod rules;
 mod sites;

@@ -58,7 +58,8 @@ pub fn under<'p>(
     Ok(into_bump_slice(way))
 }
 
-fn table_in<'p>(
+/// The way to a table of the list that a key names.
+pub fn table_in<'p>(
     arena: &'p Bump,
     path: &[Step<'p>],
     list: &'static str,

@@ -5,13 +5,14 @@ ghost use Rattle.description_hints.specs.Hints.{site_warnings, warnings};
 ghost use Rattle.description_hints.specs.View.{around_said, site_said, warning_said};
 
 use crate::around::{Around, around_of};
+use crate::files::push_files;
 use crate::helps::push_all_different;
 use crate::hints::Warning;
 use crate::rules::{Warnings, push_part};
 use crate::sites::{Site, sites};
 use bumpalo::Bump;
 use description::Description;
-use std::alloc::{AllocError, Allocator};
+use std::alloc::{AllocError, Allocator, Global};
 
 fn warnings_at<'p>(
     arena: &'p Bump,
@@ -28,10 +29,12 @@ fn warnings_at<'p>(
     Ok(found)
 }
 
-/// What a description would better say, in the order of its records: each level before what stands in it; and then which
-/// options of one name have different helps. All is made in the arena. An error comes only where an allocation failed.
+/// What a description would better say, in the order of its records: each level before what stands in it; then which
+/// options of one name have different helps, and which levels have pages that are no files. All is made in the arena but
+/// what names of files are compared by, which is made in `global`. An error comes only where an allocation failed.
 pub fn warnings_of<'p, 'a: 'p, C: Allocator>(
     arena: &'p Bump,
+    global: Global,
     description: &'p Description<'a, C>,
 ) -> Result<Vec<Warning<'p>, &'p Bump>, AllocError>
     ensures { IfOk result (λ found. map warning_said found.items ≡ warnings (description_said description.now)) }
@@ -40,5 +43,6 @@ pub fn warnings_of<'p, 'a: 'p, C: Allocator>(
     let around = around_of(arena, description, sites.as_slice())?;
     let mut found = warnings_at(arena, &around, sites.as_slice())?;
     push_all_different(arena, &mut found, sites.as_slice())?;
+    push_files(arena, global, &mut found, description)?;
     Ok(found)
 }

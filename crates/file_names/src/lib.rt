@@ -8,10 +8,13 @@ ghost use Rattle.file_names.specs.Names.{are_alike, are_file_names, is_file_name
 mod keys;
 mod one;
 
-use keys::{are_alike, name_key};
-use one::{are_same_letters, check_name};
+use keys::are_alike;
+use one::are_same_letters;
 use std::alloc::{AllocError, Allocator, Global};
 use std::collections::BTreeSet;
+
+pub use keys::name_key;
+pub use one::check_name;
 
 /// Why files have no names of these.
 #[derive(Clone, Copy, Debug, PartialEq, Eq)]

@@ -10,8 +10,8 @@ use crate::NameFault;
 /// How many bytes a name has at most.
 const MOST: usize = 200;
 
-/// Refuses a name that no file may have.
-pub(crate) fn check_name(name: &str) -> Result<(), NameFault<'_>>
+/// Refuses a name that no file may have, whatever other files there are.
+pub fn check_name(name: &str) -> Result<(), NameFault<'_>>
     ensures { is_ok result ≡ is_file_name name.now }
 {
     check_bytes(name)?;

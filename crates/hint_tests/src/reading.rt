@@ -57,7 +57,7 @@ pub fn is_said_of(
     app: &Description<'_>,
     wanted: &str,
 ) -> Option<bool> {
-    match warnings_of(arena, app) {
+    match warnings_of(arena, out, app) {
         Ok(warnings) => Some(lines(rt, out, warnings.as_slice()).as_str() == wanted),
         Err(AllocError) => None,
     }

@@ -41,6 +41,9 @@ help = 'Two'
 [[command.topic]]
 title = 'T'
 text = '- <http://e.f>'
+[[command]]
+name = 'RUN'
+help = 'Runs'
 ";
 
 const HINTS: &str = "about - the first paragraph is the summary, and has more than one sentence
@@ -54,6 +57,7 @@ command 0 - neither help nor about says what the command does
 command 0 usage - no option here is called --none
 command 0 topic 0 text - the link http://e.f is not https
 command 0 option 0 - --two has a different help beside option 1 
+command 1 - some folders take its page app-RUN for another
 ";
 
 // An arena that grows no more.

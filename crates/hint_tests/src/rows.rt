@@ -151,6 +151,33 @@ pub const HELPS: &[Row<'static>] = &[
     ),
 ];
 
+/// Names of files.
+pub const FILES: &[Row<'static>] = &[
+    // Of hidden commands, and of what is below them, there are no pages.
+    (
+        "name = 'a'\nabout = 'A'\n[[group]]\ntitle = 'G'\n[[group.command]]\nname = 'd/e'\nhelp = 'D'\n[[command]]\nname = 'b:c'\nhelp = 'B'\n[[command]]\nname = 'B'\nhelp = 'B'\n[[command]]\nname = 'b'\nhelp = 'B'\n[[command.command]]\nname = 'f*'\nhelp = 'F'\n[[command]]\nname = 'g?'\nhidden = true\n[[command.command]]\nname = 'h?'\nhelp = 'H'\n",
+        "group 0 command 0 - no file may be called a-d/e.1\ncommand 0 - no file may be called a-b:c.1\ncommand 2 command 0 - no file may be called a-b-f*.1\ncommand 2 - some folders take its page a-b for another\n",
+    ),
+    // Two ways to one name, and a device.
+    (
+        "name = 'a'\nabout = 'A'\n[[command]]\nname = 'b-c'\nhelp = 'B'\n[[command]]\nname = 'b'\nhelp = 'B'\n[[command.command]]\nname = 'c'\nhelp = 'C'\n",
+        "command 1 command 0 - some folders take its page a-b-c for another\n",
+    ),
+    (
+        "name = 'con'\nabout = 'A'\nsection = '8'\n[[command]]\nname = 'x'\nhelp = 'X'\n",
+        "- no file may be called con.8\n- no file may be called con.html\n",
+    ),
+    // What the ending decides.
+    (
+        "name = 'index'\nabout = 'A'\n",
+        "- no file may be called index.html\n",
+    ),
+    (
+        "name = 'nnnnnnnnnnnnnnnnnnnnnnnnnnnnnnnnnnnnnnnnnnnnnnnnnnnnnnnnnnnnnnnnnnnnnnnnnnnnnnnnnnnnnnnnnnnnnnnnnnnnnnnnnnnnnnnnnnnnnnnnnnnnnnnnnnnnnnnnnnnnnnnnnnnnnnnnnnnnnnnnnnnnnnnnnnnnnnnnnnnnnnnnnnnnnnnnnnnn'\nabout = 'A'\n",
+        "- no file may be called nnnnnnnnnnnnnnnnnnnnnnnnnnnnnnnnnnnnnnnnnnnnnnnnnnnnnnnnnnnn..\n",
+    ),
+];
+
 /// Texts that are long, or hold what is not seen.
 pub const SHOWN: &[Row<'static>] = &[(
     "name = 'a'\nabout = 'A'\nheader = '`--wwwwwwwwwwwwwwwwwwwwwwwwwwwwwwwwwwwwwwwwwwwwwwwwwwwwwwwwwwwww` `--vvvvvvvvvvvvvvvvvvvvvvvvvvvvvvvvvvvvvvvvvvvvvvvvvvvvvvvvvv` `--x=\u{202e}` <http://a.b/pppppppppppppppppppppppppppppppppppppppppppppppppppppppppppp>'\n",

@@ -12,6 +12,7 @@ const TABLES: &[Table] = &[
     ("a usage names options of its level", rows::USAGES),
     ("an option of a usage is short", rows::WIDTHS),
     ("options of one name have one help", rows::HELPS),
+    ("files may have the names of pages", rows::FILES),
     ("what is shown is short and seen", rows::SHOWN),
     ("hints have their ways, in order", rows::WAYS),
 ];

@@ -377,7 +377,7 @@ const LEFT: &[u8] =
     b"a.1\0.a.1.0123abcd.new\0.a.1.new\0.a.1.0123abc.new\0a.1.0123abcd.new\0.0123abcd.new\0.x\x1b.0123ABCD.new\0";
 
 const LEFT_LINES: &str =
-    "clidoc: out/.a.1.0123abcd.new is of a run that was stoppedclidoc: out/\".x\\u{1b}.0123ABCD.new\" is of a run that was stoppedclidoc: wrote 3 files to out; see out/a.html";
+    "clidoc: out/.a.1.0123abcd.new is of a run that was stopped or goes onclidoc: out/\".x\\u{1b}.0123ABCD.new\" is of a run that was stopped or goes onclidoc: wrote 3 files to out; see out/a.html";
 
 // Nothing that a run before has left is touched.
 #[test]

@@ -30,6 +30,22 @@ long = 'long'
 help = 'Two'
 
 ----
+-:3:1: warning: no file may be called app-a:b.1
+-:9:1: warning: some folders take its page app-Run for another
+====
+name = 'app'
+about = 'Greets'
+[[command]]
+name = 'a:b'
+help = 'Adds'
+[[command]]
+name = 'run'
+help = 'Runs'
+[[command]]
+name = 'Run'
+help = 'Runs'
+
+----
 -:1:1: warning: no about says what the program does
 ====
 name = 'app'
