@@ -163,10 +163,14 @@ def on_console(page, text):
 class Elements(html.parser.HTMLParser):
     def __init__(self):
         super().__init__(convert_charrefs=True)
-        self.found = []
+        self.found, self.ids = [], {}
 
     def handle_starttag(self, tag, attrs):
-        self.found.append((tag, attrs))
+        self.found.append((tag, [(key, self.numbered(value) if key == "id" or (value or "").startswith("#") else value) for key, value in attrs]))
+
+    def numbered(self, value):
+        """The number of an id, also of one that a link leads to: it is made of a title or a name, and so of the text."""
+        return self.ids.setdefault(value.removeprefix("#"), len(self.ids))
 
     def handle_endtag(self, tag):
         self.found.append("/" + tag)
