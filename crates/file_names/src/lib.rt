@@ -9,12 +9,11 @@ mod keys;
 mod one;
 
 use keys::are_alike;
+pub use keys::name_key;
 use one::are_same_letters;
+pub use one::check_name;
 use std::alloc::{AllocError, Allocator, Global};
 use std::collections::BTreeSet;
-
-pub use keys::name_key;
-pub use one::check_name;
 
 /// Why files have no names of these.
 #[derive(Clone, Copy, Debug, PartialEq, Eq)]

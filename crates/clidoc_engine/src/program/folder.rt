@@ -69,7 +69,9 @@ pub fn tell_left<R: Alloc + Files + Eprint>(rt: &R, folder: &str) {
             if told < MOST_TOLD && is_beside(entry.file_name()) {
                 told += 1;
                 let (folder, name) = (Echoed(folder), Echoed(entry.file_name()));
-                let _ = eprintln!(rt; "clidoc: {folder}/{name} is of a run that was stopped or goes on");
+                let _ = eprintln!(rt;
+                    "clidoc: {folder}/{name} is of a run that was stopped or goes on"
+                );
             }
         }
     }

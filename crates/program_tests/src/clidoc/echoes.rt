@@ -10,8 +10,8 @@ const ROWS: &str = "greet.toml => greet.toml
  => 
 a::b##c => a::b##c
 :a => :a
-: => ":"
-  : => "  :"
+: => \":\"
+  : => \"  :\"
 ::error::x => \"::error::x\"
 ##vso[x]y => \"##vso[x]y\"
 #a => #a
