@@ -42,6 +42,12 @@ class InFolder(unittest.TestCase):
         self.addCleanup(held.cleanup)
         self.folder = pathlib.Path(held.name)
 
+    def change(self, path, old, new):
+        """The first place of a text in a file of the folder becomes another."""
+        text = (self.folder / path).read_text(encoding="utf-8")
+        self.assertIn(old, text)
+        (self.folder / path).write_text(text.replace(old, new, 1), encoding="utf-8")
+
 
 class Refusals(InFolder):
     def setUp(self):
@@ -89,11 +95,6 @@ class Callers(InFolder):
         asked = subprocess.run([sys.executable, TOP / ".ci" / "callers.py", self.folder], capture_output=True, text=True)
         return asked.returncode, asked.stdout
 
-    def change(self, path, old, new):
-        text = (self.folder / path).read_text(encoding="utf-8")
-        self.assertIn(old, text)
-        (self.folder / path).write_text(text.replace(old, new), encoding="utf-8")
-
     def test_finds_a_description_that_is_not_its_file(self):
         self.assertEqual(self.told()[0], 0, self.told())
         self.change("examples/greet.toml", "Whom to greet", "Whom")
@@ -129,11 +130,6 @@ class Keys(InFolder):
     def told(self):
         asked = subprocess.run([sys.executable, TOP / ".ci" / "keys.py", self.folder], capture_output=True, text=True)
         return asked.returncode, asked.stdout
-
-    def change(self, path, old, new):
-        text = (self.folder / path).read_text(encoding="utf-8")
-        self.assertIn(old, text)
-        (self.folder / path).write_text(text.replace(old, new, 1), encoding="utf-8")
 
     def test_finds_a_key_without_a_row_and_a_row_without_a_key(self):
         self.assertEqual(self.told()[0], 0, self.told())
