@@ -1,4 +1,5 @@
--- What an answer in HTML or markdown is cut into: the marks that are put round the texts, and the fragments of the document.
+-- What an answer in HTML or markdown is cut into: the marks that are put round the texts, and the fragments of the
+-- document.
 use Rattle.std.specs.Prelude.{◌≡◌, Bool, true, List, [], ◌∷◌, ◌++◌, map, IsTrue}
 use Rattle.bpaf_doc.specs.declared.buffer.Style.{Style}
 use Rattle.bpaf_doc.specs.Html.Fragments.{Fragment, TextStart, TextEnd}

@@ -28,7 +28,8 @@ impl<A: Allocator> Doc<A> {
     ///
     /// Each character of a shown text that is not White_Space stands there once and in order, with one backquote for
     /// each mark of a term reference. Lines break where a mark or a break chunk asks for it and otherwise only where a
-    /// chunk would pass the width, and are indented by the margin of their block: `docs/console.md` says each rule, and
+    /// chunk would pass the width, and are indented by the margin in force, which the end of an inline
+    /// block lowers too: `docs/console.md` says each rule, and
     /// `console_page` each byte.
     ///
     /// `AllocError` where a growth was refused.
@@ -122,7 +123,6 @@ fn hidden_from_start(hidden: usize, block: Block) -> usize
     }
 }
 
-// The same after the end of a block.
 fn hidden_from_end(hidden: usize, block: Block) -> usize
     ensures { result ≡ hidden_from_end hidden block }
 {

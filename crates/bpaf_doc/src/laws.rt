@@ -72,7 +72,7 @@ pub fn ink_in_full()
 {}
 
 /// The HTML page as a function of the document is well nested, with the document's tags and breaks, where the document
-/// is well nested; and of each document it erases to the document's text.
+/// is well nested; and of each document it erases to its HTML text.
 #[tactic(auto, using(crate::proofs::lemmas::Html::Exact::page_laws, crate::proofs::lemmas::Html::Exact::page_words))]
 pub fn laws_of_exact_html()
     ensures page { IsExactHtmlPage }

@@ -169,7 +169,7 @@ impl<A: Allocator> Writer<A> {
         Ok(())
     }
 
-    // The end of a block that is no section.
+    // Of a block that is no section.
     fn end_block(&mut self, block: Block) -> Result<(), AllocError>
         ensures { OnOk result (self.new ≡ after_block self.old block) }
     {
@@ -186,7 +186,6 @@ impl<A: Allocator> Writer<A> {
     }
 }
 
-// The control that the start of a block writes.
 fn start_control(block: Block) -> Option<&'static str>
     ensures { option_copied result ≡ start_name block }
 {
@@ -198,7 +197,7 @@ fn start_control(block: Block) -> Option<&'static str>
     }
 }
 
-// The control that the end of a block writes, unless the block is a section.
+// The ends of sections write another one.
 fn end_control(block: Block) -> Option<&'static str>
     ensures { option_copied result ≡ end_name block }
 {
@@ -220,7 +219,6 @@ fn heading_control(block: Block) -> Option<&'static str>
     }
 }
 
-// The line of a control without arguments.
 fn write_control<A: Allocator>(page: &mut RoffWriter<A>, name: &str) -> Result<(), AllocError>
     ensures { OnOk result (page.new ≡ with_written page.old (control_pieces name.now [])) }
 {
@@ -229,7 +227,6 @@ fn write_control<A: Allocator>(page: &mut RoffWriter<A>, name: &str) -> Result<(
     page.put(Escape::UnescapedAtNewline, "")
 }
 
-// The line of a control with a heading as its argument.
 fn write_heading<A: Allocator>(
     page: &mut RoffWriter<A>,
     name: &str,
@@ -245,7 +242,6 @@ fn write_heading<A: Allocator>(
     page.put(Escape::UnescapedAtNewline, "")
 }
 
-// A plain text in its font.
 fn write_text<A: Allocator>(
     page: &mut RoffWriter<A>,
     strip_newlines: bool,

@@ -235,7 +235,7 @@ fn line_run_end(text: &str) -> usize
     }
 }
 
-// The same for a text of these bytes, and a run of so many at most.
+// The place up to which these bytes are a run of at most `longest`, or 0.
 fn first_line_end(bytes: &[u8], longest: usize) -> usize
     ensures run { 0 < result → IsRunEnd bytes.now result }
     ensures within { result ≤ length bytes.now }
@@ -274,8 +274,8 @@ fn begins_with_letters(bytes: &[u8]) -> bool {
     bytes.len() > 1 && is_lettered(bytes[0]) && is_lettered(bytes[1])
 }
 
-// The same for a text of these bytes. The words that fit where each byte takes a column are looked at all at once. Out
-// of line, so that the caller's loop keeps its values in registers.
+// The words that fit where each byte takes a column are looked at all at once. Out of line, so that the caller's loop
+// keeps its values in registers.
 #[inline(never)]
 fn fitting_words_end(bytes: &[u8], columns: usize) -> (usize, usize)
     ensures run { 0 < result.0 → IsRunEnd bytes.now result.0 }
@@ -504,7 +504,6 @@ fn cut_word(text: &str) -> (&str, usize, &str)
     cut_any_word(text)
 }
 
-// The same for a word with any characters in it.
 #[inline(always)]
 fn cut_any_word(text: &str) -> (&str, usize, &str)
     ensures whole { text.now ≡ result.0.now ++ result.2.now }

@@ -17,13 +17,14 @@ use Rattle.bpaf_help.specs.View.{section_name}
 
 -- Each field is a clause of the call that gave the answer, at what the call was given.
 pub record IsHeadline {D M A P : Type 0} (of : Sources D M) (page : Script) (made : Headline A P M) : Type 0 where
-  -- `ink` of `render_console`: the full console text has exactly the document's inked characters, in order
+  -- `ink` of `render_console`: the full console text has exactly the document's inked characters, in order, and a backquote at each
+  -- mark of a term reference
   pub same_ink : ink (string_bytes made.console) ≡ console_ink true of.document.now
-  -- `layout` of `render_console`: and its lines are within the bound, which is its field `bound`
+  -- `layout` of `render_console`: and its lines are within the bound, which is its field `bound`, under the premises there
   pub layout : IsLayout of.document.now true of.width (string_bytes made.console)
   -- `html` of `render_html`: of a well-nested document the full HTML is well nested
   pub html : IsWellNested of.document.now → IsHtmlPageOf of.document.now true false (string_bytes made.html)
-  -- `text` of `render_html`: and erases to the same characters
+  -- `text` of `render_html`: and of any document it erases to the HTML text
   pub text : IsHtmlTextPageOf of.document.now true false (string_bytes made.html)
   -- `read` of `render_roff`: behind a page that takes a document, the body reads back to the document's controls,
   -- headings and texts

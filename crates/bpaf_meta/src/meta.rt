@@ -94,10 +94,7 @@ impl<A: Allocator> Meta<A> {
         ensures { result ≡ is_command_tree (tree_of self.now) }
     {
         match self {
-            Meta::Item(item) => match **item {
-                Item::Command { .. } => true,
-                _ => false,
-            },
+            Meta::Item(item) => matches!(**item, Item::Command { .. }),
             Meta::Subsection(inner, _) => inner.is_command(),
             _ => false,
         }

@@ -16,4 +16,5 @@ module _ {L : Type 0} where
 
   -- as many pieces, each equal to the one in its place, and the same setting
   abbrev pub labelled_eq : (L → L → Bool) → Labelled L → Labelled L → Bool
-  labelled_eq eq = eq_of_both (on (λ (m : Labelled L). m.squash) beq) (on (λ (m : Labelled L). m.pieces) (pointwise (piece_eq eq)))
+  labelled_eq eq =
+      eq_of_both (on (λ (m : Labelled L). m.squash) beq) (on (λ (m : Labelled L). m.pieces) (pointwise (piece_eq eq)))

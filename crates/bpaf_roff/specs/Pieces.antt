@@ -8,11 +8,17 @@ pub record Piece (L : Type 0) : Type 0 where
   pub label : L
   pub text : List ℕ
 
--- the pieces with a text put last: in the last piece if that is to be and the labels are equal, else as a piece of its own
+-- the pieces with a text put last: in the last piece if that is to be and the labels are equal, else as a piece of its
+-- own
+-- e.g. pieces_after_push nat_eq true (record { label = 7; text = codes "a" } ∷ []) 7 (codes "b")
+--     ≡ record { label = 7; text = codes "ab" } ∷ []
 abbrev pub pieces_after_push : {L : Type 0} → (L → L → Bool) → Bool → List (Piece L) → L → List ℕ → List (Piece L)
 pieces_after_push eq squash [] label text = record { label = label; text = text } ∷ []
-pieces_after_push eq squash (last ∷ []) label text = if squash && eq last.label label then record last { text = last.text ++ text } ∷ [] else last ∷ record { label = label; text = text } ∷ []
-pieces_after_push eq squash (first ∷ second ∷ rest) label text = first ∷ pieces_after_push eq squash (second ∷ rest) label text
+pieces_after_push eq squash (last ∷ []) label text =
+    if squash && eq last.label label then record last { text = last.text ++ text } ∷ []
+    else last ∷ record { label = label; text = text } ∷ []
+pieces_after_push eq squash (first ∷ second ∷ rest) label text =
+    first ∷ pieces_after_push eq squash (second ∷ rest) label text
 
 -- what a monoid holds: its pieces in order, and whether a text under the last label goes into the last piece
 pub record Labelled (L : Type 0) : Type 0 where

@@ -67,14 +67,18 @@ abbrev pub argument_pieces : List ℕ → List (Piece Escape)
 argument_pieces argument = piece Unescaped (codes " ") ∷ piece Spaces (argument_word argument) ∷ []
 
 -- a control begins and ends a line
+-- e.g. escaped Handle (control_pieces (codes "TH") (codes "a b" ∷ [] ∷ [])) ≡ codes ".TH a\\ b \"\"\n"
 abbrev pub control_pieces : List ℕ → List (List ℕ) → List (Piece Escape)
-control_pieces name arguments = piece UnescapedAtNewline (codes ".") ∷ piece Unescaped name ∷ (flat_map argument_pieces arguments ++ linebreak_pieces)
+control_pieces name arguments =
+    piece UnescapedAtNewline (codes ".") ∷ piece Unescaped name
+    ∷ (flat_map argument_pieces arguments ++ linebreak_pieces)
 
 -- a text as it is
 abbrev pub escape_pieces : List ℕ → List (Piece Escape)
 escape_pieces text = piece Unescaped text ∷ []
 
 -- a text whose signs are escaped, with blanks for newlines if they are to be stripped
+-- e.g. escaped DontHandle (plaintext_pieces true (codes "a\nb")) ≡ codes "a b"
 abbrev pub plaintext_pieces : Bool → List ℕ → List (Piece Escape)
 plaintext_pieces strip_newlines text = piece (if strip_newlines then SpecialNoNewline else Special) text ∷ []
 
@@ -89,9 +93,13 @@ font_change _ font = escape_pieces (font_escape font)
 abbrev pub items_pieces : Bool → Option Font → List (Font × List ℕ) → List (Piece Escape)
 items_pieces strip_newlines None [] = []
 items_pieces strip_newlines (Some before) [] = escape_pieces restore_font
-items_pieces strip_newlines before (item ∷ items) = font_change before item.0 ++ plaintext_pieces strip_newlines item.1 ++ items_pieces strip_newlines (Some item.0) items
+items_pieces strip_newlines before (item ∷ items) =
+    font_change before item.0 ++ plaintext_pieces strip_newlines item.1
+    ++ items_pieces strip_newlines (Some item.0) items
 
 -- items of text, each in its font
+-- e.g. escaped Handle (text_pieces false ((Bold, codes "a") ∷ (Bold, codes "b") ∷ (Roman, codes "c") ∷ []))
+--     ≡ codes "\\fBab\\fRc\\fP"
 abbrev pub text_pieces : Bool → List (Font × List ℕ) → List (Piece Escape)
 text_pieces strip_newlines items = items_pieces strip_newlines None items
 

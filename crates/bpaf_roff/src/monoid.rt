@@ -118,7 +118,6 @@ fn cut_back<T: Drop, A: Allocator>(labels: &mut Vec<Label<T>, A>, count: usize, 
     }
 }
 
-// Where the last text ends.
 fn end_of_last<T>(labels: &[Label<T>]) -> usize
     ensures { result ≡ end_of 0 labels.now }
 {
@@ -129,7 +128,6 @@ fn end_of_last<T>(labels: &[Label<T>]) -> usize
 }
 
 impl<T: Drop, A: Allocator> FreeMonoid<T, A> {
-    // How many pieces there are.
     pub(crate) fn len(&self) -> usize
         ensures { result ≡ length self.now.pieces }
     {
@@ -145,7 +143,6 @@ impl<T: Drop, A: Allocator> FreeMonoid<T, A> {
         self.payload.truncate(end);
     }
 
-    // Where the monoid takes its memory.
     pub(crate) fn allocator(&self) -> &A {
         self.labels.allocator()
     }
@@ -164,7 +161,7 @@ impl<T: PartialEq + Drop, A: Allocator> FreeMonoid<T, A> {
         Ok(())
     }
 
-    /// The same for a text of one character.
+    /// Puts a character last, as `append_str` puts a text.
     pub fn append_char(&mut self, label: T, text: char) -> Result<(), AllocError>
         ensures ok { OnOk result (self.new ≡ with_text T.eq self.old label (encode_utf8 text)) }
         ensures err { OnErr result (self.new ≡ self.old) }

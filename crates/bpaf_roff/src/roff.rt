@@ -96,7 +96,6 @@ impl<A: Allocator> Roff<A> {
         self
     }
 
-    // One piece.
     fn put(&mut self, label: Escape, text: &str) -> Result<(), AllocError>
         ensures ok { OnOk result (self.new ≡ with_pieces self.old (piece label text.now ∷ [])) }
         ensures err { OnErr result (self.new ≡ self.old) }

@@ -5,7 +5,7 @@ ghost use Rattle.bpaf_roff.specs.Escaping.{is_line_start};
 ghost use Rattle.bpaf_roff.specs.Roff.{RoffText, piece, with_piece};
 
 use crate::escape::bytes::write_piece;
-use crate::escape::text::ROOM;
+use crate::escape::text::{Context, ROOM};
 use crate::escape::{Apostrophes, Escape};
 use std::alloc::{AllocError, Allocator, Global};
 use std::marker::Model;
@@ -64,14 +64,12 @@ impl<A: Allocator> RoffWriter<A> {
         ensures err { OnErr result (self.new ≡ self.old) }
     {
         let end = self.text.len();
-        match write_piece(
-            &mut self.text,
-            &mut self.room,
-            self.apostrophes,
-            self.at_line_start,
+        let context = Context {
+            apostrophes: self.apostrophes,
+            at_line_start: self.at_line_start,
             label,
-            text,
-        ) {
+        };
+        match write_piece(&mut self.text, &mut self.room, context, text) {
             Ok(after) => {
                 self.at_line_start = after;
                 Ok(())

@@ -1,3 +1,4 @@
+mod Roff
 mod Doc
 mod Trees
 mod Help

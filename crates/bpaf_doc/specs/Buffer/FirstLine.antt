@@ -7,11 +7,15 @@ use Rattle.bpaf_doc.specs.Buffer.Writes.{is_newline}
 -- the leading texts up to the first newline or mark, of which the newline is cut off
 abbrev pub leading_texts : List Part → List Part
 leading_texts [] = []
-leading_texts (Text bytes style ∷ ps) = if list_any is_newline bytes then Text (before_first is_newline bytes) style ∷ [] else Text bytes style ∷ leading_texts ps
+leading_texts (Text bytes style ∷ ps) =
+    if list_any is_newline bytes then Text (before_first is_newline bytes) style ∷ []
+    else Text bytes style ∷ leading_texts ps
 leading_texts (Start b ∷ ps) = []
 leading_texts (End b ∷ ps) = []
 
 -- a document without parts has none
+-- e.g. first_line_of (Text (codes "one\ntwo") style.Text ∷ Text (codes "z") style.Literal ∷ [])
+--     ≡ Some (Text (codes "one") style.Text ∷ [])
 abbrev pub first_line_of : List Part → Option (List Part)
 first_line_of [] = None
 first_line_of (p ∷ ps) = Some (leading_texts (p ∷ ps))

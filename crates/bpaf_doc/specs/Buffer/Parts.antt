@@ -16,8 +16,10 @@ pub data Part : Type 0 where
 pub data IsWellNested : List Part → Type 0 where
   nothing : {ps : List Part} → ps ≡ [] → IsWellNested ps
   text : {ps : List Part} (bytes : List ℕ) (style : Style) → ps ≡ Text bytes style ∷ [] → IsWellNested ps
-  enclosed : {ps : List Part} (b : Block) (inner : List Part) → ps ≡ Start b ∷ (inner ++ End b ∷ []) → IsWellNested inner → IsWellNested ps
-  joined : {ps : List Part} (front back : List Part) → ps ≡ front ++ back → IsWellNested front → IsWellNested back → IsWellNested ps
+  enclosed : {ps : List Part} (b : Block) (inner : List Part) → ps ≡ Start b ∷ (inner ++ End b ∷ [])
+      → IsWellNested inner → IsWellNested ps
+  joined : {ps : List Part} (front back : List Part) → ps ≡ front ++ back → IsWellNested front → IsWellNested back
+      → IsWellNested ps
 
 -- the characters of a text that are not White_Space, in order
 abbrev pub ink : List ℕ → List ℕ

@@ -2,6 +2,7 @@
 use Rattle.std.specs.Prelude.{ℕ, Bool, if◌then◌else◌, List, [], ◌∷◌, ◌++◌, ◌==◌, fold, flat_map, codes}
 use Rattle.std.specs.Borrow.{Bor}
 use Rattle.std.specs.List.{list_any, before_first, after_first}
+use Rattle.bpaf_roff.specs.Bytes as byte
 use Rattle.bpaf_doc.specs.declared.buffer.Style.{Style}
 use Rattle.bpaf_doc.specs.declared.buffer.Style.TheVariants as style
 use Rattle.bpaf_doc.specs.declared.buffer.Block.{Block}
@@ -21,11 +22,13 @@ same_style = (style_eq.ghosts).eq
 
 -- a last part with a text after it, which joins a text of its style
 abbrev pub part_then_text : Part → List ℕ → Style → List Part
-part_then_text (Text before kind) bytes style = if same_style kind style then Text (before ++ bytes) style ∷ [] else Text before kind ∷ Text bytes style ∷ []
+part_then_text (Text before kind) bytes style =
+    if same_style kind style then Text (before ++ bytes) style ∷ [] else Text before kind ∷ Text bytes style ∷ []
 part_then_text (Start b) bytes style = Start b ∷ Text bytes style ∷ []
 part_then_text (End b) bytes style = End b ∷ Text bytes style ∷ []
 
--- the parts with a text written after them: it joins a last part that is a text of its style, and else is a part of its own
+-- the parts with a text written after them: it joins a last part that is a text of its style, and else is a part of its
+-- own
 abbrev pub with_text : List Part → List ℕ → Style → List Part
 with_text [] bytes style = Text bytes style ∷ []
 with_text (p ∷ []) bytes style = part_then_text p bytes style
@@ -39,10 +42,15 @@ with_write ps (end b) = ps ++ End b ∷ []
 with_write ps (parts qs) = ps ++ qs
 
 -- the parts after all the writes, in order
+-- e.g. with_writes (Text (codes "ab") style.Text ∷ []) (doc_writes (Text (codes "c") style.Text ∷ []))
+--     ≡ Text (codes "ab") style.Text ∷ Start block.InlineBlock ∷ Text (codes "c") style.Text ∷ End block.InlineBlock
+--     ∷ []
 abbrev pub with_writes : List Part → List Write → List Part
 with_writes = fold with_write
 
 -- a document that was written from nothing
+-- e.g. document_of (plain (codes "a") ∷ plain (codes "b") ∷ literal (codes "c") ∷ [])
+--     ≡ Text (codes "ab") style.Text ∷ Text (codes "c") style.Literal ∷ []
 abbrev pub document_of : List Write → List Part
 document_of = with_writes []
 
@@ -72,20 +80,30 @@ abbrev pub doc_writes : List Part → List Write
 doc_writes d = inside block.InlineBlock (parts d ∷ [])
 
 abbrev pub is_newline : ℕ → Bool
-is_newline c = c == 10
+is_newline c = c == byte.newline
 
 -- a first text as a title: up to its first newline in Emphasis, and what follows in Section3
 abbrev pub title_writes : List ℕ → List Part → List Write
-title_writes bytes others = if list_any is_newline bytes then emphasis (before_first is_newline bytes) ∷ inside block.Section3 (plain (after_first is_newline bytes) ∷ parts others ∷ []) else emphasis bytes ∷ parts others ∷ []
+title_writes bytes others =
+    if list_any is_newline bytes
+    then emphasis (before_first is_newline bytes)
+    ∷ inside block.Section3 (plain (after_first is_newline bytes) ∷ parts others ∷ [])
+    else emphasis bytes ∷ parts others ∷ []
 
 abbrev pub titled : List Part → List Write
 titled (Text bytes style.Text ∷ others) = title_writes bytes others
 titled d = parts d ∷ []
 
 -- `em_doc`: the same with a first Text-style text as a title
+-- e.g. document_of (em_doc_writes (Text (codes "Title") style.Text ∷ Text (codes "x") style.Literal ∷ []))
+--     ≡ Start block.InlineBlock ∷ Text (codes "Title") style.Emphasis ∷ Text (codes "x") style.Literal
+--     ∷ End block.InlineBlock ∷ []
 abbrev pub em_doc_writes : List Part → List Write
 em_doc_writes d = inside block.InlineBlock (titled d)
 
 -- `write_path`: each name as Literal, then a blank
+-- e.g. with_writes (Text (codes "my ") style.Literal ∷ []) (path_writes (codes "git" ∷ codes "add" ∷ []))
+--     ≡ Text (codes "my git") style.Literal ∷ Text (codes " ") style.Text ∷ Text (codes "add") style.Literal
+--     ∷ Text (codes " ") style.Text ∷ []
 abbrev pub path_writes : List (List ℕ) → List Write
 path_writes = flat_map (λ name. literal name ∷ plain (codes " ") ∷ [])

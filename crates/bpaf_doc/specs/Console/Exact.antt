@@ -1,9 +1,11 @@
--- The console page as a function of the document, the width, and full or brief: the rules of docs/console.md, one after another. What
--- can be looked up by place, as margins and what brief hides, is looked up by the counting definitions of `Margin` and `Shown`.
--- The ink and the laws of `IsLayout` are theorems on this function (`Console/Laws`): who believes them need not read it.
+-- The console page as a function of the document, the width, and full or brief: the rules of docs/console.md, one after
+-- another. What can be looked up by place, as margins and what brief hides, is looked up by the counting definitions of
+-- `Margin` and `Shown`. The ink and the laws of `IsLayout` are theorems on this function (`Console/Laws`): who believes
+-- them need not read it.
 use Rattle.std.specs.Prelude.{ℕ, ◌+◌, ◌-◌, Bool, true, false, not, ◌&&◌, ◌||◌, List, [], ◌∷◌, ◌++◌, codes, take, replicate, min, nat_eq, nat_lt, nat_le, if◌then◌else◌}
 use Rattle.std.specs.List.{ends_with}
 use Rattle.std.specs.Str.{trim_end, bytes_eq}
+use Rattle.bpaf_roff.specs.Bytes as byte
 use Rattle.bpaf_doc.specs.declared.buffer.Block.TheVariants as blocks
 use Rattle.bpaf_doc.specs.declared.buffer.Block.{Block}
 use Rattle.bpaf_doc.specs.Buffer.Parts.{Part, Text, Start, End}
@@ -17,7 +19,8 @@ pub data Request : Type 0 where
   NewLine : Request
   BlankLine : Request
 
--- The page so far: its text, the columns of its last line, what is asked for, and whether the margin of an item's body is pending.
+-- The page so far: its text, the columns of its last line, what is asked for, and whether the margin of an item's body
+-- is pending.
 pub record PageSoFar : Type 0 where
   pub text : List ℕ
   pub column : ℕ
@@ -34,7 +37,8 @@ on_new_line page = record page { text = page.text ++ codes "\n"; column = 0 }
 
 -- so many blanks are put
 abbrev pub with_blanks : ℕ → PageSoFar → PageSoFar
-with_blanks count page = record page { text = page.text ++ replicate count 32; column = saturated (page.column + count) }
+with_blanks count page =
+    record page { text = page.text ++ replicate count byte.blank; column = saturated (page.column + count) }
 
 -- ---- a Raw chunk, step 1: the line is broken
 
@@ -52,12 +56,15 @@ asks_blank_line BlankLine = true
 
 -- (a) where one is asked for and the text does not end in a newline, a newline is put, and the column is 0
 abbrev pub line_ended : PageSoFar → PageSoFar
-line_ended page = if asks_line page.request && not (ends_with nat_eq page.text (codes "\n")) then on_new_line page else page
+line_ended page =
+    if asks_line page.request && not (ends_with nat_eq page.text (codes "\n")) then on_new_line page else page
 
 -- (b) where a blank line is asked for and the text does not end in two newlines, a newline is put
 abbrev pub blank_line_put : PageSoFar → PageSoFar
 blank_line_put page =
-    if asks_blank_line page.request && not (ends_with nat_eq page.text (codes "\n\n")) then record page { text = page.text ++ codes "\n" } else page
+    if asks_blank_line page.request && not (ends_with nat_eq page.text (codes "\n\n"))
+    then record page { text = page.text ++ codes "\n" }
+    else page
 
 -- (a) and (b): what is asked for stands at the end of the text
 abbrev pub request_met : PageSoFar → PageSoFar
@@ -87,7 +94,13 @@ indented margin page = body_parted (missing_blanks margin page) (with_blanks (mi
 
 -- step 4: all that was asked for or pending is cleared, the slice is written, and the column grows by its weight
 abbrev pub slice_put : List ℕ → ℕ → PageSoFar → PageSoFar
-slice_put slice weight page = record { text = page.text ++ slice; column = saturated (page.column + weight); request = NoBreak; is_pending = false }
+slice_put slice weight page =
+    record {
+      text = page.text ++ slice;
+      column = saturated (page.column + weight);
+      request = NoBreak;
+      is_pending = false;
+    }
 
 -- steps 2 to 4
 abbrev pub placed : ℕ → List ℕ → ℕ → PageSoFar → PageSoFar
@@ -95,8 +108,8 @@ placed margin slice weight page = slice_put slice weight (indented margin page)
 
 -- ---- the chunks of a text
 
--- The rest of step 1 and the steps after it, where some text stands and what was asked for does: (c), by which one blank is dropped
--- and what is asked for stays so, or the slice is placed.
+-- The rest of step 1 and the steps after it, where some text stands and what was asked for does: (c), by which one
+-- blank is dropped and what is asked for stays so, or the slice is placed.
 abbrev pub fitted : ℕ → ℕ → List ℕ → ℕ → PageSoFar → PageSoFar
 fitted width margin slice weight page =
     if is_too_wide width slice page
@@ -122,7 +135,8 @@ chunks_put width margin (chunk ∷ chunks) page = chunks_put width margin chunks
 
 -- the backquote of a term reference takes one column
 abbrev pub backquoted : Block → PageSoFar → PageSoFar
-backquoted b page = if is_term_ref b then record page { text = page.text ++ codes "`"; column = saturated (page.column + 1) } else page
+backquoted b page =
+    if is_term_ref b then record page { text = page.text ++ codes "`"; column = saturated (page.column + 1) } else page
 
 -- a new line is asked for, where a blank line is not
 abbrev pub at_least_new_line : Request → Request
@@ -150,22 +164,28 @@ is_item_body _ = false
 
 -- a start and an end of a block: an ItemBody start sets the pending margin, and its end clears it
 abbrev pub start_put : Block → PageSoFar → PageSoFar
-start_put b page = backquoted b (record page { request = request_at_start b page.request; is_pending = page.is_pending || is_item_body b })
+start_put b page =
+    backquoted b
+    (record page { request = request_at_start b page.request; is_pending = page.is_pending || is_item_body b })
 
 abbrev pub end_put : Block → PageSoFar → PageSoFar
-end_put b page = backquoted b (record page { request = request_at_end b page.request; is_pending = page.is_pending && not (is_item_body b) })
+end_put b page =
+    backquoted b
+    (record page { request = request_at_end b page.request; is_pending = page.is_pending && not (is_item_body b) })
 
 -- ---- the document
 
 -- the part at place k: the shown chunks of a text, at its margin; a mark, of which those of a skipped pair do nothing
 abbrev pub part_put : Bool → ℕ → List Part → ℕ → Part → PageSoFar → PageSoFar
-part_put full width document k (Text bytes style) page = chunks_put width (saturated (margin document k)) (shown_chunks full (take k document) bytes) page
+part_put full width document k (Text bytes style) page =
+    chunks_put width (saturated (margin document k)) (shown_chunks full (take k document) bytes) page
 part_put full width document k (Start b) page = if is_skipped document k then page else start_put b page
 part_put full width document k (End b) page = if is_skipped document k then page else end_put b page
 
 abbrev pub parts_put : Bool → ℕ → List Part → List (ℕ × Part) → PageSoFar → PageSoFar
 parts_put full width document [] page = page
-parts_put full width document ((k, part) ∷ parts) page = parts_put full width document parts (part_put full width document k part page)
+parts_put full width document ((k, part) ∷ parts) page =
+    parts_put full width document parts (part_put full width document k part page)
 
 abbrev pub empty_page : PageSoFar
 empty_page = record { text = []; column = 0; request = NoBreak; is_pending = false }
@@ -175,5 +195,6 @@ abbrev pub finished : PageSoFar → List ℕ
 finished page = if asks_line page.request then page.text ++ codes "\n" else page.text
 
 -- the bytes of the page
+-- e.g. console_page true 5 (words (codes "aaa bbb")) ≡ codes "aaa\nbbb"
 abbrev pub console_page : Bool → ℕ → List Part → List ℕ
 console_page full width document = finished (parts_put full width document (numbered document) empty_page)

@@ -22,8 +22,11 @@ is_term_mark (End b) = is_term_ref b
 
 -- what a console shows in full has this ink
 abbrev pub FullInkIsBackquotedInk : Type 0
-FullInkIsBackquotedInk = (document : List Part) → HasUtf8Texts document → console_ink true document ≡ backquoted_ink document
+FullInkIsBackquotedInk =
+    (document : List Part) → HasUtf8Texts document → console_ink true document ≡ backquoted_ink document
 
 -- and of a document without term references just the document's
 abbrev pub FullInkIsDocumentInk : Type 0
-FullInkIsDocumentInk = (document : List Part) → HasUtf8Texts document → IsTrue (not (list_any is_term_mark document)) → console_ink true document ≡ document_ink document
+FullInkIsDocumentInk =
+    (document : List Part) → HasUtf8Texts document → IsTrue (not (list_any is_term_mark document))
+    → console_ink true document ≡ document_ink document

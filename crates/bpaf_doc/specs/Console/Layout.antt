@@ -2,10 +2,11 @@
 use Rattle.std.specs.Prelude.{◌≡◌, ◌≢◌, ℕ, ◌+◌, ◌<◌, ◌≤◌, max, Bool, true, false, not, ◌&&◌, ◌==◌, IsTrue, ◌⊎◌, List, [], ◌∷◌, ◌++◌, map, length, take, sum_by, count_by, flat_map, All, codes, if◌then◌else◌}
 use Rattle.std.specs.List.{list_any, list_all, before_first, after_last, slice_split}
 use Rattle.std.specs.Str.{trim_end}
+use Rattle.bpaf_roff.specs.Bytes as byte
 use Rattle.bpaf_doc.specs.declared.buffer.Block.TheVariants as blocks
 use Rattle.bpaf_doc.specs.declared.buffer.Block.{Block}
 use Rattle.bpaf_doc.specs.Buffer.Parts.{Part, Text, Start, End, ink}
-use Rattle.bpaf_doc.specs.Splitter.Chunks.{Chunk, Raw, Paragraph, LineBreak, columns, is_ordinary, is_inked, is_raw, is_whole_line, IsOrdinary, IsInked, has_some, starts}
+use Rattle.bpaf_doc.specs.Splitter.Chunks.{Chunk, Raw, Paragraph, LineBreak, code_weight, columns, is_ordinary, is_inked, is_raw, is_whole_line, IsOrdinary, IsInked, has_some, starts}
 use Rattle.bpaf_doc.specs.Shown.{numbered, shown_chunks, console_ink, is_term_ref, mark_bytes}
 use Rattle.bpaf_doc.specs.Console.Margin.{is_skipped, margin, greatest, greatest_margin}
 
@@ -19,17 +20,21 @@ pub data Event : Type 0 where
 
 -- the events of the part at place k
 abbrev pub part_events : Bool → List Part → ℕ → Part → List Event
-part_events full document k (Text bytes style) = map (λ chunk. Shows k chunk) (shown_chunks full (take k document) bytes)
+part_events full document k (Text bytes style) =
+    map (λ chunk. Shows k chunk) (shown_chunks full (take k document) bytes)
 part_events full document k (Start b) = if is_skipped document k then [] else Opens b ∷ []
 part_events full document k (End b) = if is_skipped document k then [] else Closes b ∷ []
 
 -- the events of what is shown of a document, in order
+-- e.g. shown_events true (words (codes "a bc"))
+--     ≡ Shows 0 (Raw (codes "a") 1) ∷ Shows 0 (Raw (codes " ") 1) ∷ Shows 0 (Raw (codes "bc") 2) ∷ []
 abbrev pub shown_events : Bool → List Part → List Event
 shown_events full document = flat_map (λ (k, part). part_events full document k part) (numbered document)
 
 -- ---- placings
 
--- where a Raw chunk stands: its text's place in the document, the chunk's bytes and weight, and what the console text has of it
+-- where a Raw chunk stands: its text's place in the document, the chunk's bytes and weight, and what the console text
+-- has of it
 pub record Place : Type 0 where
   pub part : ℕ
   pub bytes : List ℕ
@@ -73,7 +78,7 @@ events_of stretches = flat_map stretch_events stretches
 
 -- a newline outside the places
 abbrev pub is_newline : Stretch → Bool
-is_newline (Gap b) = b == 10
+is_newline (Gap b) = b == byte.newline
 is_newline _ = false
 
 -- an inked chunk
@@ -85,18 +90,20 @@ is_inked_event _ = false
 abbrev pub is_inked_stretch : Stretch → Bool
 is_inked_stretch stretch = list_any is_inked_event (stretch_events stretch)
 
--- What may stand before these stretches: a blank or a newline; a whole chunk, or one without its blank end, where a newline
--- follows directly; an event that is no inked chunk.
+-- What may stand before these stretches: a blank or a newline; a whole chunk, or one without its blank end, where a
+-- newline follows directly; an event that is no inked chunk.
 abbrev pub MayStand : Stretch → List Stretch → Type 0
-MayStand (Gap b) after = (b ≡ 32) ⊎ (b ≡ 10)
-MayStand (Placed e) after = (e.shown ≡ e.bytes) ⊎ ((e.shown ≡ trim_end e.bytes) × IsTrue (starts (text_of after) (codes "\n")))
+MayStand (Gap b) after = (b ≡ byte.blank) ⊎ (b ≡ byte.newline)
+MayStand (Placed e) after =
+    (e.shown ≡ e.bytes) ⊎ ((e.shown ≡ trim_end e.bytes) × IsTrue (starts (text_of after) (codes "\n")))
 MayStand (Passed event) after = IsTrue (not (is_inked_event event))
 
 -- the stretches make the text, and have what is shown of the document, in order, with each inked chunk in a place
 pub record IsPlacing (document : List Part) (full : Bool) (text : List ℕ) (stretches : List Stretch) : Type 0 where
   pub whole_text : text_of stretches ≡ text
   pub all_events : events_of stretches ≡ shown_events full document
-  pub each_stretch : (before after : List Stretch) (stretch : Stretch) → stretches ≡ before ++ stretch ∷ after → MayStand stretch after
+  pub each_stretch : (before after : List Stretch) (stretch : Stretch) → stretches ≡ before ++ stretch ∷ after
+      → MayStand stretch after
 
 -- ---- columns
 
@@ -162,8 +169,8 @@ is_raw_event _ = false
 abbrev pub HasBlankLine : List ℕ → Type 0
 HasBlankLine text = (front back : List ℕ) × (text ≡ front ++ codes "\n\n" ++ back)
 
--- Between two inked chunks stands a newline where one is asked for; a blank line where a Block ends, if no Raw stands between
--- the two and the second fits the width.
+-- Between two inked chunks stands a newline where one is asked for; a blank line where a Block ends, if no Raw stands
+-- between the two and the second fits the width.
 pub record BreaksWhereAsked (width : ℕ) (stretches : List Stretch) : Type 0 where
   pub newline : (before between : List Stretch) (e f : Place) → AreApart stretches before e between f
       → IsTrue (list_any asks_newline (events_of between)) → IsTrue (list_any is_newline between)
@@ -177,8 +184,8 @@ IsKept may_add (Gap b) = may_add
 IsKept may_add (Placed e) = e.shown ≡ e.bytes
 IsKept may_add (Passed event) = IsTrue (not (is_raw_event event))
 
--- Between neighbouring inked chunks without a newline between them nothing is cut or left out, and blanks are added only
--- between different texts.
+-- Between neighbouring inked chunks without a newline between them nothing is cut or left out, and blanks are added
+-- only between different texts.
 abbrev pub KeepsBlanks : List Stretch → Type 0
 KeepsBlanks stretches = (before between : List Stretch) (e f : Place) → AreApart stretches before e between f
     → IsTrue (not (list_any is_inked_stretch between)) → IsTrue (not (list_any is_newline between))
@@ -225,12 +232,14 @@ pub record FollowsBlank (before : List Stretch) (f : Place) : Type 0 where
   pub same_text : e.part ≡ f.part
   pub one_blank : events_of between ≡ Shows f.part (Raw (codes " ") 1) ∷ []
 
--- An inked chunk's column is at least its margin. It is the margin for the first inked chunk of a line, where no blank chunk and
--- no TermRef mark stands before it since the last ink, or just the one blank of a text.
+-- An inked chunk's column is at least its margin. It is the margin for the first inked chunk of a line, where no blank
+-- chunk and no TermRef mark stands before it since the last ink, or just the one blank of a text.
 pub record KeepsMargin (document : List Part) (stretches : List Stretch) : Type 0 where
-  pub at_least : (before after : List Stretch) (f : Place) → stretches ≡ before ++ Placed f ∷ after → IsInked (chunk_at f)
+  pub at_least : (before after : List Stretch) (f : Place) → stretches ≡ before ++ Placed f ∷ after
+      → IsInked (chunk_at f)
       → margin document f.part ≤ column before
-  pub exact : (before after : List Stretch) (f : Place) → stretches ≡ before ++ Placed f ∷ after → IsInked (chunk_at f) → IsFirstInLine before
+  pub exact : (before after : List Stretch) (f : Place) → stretches ≡ before ++ Placed f ∷ after → IsInked (chunk_at f)
+      → IsFirstInLine before
       → IsTrue (not (list_any is_raw_or_ref (events_since_ink before))) ⊎ FollowsBlank before f
       → column before ≡ margin document f.part
 
@@ -255,10 +264,11 @@ is_light_mark (Closes blocks.ItemTerm) = true
 is_light_mark (Shows k chunk) = false
 is_light_mark event = is_light event
 
--- Where a newline stands between two ordinary inked chunks, and between them the document has only light chunks and marks, or
--- only light marks, the second would pass the width without it.
+-- Where a newline stands between two ordinary inked chunks, and between them the document has only light chunks and
+-- marks, or only light marks, the second would pass the width without it.
 abbrev pub WrapsOnlyIfNeeded : ℕ → List Stretch → Type 0
-WrapsOnlyIfNeeded width stretches = (before between : List Stretch) (e f : Place) → AreApart stretches before e between f
+WrapsOnlyIfNeeded width stretches =
+    (before between : List Stretch) (e f : Place) → AreApart stretches before e between f
     → IsOrdinary (chunk_at e) → IsOrdinary (chunk_at f)
     → IsTrue (list_all is_light (events_of between)) ⊎ IsTrue (list_all is_light_mark (events_of between))
     → IsTrue (list_any is_newline between)
@@ -273,7 +283,8 @@ is_ref (Closes b) = is_term_ref b
 -- no line is longer than the greatest margin, 2, and the greater of the width and the widest chunk
 abbrev pub IsBounded : List Part → ℕ → List Stretch → Type 0
 IsBounded document width stretches =
-    All (λ line. sum_by stretch_columns line ≤ greatest_margin document + 2 + max width (widest (events_of stretches))) (stretch_lines stretches)
+    All (λ line. sum_by stretch_columns line ≤ greatest_margin document + 2 + max width (widest (events_of stretches)))
+    (stretch_lines stretches)
 
 -- a chunk in a place
 abbrev pub is_placed : Stretch → Bool
@@ -285,7 +296,8 @@ abbrev pub is_gap : Stretch → Bool
 is_gap (Gap b) = true
 is_gap _ = false
 
--- how many bytes outside the places stand in the line since the last place (in a layout they stand directly before the next one)
+-- how many bytes outside the places stand in the line since the last place (in a layout they stand directly before the
+-- next one)
 abbrev pub padding : List Stretch → ℕ
 padding before = count_by is_gap (after_last is_placed (line_before before))
 
@@ -295,8 +307,8 @@ holds_line (Gap b) = false
 holds_line (Placed e) = true
 holds_line (Passed event) = is_ref event
 
--- A chunk with a place or a backquote before it in its line fits: with its columns, the column where the blanks that are added
--- before it begin is at most the width.
+-- A chunk with a place or a backquote before it in its line fits: with its columns, the column where the blanks that
+-- are added before it begin is at most the width.
 abbrev pub FitsWidth : ℕ → List Stretch → Type 0
 FitsWidth width stretches = (before after : List Stretch) (f : Place) → stretches ≡ before ++ Placed f ∷ after
     → IsTrue (list_any holds_line (line_before before)) → column before + columns f.bytes ≤ width + padding before
@@ -309,23 +321,27 @@ opens_body _ = false
 -- blanks outside the places, and then a place
 abbrev pub leads_to_place : List Stretch → Bool
 leads_to_place (Placed e ∷ after) = true
-leads_to_place (Gap b ∷ after) = (b == 32) && leads_to_place after
+leads_to_place (Gap b ∷ after) = (b == byte.blank) && leads_to_place after
 leads_to_place _ = false
 
--- Blanks are added only up to the margin, or two of them after an ItemBody start; and only before a place, so that no line ends
--- in added blanks.
+-- Blanks are added only up to the margin, or two of them after an ItemBody start; and only before a place, so that no
+-- line ends in added blanks.
 pub record PadsToMargin (document : List Part) (stretches : List Stretch) : Type 0 where
-  pub up_to_margin : (before after : List Stretch) (f : Place) → stretches ≡ before ++ Placed f ∷ after → 0 < padding before
-      → (column before ≡ margin document f.part) ⊎ ((padding before ≡ 2) × IsTrue (list_any opens_body (events_of (after_last is_placed before))))
-  pub before_place : (before after : List Stretch) → stretches ≡ before ++ Gap 32 ∷ after → IsTrue (leads_to_place after)
+  pub up_to_margin : (before after : List Stretch) (f : Place) → stretches ≡ before ++ Placed f ∷ after
+      → 0 < padding before
+      → (column before ≡ margin document f.part)
+      ⊎ ((padding before ≡ 2) × IsTrue (list_any opens_body (events_of (after_last is_placed before))))
+  pub before_place : (before after : List Stretch) → stretches ≡ before ++ Gap byte.blank ∷ after
+      → IsTrue (leads_to_place after)
 
 -- no other place stands in its line behind a code or fence line: a newline comes before it
 abbrev pub StandsAlone : List Stretch → Type 0
-StandsAlone stretches = (before between after : List Stretch) (e f : Place) → stretches ≡ before ++ Placed e ∷ (between ++ Placed f ∷ after)
+StandsAlone stretches =
+    (before between after : List Stretch) (e f : Place) → stretches ≡ before ++ Placed e ∷ (between ++ Placed f ∷ after)
     → IsTrue (is_whole_line (chunk_at e)) → IsTrue (list_any is_newline between)
 
--- What a chunk or a mark may add to the column: a Raw its weight, a mark of TermRef its backquote, a start of ItemBody two blanks.
--- (Each start may, where the texts of the bodies before have no ink.)
+-- What a chunk or a mark may add to the column: a Raw its weight, a mark of TermRef its backquote, a start of ItemBody
+-- two blanks. (Each start may, where the texts of the bodies before have no ink.)
 abbrev pub room_of : Event → ℕ
 room_of (Shows k (Raw bytes weight)) = weight
 room_of (Opens blocks.TermRef) = 1
@@ -333,27 +349,42 @@ room_of (Closes blocks.TermRef) = 1
 room_of (Opens blocks.ItemBody) = 2
 room_of _ = 0
 
--- Where a newline stands between neighbouring inked chunks, and none is asked for, there is no room without it: the column of the
--- first, its weight, what all between may add, the columns of the second and, between different texts, the greatest margin are
--- together more than the width.
+-- Where a newline stands between neighbouring inked chunks, and none is asked for, there is no room without it: the
+-- column of the first, its weight, what all between may add, the columns of the second and, between different texts,
+-- the greatest margin are together more than the width.
 abbrev pub BreaksForRoom : List Part → ℕ → List Stretch → Type 0
-BreaksForRoom document width stretches = (before between : List Stretch) (e f : Place) → AreApart stretches before e between f
-    → IsTrue (not (list_any is_inked_stretch between)) → IsTrue (not (list_any asks_newline (events_of between))) → IsTrue (list_any is_newline between)
-    → width < column before + e.weight + sum_by room_of (events_of between) + columns f.bytes + (if e.part == f.part then 0 else greatest_margin document)
+BreaksForRoom document width stretches =
+    (before between : List Stretch) (e f : Place) → AreApart stretches before e between f
+    → IsTrue (not (list_any is_inked_stretch between)) → IsTrue (not (list_any asks_newline (events_of between)))
+    → IsTrue (list_any is_newline between)
+    → width
+    < column before + e.weight + sum_by room_of (events_of between) + columns f.bytes
+    + (if e.part == f.part then 0 else greatest_margin document)
 
 -- ---- a layout
 
--- the text is a layout of the document at this width, in full or in brief
+-- At width 3 the text "a bc" is the page "a\nbc": the word `a` in its place, the blank passed over, a newline, and the
+-- word `bc` in its place, at column 0.
+-- e.g. text_of (word_at (codes "a") ∷ Passed (Shows 0 (Raw (codes " ") 1)) ∷ Gap 10 ∷ word_at (codes "bc") ∷ [])
+--     ≡ codes "a\nbc"
+-- e.g. column (word_at (codes "a") ∷ Passed (Shows 0 (Raw (codes " ") 1)) ∷ Gap 10 ∷ []) ≡ 0
+
+-- What holds of the lines at a width that a code line passes, where no empty one begins the page.
+pub record KeepsToLines (document : List Part) (width : ℕ) (stretches : List Stretch) : Type 0 where
+  pub margin : KeepsMargin document stretches
+  pub needed : WrapsOnlyIfNeeded width stretches
+  pub fits : FitsWidth width stretches
+  pub padded : PadsToMargin document stretches
+  pub room : BreaksForRoom document width stretches
+  pub alone : StandsAlone stretches
+
+-- The text is a layout of the document at this width, in full or in brief.
 pub record IsLayout (document : List Part) (full : Bool) (width : ℕ) (text : List ℕ) : Type 0 where
   pub same_ink : ink text ≡ console_ink full document
   pub stretches : List Stretch
   pub placing : IsPlacing document full text stretches
   pub asked : BreaksWhereAsked width stretches
   pub kept : KeepsBlanks stretches
-  pub margin : width < 1_000_000 → BeginsClear (shown_events full document) → KeepsMargin document stretches
-  pub needed : width < 1_000_000 → BeginsClear (shown_events full document) → WrapsOnlyIfNeeded width stretches
-  pub fits : width < 1_000_000 → BeginsClear (shown_events full document) → FitsWidth width stretches
-  pub padded : width < 1_000_000 → BeginsClear (shown_events full document) → PadsToMargin document stretches
-  pub room : width < 1_000_000 → BeginsClear (shown_events full document) → BreaksForRoom document width stretches
-  pub alone : width < 1_000_000 → BeginsClear (shown_events full document) → StandsAlone stretches
-  pub bound : width < 1_000_000 → IsTrue (not (list_any is_ref (shown_events full document))) → IsBounded document width stretches
+  pub lines : width < code_weight → BeginsClear (shown_events full document) → KeepsToLines document width stretches
+  pub bound : width < code_weight → IsTrue (not (list_any is_ref (shown_events full document)))
+      → IsBounded document width stretches

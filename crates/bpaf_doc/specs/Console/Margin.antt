@@ -38,7 +38,9 @@ skips_pair document i = has_empty_block (drop (after_section4 document i) docume
 -- place k lies in an empty Block pair that a Section4 start skips
 abbrev pub is_skipped : List Part → ℕ → Bool
 is_skipped document k =
-    list_any (λ (i, part). (is_section4_start part && skips_pair document i) && ((k == after_section4 document i) || (k == after_section4 document i + 1)))
+    list_any
+    (λ (i, part). (is_section4_start part && skips_pair document i)
+    && ((k == after_section4 document i) || (k == after_section4 document i + 1)))
     (numbered document)
 
 -- ---- the tab stop
@@ -59,15 +61,19 @@ text_columns (Text bytes style) = columns bytes
 text_columns (Start b) = 0
 text_columns (End b) = 0
 
--- The length at an ItemTerm end that these parts stand before: the columns of the texts between the last ItemTerm start and
--- the first ItemTerm end after it, or 0 without such a start.
+-- The length at an ItemTerm end that these parts stand before: the columns of the texts between the last ItemTerm start
+-- and the first ItemTerm end after it, or 0 without such a start.
+-- e.g. term_length (inside block.ItemTerm (words (codes "--a"))) ≡ 3
 abbrev pub term_length : List Part → ℕ
 term_length before =
-    if list_any is_term_start before then sum_by text_columns (before_first is_term_end (after_last is_term_start before)) else 0
+    if list_any is_term_start before
+    then sum_by text_columns (before_first is_term_end (after_last is_term_start before))
+    else 0
 
 -- the lengths at the ItemTerm ends
 abbrev pub term_lengths : List Part → List ℕ
-term_lengths document = map (λ (k, part). term_length (take k document)) (filter (λ (k, part). is_term_end part) (numbered document))
+term_lengths document =
+    map (λ (k, part). term_length (take k document)) (filter (λ (k, part). is_term_end part) (numbered document))
 
 -- 4 plus the greatest length that is at most 24
 abbrev pub tab_stop : List Part → ℕ
@@ -96,7 +102,8 @@ part_shift document k (Start b) = Level
 
 -- the shifts of the parts in order, where skipped pairs do nothing
 abbrev pub shifts : List Part → List Shift
-shifts document = map (λ (k, part). if is_skipped document k then Level else part_shift document k part) (numbered document)
+shifts document =
+    map (λ (k, part). if is_skipped document k then Level else part_shift document k part) (numbered document)
 
 -- a pushing start
 abbrev pub is_indent : Shift → Bool
@@ -113,14 +120,15 @@ abbrev pub indent : Shift → ℕ
 indent (Indent n) = n
 indent _ = 0
 
--- The sum of the indents in force after these shifts. One is in force if nowhere after it there are more block ends than
--- pushing starts.
+-- The sum of the indents in force after these shifts. One is in force if nowhere after it there are more block ends
+-- than pushing starts.
 abbrev pub indents_in_force : List Shift → ℕ
 indents_in_force [] = 0
 indents_in_force (shift ∷ between) =
     (if stays_open is_indent is_outdent between then indent shift else 0) + indents_in_force between
 
 -- the margin at place j
+-- e.g. margin (Start block.Section3 ∷ Start block.ItemTerm ∷ words (codes "a")) 2 ≡ 6
 abbrev pub margin : List Part → ℕ → ℕ
 margin document j = indents_in_force (take (j + 1) (shifts document))
 

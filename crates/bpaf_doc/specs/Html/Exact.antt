@@ -1,5 +1,6 @@
--- An HTML page as one function of the document. It goes by the rules of docs/html.md: what each fragment writes, by the text and the fragments that
--- stand before it. `render_html` answers just this text. The laws of `Html` are theorems on it (proofs/lemmas/Html/Exact, proofs/lemmas/Html/Meets).
+-- An HTML page as one function of the document. It goes by the rules of docs/html.md: what each fragment writes, by the
+-- text and the fragments that stand before it. `render_html` answers just this text. The laws of `Html` are theorems on
+-- it (proofs/lemmas/Html/Exact, proofs/lemmas/Html/Meets).
 use Rattle.std.specs.Prelude.{ℕ, zero, suc, Bool, true, false, ◌||◌, List, [], ◌∷◌, ◌++◌, Option, Some, None, reverse, flat_map, if◌then◌else◌, codes, nat_eq}
 use Rattle.std.specs.List.{ends_with}
 use Rattle.bpaf_doc.specs.declared.buffer.Style.{Style}
@@ -56,8 +57,9 @@ end_tag blocks.DefinitionList _ = codes "</dl>\n"
 end_tag blocks.Block _ = codes "</p>"
 end_tag _ _ = []
 
--- The block of the last start that is left, of fragments that are given from the last to the first. Each end takes off the last start that is left, of whatever block,
--- and nothing where none is. The number is that of the ends behind these fragments that have still to take off a start.
+-- The block of the last start that is left, of fragments that are given from the last to the first. Each end takes off
+-- the last start that is left, of whatever block, and nothing where none is. The number is that of the ends behind
+-- these fragments that have still to take off a start.
 abbrev pub open_block : List Fragment → ℕ → Option Block
 open_block [] ends = None
 open_block (Start b ∷ earlier) zero = Some b
@@ -102,7 +104,8 @@ chunk_html (Raw bytes weight) = flat_map escaped_character bytes
 chunk_html Paragraph = break_text
 chunk_html LineBreak = break_text
 
--- What a fragment writes, by the text and the fragments before it. An end takes off a start before its own tag is chosen.
+-- What a fragment writes, by the text and the fragments before it. An end takes off a start before its own tag is
+-- chosen.
 abbrev pub fragment_html : List ℕ → List Fragment → Fragment → List ℕ
 fragment_html text before (TextStart style) = opening_tags style
 fragment_html text before (Shown style chunk) = chunk_html chunk
@@ -117,5 +120,7 @@ html_after text before [] = text
 html_after text before (f ∷ after) = html_after (text ++ fragment_html text before f) (before ++ f ∷ []) after
 
 -- the page of a document, in full or in brief, with the style sheet behind it or without
+-- e.g. html_page true false (Words (codes "a<b") Literal ∷ []) ≡ codes "<tt><b>a&lt;b</b></tt>"
 abbrev pub html_page : Bool → Bool → List Part → List ℕ
-html_page full include_css document = html_after [] [] (shown_fragments full document) ++ (if include_css then style_sheet else [])
+html_page full include_css document =
+    html_after [] [] (shown_fragments full document) ++ (if include_css then style_sheet else [])

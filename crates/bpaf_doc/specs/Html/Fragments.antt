@@ -1,5 +1,6 @@
--- What HTML and markdown have of a document, in order: each shown text with its chunks, each hidden text, and each mark.
--- In brief a console has the Paragraph that hides what follows it as its last chunk; HTML and markdown leave that Paragraph out.
+-- What HTML and markdown have of a document, in order: each shown text with its chunks, each hidden text, and each
+-- mark. In brief a console has the Paragraph that hides what follows it as its last chunk; HTML and markdown leave that
+-- Paragraph out.
 use Rattle.std.specs.Prelude.{Bool, not, ◌&&◌, List, [], ◌∷◌, ◌++◌, map, take, false, flat_map, if◌then◌else◌, ℕ}
 use Rattle.std.specs.List.{before_first}
 use Rattle.bpaf_doc.specs.declared.buffer.Style.{Style}
@@ -36,5 +37,7 @@ part_fragments full before (PartStart b) = Start b ∷ []
 part_fragments full before (PartEnd b) = End b ∷ []
 
 -- the fragments of a document, in full or in brief
+-- e.g. shown_fragments false (Words (codes "a\n\nb") Text ∷ Words (codes "c") Text ∷ [])
+--     ≡ TextStart Text ∷ Shown Text (Raw (codes "a") 1) ∷ TextEnd Text ∷ Hidden ∷ []
 abbrev pub shown_fragments : Bool → List Part → List Fragment
 shown_fragments full document = flat_map (λ (k, part). part_fragments full (take k document) part) (numbered document)

@@ -1,6 +1,8 @@
--- What an HTML answer promises: it is cut into tags, newlines and the fragments of the document, in the document's order.
+-- What an HTML answer promises: it is cut into tags, newlines and the fragments of the document, in the document's
+-- order.
 use Rattle.std.specs.Prelude.{◌≡◌, ℕ, ◌==◌, Bool, true, false, not, ◌&&◌, ◌||◌, List, [], ◌∷◌, ◌++◌, map, reverse, filter, flat_map, if◌then◌else◌, IsTrue, codes}
 use Rattle.std.specs.List.{list_any, AllPass}
+use Rattle.bpaf_roff.specs.Bytes as byte
 use Rattle.bpaf_doc.specs.declared.buffer.Style.{Style}
 use Rattle.bpaf_doc.specs.declared.buffer.Style.TheVariants.{Text, Emphasis, Literal, Metavar, Invalid}
 use Rattle.bpaf_doc.specs.declared.buffer.Block.{Block}
@@ -13,12 +15,14 @@ use Rattle.bpaf_doc.specs.Snippets.{Snippet, Put, Of, fragments_in, is_mark_or_f
 -- `erased`, from inside or from outside of a run
 abbrev pub erased_from : Bool → List ℕ → List ℕ
 erased_from inside [] = []
-erased_from inside (c ∷ cs) = (if dropped then [] else (c ∷ [])) ++ erased_from (dropped && not (c == 62)) cs
+erased_from inside (c ∷ cs) =
+    (if dropped then [] else (c ∷ [])) ++ erased_from (dropped && not (c == byte.greater_sign)) cs
   where
     dropped : Bool
-    dropped = inside || (c == 60)
+    dropped = inside || (c == byte.less_sign)
 
 -- the text without every run from `<` to the next `>`
+-- e.g. erased (codes "<b>Usage: </b><tt><b>my_program</b></tt>") ≡ codes "Usage: my_program"
 abbrev pub erased : List ℕ → List ℕ
 erased text = erased_from false text
 
@@ -59,19 +63,24 @@ closing_tag e = codes "</" ++ name_of e ++ codes ">"
 
 -- a character other than `<` and `>`
 abbrev pub is_no_angle : ℕ → Bool
-is_no_angle c = not ((c == 60) || (c == 62))
+is_no_angle c = not ((c == byte.less_sign) || (c == byte.greater_sign))
 
--- nothing; characters other than `<` and `>`; `<br>`; an opening tag, well-nested HTML and the closing tag of the same name; two joined
+-- nothing; characters other than `<` and `>`; `<br>`; an opening tag, well-nested HTML and the closing tag of the same
+-- name; two joined
 pub data IsWellNestedHtml : List ℕ → Type 0 where
   nothing : {text : List ℕ} → text ≡ [] → IsWellNestedHtml text
   characters : {text : List ℕ} → AllPass is_no_angle text → IsWellNestedHtml text
   line_break : {text : List ℕ} → text ≡ codes "<br>" → IsWellNestedHtml text
-  enclosed : {text : List ℕ} (e : Element) (inner : List ℕ) → text ≡ opening_tag e ++ (inner ++ closing_tag e) → IsWellNestedHtml inner → IsWellNestedHtml text
-  joined : {text : List ℕ} (front back : List ℕ) → text ≡ front ++ back → IsWellNestedHtml front → IsWellNestedHtml back → IsWellNestedHtml text
+  enclosed : {text : List ℕ} (e : Element) (inner : List ℕ) → text ≡ opening_tag e ++ (inner ++ closing_tag e)
+      → IsWellNestedHtml inner → IsWellNestedHtml text
+  joined : {text : List ℕ} (front back : List ℕ) → text ≡ front ++ back → IsWellNestedHtml front → IsWellNestedHtml back
+      → IsWellNestedHtml text
 
 -- `<` and `>` are written `&lt;` and `&gt;`
 abbrev pub escaped_character : ℕ → List ℕ
-escaped_character c = if (c == 60) then codes "&lt;" else (if (c == 62) then codes "&gt;" else (c ∷ []))
+escaped_character c =
+    if (c == byte.less_sign) then codes "&lt;"
+    else (if (c == byte.greater_sign) then codes "&gt;" else (c ∷ []))
 
 -- a Raw chunk gives its escaped text, and a Header start `# `
 abbrev pub fragment_text : Fragment → List ℕ
@@ -80,6 +89,7 @@ fragment_text (Start Header) = codes "# "
 fragment_text _ = []
 
 -- the HTML text of what is shown
+-- e.g. html_text (Words (codes "a<b") Text ∷ []) true ≡ codes "a&lt;b"
 abbrev pub html_text : List Part → Bool → List ℕ
 html_text document full = flat_map fragment_text (shown_fragments full document)
 
@@ -150,7 +160,8 @@ is_block_tag _ = false
 
 -- each text opens its style's tags before its chunks and closes them after
 abbrev pub styled_snippets : Fragment → List HtmlSnippet
-styled_snippets fragment = styled_by (λ style. map Open (style_elements style)) (λ style. map Close (reverse (style_elements style))) fragment
+styled_snippets fragment =
+    styled_by (λ style. map Open (style_elements style)) (λ style. map Close (reverse (style_elements style))) fragment
 
 abbrev pub is_definition_list : Block → Bool
 is_definition_list DefinitionList = true
@@ -173,16 +184,24 @@ is_mark (Start b) = true
 is_mark (End b) = true
 is_mark _ = false
 
--- well-nested fragments with the tags of their marks: nothing; a fragment that is no mark; a block with its tags, round what it holds; two joined
+-- well-nested fragments with the tags of their marks: nothing; a fragment that is no mark; a block with its tags, round
+-- what it holds; two joined
 pub data HasBlockTags : Bool → List Fragment → List HtmlSnippet → Type 0 where
-  nothing : {in_list : Bool} {fragments : List Fragment} {snippets : List HtmlSnippet} → fragments ≡ [] → snippets ≡ [] → HasBlockTags in_list fragments snippets
-  fragment : {in_list : Bool} {fragments : List Fragment} {snippets : List HtmlSnippet} (p : Fragment) → is_mark p ≡ false → fragments ≡ p ∷ [] → snippets ≡ Of p ∷ [] → HasBlockTags in_list fragments snippets
-  enclosed : {in_list : Bool} {fragments : List Fragment} {snippets : List HtmlSnippet} (b : Block) (inner : List Fragment) (held : List HtmlSnippet)
+  nothing : {in_list : Bool} {fragments : List Fragment} {snippets : List HtmlSnippet} → fragments ≡ [] → snippets ≡ []
+      → HasBlockTags in_list fragments snippets
+  fragment : {in_list : Bool} {fragments : List Fragment} {snippets : List HtmlSnippet} (p : Fragment)
+      → is_mark p ≡ false → fragments ≡ p ∷ [] → snippets ≡ Of p ∷ [] → HasBlockTags in_list fragments snippets
+  enclosed : {in_list : Bool} {fragments : List Fragment} {snippets : List HtmlSnippet} (b : Block)
+      (inner : List Fragment) (held : List HtmlSnippet)
       → fragments ≡ Start b ∷ (inner ++ End b ∷ [])
-      → snippets ≡ Of (Start b) ∷ (open_each (block_elements in_list b) ++ held ++ close_each (block_elements in_list b) ++ Of (End b) ∷ [])
+      → snippets
+      ≡ Of (Start b) ∷
+      (open_each (block_elements in_list b) ++ held ++ close_each (block_elements in_list b) ++ Of (End b) ∷ [])
       → HasBlockTags (is_definition_list b) inner held → HasBlockTags in_list fragments snippets
-  joined : {in_list : Bool} {fragments : List Fragment} {snippets : List HtmlSnippet} (front back : List Fragment) (tags more : List HtmlSnippet)
-      → fragments ≡ front ++ back → snippets ≡ tags ++ more → HasBlockTags in_list front tags → HasBlockTags in_list back more → HasBlockTags in_list fragments snippets
+  joined : {in_list : Bool} {fragments : List Fragment} {snippets : List HtmlSnippet} (front back : List Fragment)
+      (tags more : List HtmlSnippet)
+      → fragments ≡ front ++ back → snippets ≡ tags ++ more → HasBlockTags in_list front tags
+      → HasBlockTags in_list back more → HasBlockTags in_list fragments snippets
 
 -- the answer to a well-nested document, in full or in brief, without the style sheet
 pub record IsHtmlOf (document : List Part) (full : Bool) (answer : List ℕ) : Type 0 where
@@ -195,8 +214,10 @@ pub record IsHtmlOf (document : List Part) (full : Bool) (answer : List ℕ) : T
   pub spelling : answer ≡ flat_map snippet_text cut
   pub fragments : fragments_in cut ≡ shown_fragments full document
   -- `<br>` stands between two inked chunks that have a Paragraph, a LineBreak or a Header mark between them
-  pub breaks : (before between after : List HtmlSnippet) (a b : Fragment) → cut ≡ before ++ Of a ∷ (between ++ Of b ∷ after)
-      → IsTrue (shows is_inked a) → IsTrue (shows is_inked b) → IsTrue (list_any asks_break (fragments_in between)) → IsTrue (list_any is_break between)
+  pub breaks : (before between after : List HtmlSnippet) (a b : Fragment)
+      → cut ≡ before ++ Of a ∷ (between ++ Of b ∷ after)
+      → IsTrue (shows is_inked a) → IsTrue (shows is_inked b) → IsTrue (list_any asks_break (fragments_in between))
+      → IsTrue (list_any is_break between)
   -- Raw chunks that follow one another in a text touch
   pub touching : Touch (shows is_raw) cut
   -- the tags of the blocks stand round what the blocks hold
@@ -206,14 +227,19 @@ pub record IsHtmlOf (document : List Part) (full : Bool) (answer : List ℕ) : T
 
 -- what follows an answer where the style sheet is asked for
 abbrev pub style_sheet : List ℕ
-style_sheet = codes "\n<style>\ndiv.bpaf-doc {\n    padding: 14px;\n    background-color:var(--code-block-background-color);\n    font-family: \"Source Code Pro\", monospace;\n    margin-bottom: 0.75em;\n}\n"
-    ++ codes "div.bpaf-doc dt { margin-left: 1em; }\ndiv.bpaf-doc dd { margin-left: 3em; }\ndiv.bpaf-doc dl { margin-top: 0; padding-left: 1em; }\ndiv.bpaf-doc  { padding-left: 1em; }\n</style>"
+style_sheet =
+    codes "\n<style>\ndiv.bpaf-doc {\n    padding: 14px;\n    background-color:var(--code-block-background-color);\n"
+    ++ codes "    font-family: \"Source Code Pro\", monospace;\n    margin-bottom: 0.75em;\n}\n"
+    ++ codes "div.bpaf-doc dt { margin-left: 1em; }\ndiv.bpaf-doc dd { margin-left: 3em; }\n"
+    ++ codes "div.bpaf-doc dl { margin-top: 0; padding-left: 1em; }\ndiv.bpaf-doc  { padding-left: 1em; }\n</style>"
 
 -- such an answer, followed by the style sheet where it is asked for
 abbrev pub IsHtmlPageOf : List Part → Bool → Bool → List ℕ → Type 0
-IsHtmlPageOf document full include_css answer = (html : List ℕ) × IsHtmlOf document full html × (answer ≡ html ++ (if include_css then style_sheet else []))
+IsHtmlPageOf document full include_css answer =
+    (html : List ℕ) × IsHtmlOf document full html × (answer ≡ html ++ (if include_css then style_sheet else []))
 
 -- The same of its text alone: without tags and newlines it is the HTML text. This holds of ill-nested lists too.
 abbrev pub IsHtmlTextPageOf : List Part → Bool → Bool → List ℕ → Type 0
 IsHtmlTextPageOf document full include_css answer =
-    (html : List ℕ) × (filter is_line_byte (erased html) ≡ html_text document full) × (answer ≡ html ++ (if include_css then style_sheet else []))
+    (html : List ℕ) × (filter is_line_byte (erased html) ≡ html_text document full)
+    × (answer ≡ html ++ (if include_css then style_sheet else []))

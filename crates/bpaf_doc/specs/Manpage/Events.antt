@@ -117,7 +117,9 @@ span_text before bytes = if last_is_start is_term_mark before then map newline_a
 
 -- what a part gives: a captured text nothing, any other text a span
 abbrev pub place_steps : List Part × Part → List Step
-place_steps (before, Text bytes how) = if last_is_start is_section_mark before then [] else emphasis_steps how ++ Gives (Span (font_of how) (span_text before bytes)) ∷ []
+place_steps (before, Text bytes how) =
+    if last_is_start is_section_mark before then []
+    else emphasis_steps how ++ Gives (Span (font_of how) (span_text before bytes)) ∷ []
 place_steps (before, Start b) = start_steps b
 place_steps (before, End b) = end_steps before b
 
@@ -147,5 +149,6 @@ events_of_steps [] = []
 events_of_steps (step ∷ later) = step_events step ++ line_ends step later ++ events_of_steps later
 
 -- the events of a document
+-- e.g. page_events (Text (codes "A") style.Emphasis ∷ []) ≡ Control (codes "SS") ([]) ∷ Span Bold (codes "A") ∷ []
 abbrev pub page_events : List Part → List Event
 page_events document = events_of_steps (page_steps document)

@@ -1,6 +1,7 @@
--- A document on a page of roff as one function. It goes by the rules of docs/manpage.md: the pieces that each part adds, by the marks that stand before it.
--- `render_roff` answers just the rendering of the page with these pieces. That a reader of roff reads them as the document's events, where the page takes a
--- document, is a theorem on them (proofs/lemmas/Manpage/Drafts, proofs/lemmas/Manpage/PageRead).
+-- A document on a page of roff as one function. It goes by the rules of docs/manpage.md: the pieces that each part
+-- adds, by the marks that stand before it. `render_roff` answers just the rendering of the page with these pieces. That
+-- a reader of roff reads them as the document's events, where the page takes a document, is a theorem on them
+-- (proofs/lemmas/Manpage/Drafts, proofs/lemmas/Manpage/PageRead).
 use Rattle.std.specs.Prelude.{ℕ, Bool, List, [], ◌∷◌, ◌++◌, Option, Some, None, reverse, find, flat_map, codes, if◌then◌else◌}
 use Rattle.std.specs.Str.{str_to_ascii_uppercase}
 use Rattle.bpaf_roff.specs.Pieces.{Piece}
@@ -50,7 +51,8 @@ abbrev pub start_or : Bool → Option Part → Bool
 start_or by_page None = by_page
 start_or by_page (Some mark) = is_start (Some mark)
 
--- whether newlines are stripped behind these parts: the last ItemTerm start, ItemTerm end or ItemBody end is a start; where none came, the page strips them
+-- whether newlines are stripped behind these parts: the last ItemTerm start, ItemTerm end or ItemBody end is a start;
+-- where none came, the page strips them
 abbrev pub strips_newlines : Bool → List Part → Bool
 strips_newlines by_page before = start_or by_page (find is_term_mark (reverse before))
 

@@ -24,11 +24,15 @@ IsPageOf page document text = IsReadAfter (rendering Handle page.pieces) (page_e
 
 -- what the title line says: application, section, date, vendor and title
 abbrev pub title_arguments : List ℕ → List ℕ → Option (List ℕ) → Option (List ℕ) → Option (List ℕ) → List (List ℕ)
-title_arguments app section date vendor title = app ∷ section ∷ unwrap_or date (codes "-") ∷ unwrap_or vendor (codes "-") ∷ unwrap_or title [] ∷ []
+title_arguments app section date vendor title =
+    app ∷ section ∷ unwrap_or date (codes "-") ∷ unwrap_or vendor (codes "-") ∷ unwrap_or title [] ∷ []
 
 -- those as a control
+-- e.g. title_event (codes "a\\") (codes "1") None None None
+--     ≡ Control (codes "TH") (codes "a\\" ∷ codes "1" ∷ codes "-" ∷ codes "-" ∷ codes "\"\"" ∷ [])
 abbrev pub title_event : List ℕ → List ℕ → Option (List ℕ) → Option (List ℕ) → Option (List ℕ) → Event
-title_event app section date vendor title = Control (codes "TH") (map word_of (title_arguments app section date vendor title))
+title_event app section date vendor title =
+    Control (codes "TH") (map word_of (title_arguments app section date vendor title))
 
 -- a page that holds nothing but the title line
 abbrev pub title_page : List (List ℕ) → Script
@@ -44,4 +48,6 @@ TitlePageTakesDocument = (arguments : List (List ℕ)) → TakesDocument (title_
 
 -- and is then a manual page with that title
 abbrev pub TitledPageIsManualPage : Type 0
-TitledPageIsManualPage = (arguments : List (List ℕ)) (document : List Part) (text : List ℕ) → IsPageOf (title_page arguments) document text → IsManualPageOf (Control (codes "TH") (map word_of arguments)) document text
+TitledPageIsManualPage =
+    (arguments : List (List ℕ)) (document : List Part) (text : List ℕ) → IsPageOf (title_page arguments) document text
+    → IsManualPageOf (Control (codes "TH") (map word_of arguments)) document text

@@ -1,6 +1,6 @@
--- A markdown text as one function of the document. It goes by the rules of docs/html.md: what each fragment writes, by the text and the fragments that stand
--- before it and the fragments that come after it. `render_markdown` answers just this text. The laws of `Markdown` are theorems on it (proofs/lemmas/Markdown/Exact,
--- proofs/lemmas/Markdown/Meets).
+-- A markdown text as one function of the document. It goes by the rules of docs/html.md: what each fragment writes, by
+-- the text and the fragments that stand before it and the fragments that come after it. `render_markdown` answers just
+-- this text. The laws of `Markdown` are theorems on it (proofs/lemmas/Markdown/Exact, proofs/lemmas/Markdown/Meets).
 use Rattle.std.specs.Prelude.{ℕ, ◌==◌, Bool, false, ◌||◌, List, [], ◌∷◌, ◌++◌, reverse, filter, flat_map, if◌then◌else◌, codes, nat_eq}
 use Rattle.std.specs.List.{ends_with, list_any}
 use Rattle.bpaf_doc.specs.declared.buffer.Style.{Style}
@@ -110,7 +110,8 @@ item_mark after = if begins_with_term_end after then codes "  " else codes "- "
 
 -- in a definition list, a long dash before a body, or a blank behind such an item
 abbrev pub body_mark : List Fragment → List ℕ
-body_mark before = if is_in_list before then (if is_after_empty_item before then codes " " else codes " &mdash; ") else []
+body_mark before =
+    if is_in_list before then (if is_after_empty_item before then codes " " else codes " &mdash; ") else []
 
 -- what the start of a block writes
 abbrev pub start_markdown : List ℕ → List Fragment → Block → List Fragment → List ℕ
@@ -118,7 +119,8 @@ start_markdown text before blocks.Header after = blank_line text ++ heading_mark
 start_markdown text before blocks.Section3 after = codes "### "
 start_markdown text before blocks.Section4 after = new_line text ++ item_mark after
 start_markdown text before blocks.ItemTerm after = new_line text ++ item_mark after
-start_markdown text before blocks.ItemBody after = body_mark before ++ (new_line (text ++ body_mark before) ++ codes "  ")
+start_markdown text before blocks.ItemBody after =
+    body_mark before ++ (new_line (text ++ body_mark before) ++ codes "  ")
 start_markdown text before blocks.Block after = codes "\n"
 start_markdown text before _ after = []
 
@@ -147,8 +149,10 @@ fragment_markdown text before (End b) after = end_markdown before b
 -- the text with what these fragments write behind it, one after another
 abbrev pub markdown_after : List ℕ → List Fragment → List Fragment → List ℕ
 markdown_after text before [] = text
-markdown_after text before (f ∷ after) = markdown_after (text ++ fragment_markdown text before f after) (before ++ f ∷ []) after
+markdown_after text before (f ∷ after) =
+    markdown_after (text ++ fragment_markdown text before f after) (before ++ f ∷ []) after
 
 -- the text of a document, in full or in brief
+-- e.g. markdown_page true (block ItemTerm (Words (codes "-a") Literal ∷ [])) ≡ codes "- **`-a`**"
 abbrev pub markdown_page : Bool → List Part → List ℕ
 markdown_page full document = markdown_after [] [] (shown_fragments full document)

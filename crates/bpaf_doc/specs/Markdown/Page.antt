@@ -1,6 +1,7 @@
 -- What a markdown answer promises: it is cut into marks and the fragments of the document, in the document's order.
 use Rattle.std.specs.Prelude.{◌≡◌, ℕ, ◌<◌, ◌==◌, Bool, true, false, not, ◌&&◌, ◌||◌, List, [], ◌∷◌, ◌++◌, map, reverse, filter, flat_map, count_by, if◌then◌else◌, IsTrue, nat_lt, codes}
 use Rattle.std.specs.List.{list_any, AllPass, after_last}
+use Rattle.bpaf_roff.specs.Bytes as byte
 use Rattle.bpaf_doc.specs.declared.buffer.Style.{Style}
 use Rattle.bpaf_doc.specs.declared.buffer.Style.TheVariants.{Text, Emphasis, Literal, Metavar, Invalid}
 use Rattle.bpaf_doc.specs.declared.buffer.Block.TheVariants.{Header, Section3, Section4, ItemTerm, ItemBody, DefinitionList, Mono}
@@ -64,11 +65,13 @@ is_in_mono before = nat_lt (count_by is_mono_end before) (count_by is_mono_start
 
 -- `[` and `]` get a backslash
 abbrev pub escaped_character : ℕ → List ℕ
-escaped_character c = if ((c == 91) || (c == 93)) then (92 ∷ c ∷ []) else (c ∷ [])
+escaped_character c =
+    if ((c == byte.opening_bracket) || (c == byte.closing_bracket)) then (byte.backslash ∷ c ∷ []) else (c ∷ [])
 
 -- a Raw chunk as it is, but escaped where it is ordinary and inside Mono
 abbrev pub fragment_text : List Fragment → Fragment → List ℕ
-fragment_text before (Shown style (Raw bytes weight)) = if (is_in_mono before && is_ordinary (Raw bytes weight)) then flat_map escaped_character bytes else bytes
+fragment_text before (Shown style (Raw bytes weight)) =
+    if (is_in_mono before && is_ordinary (Raw bytes weight)) then flat_map escaped_character bytes else bytes
 fragment_text before _ = []
 
 abbrev pub snippet_text : List MarkdownSnippet → MarkdownSnippet → List MarkdownSnippet → List ℕ
@@ -112,7 +115,8 @@ headings_of before (Start Header) after = (if list_any is_header_start before th
 headings_of before (Start Section3) after = ThirdHeading ∷ []
 headings_of before (Start Section4) after = if begins_with_term_end after then [] else (Dash ∷ [])
 headings_of before (Start ItemTerm) after = if begins_with_term_end after then [] else (Dash ∷ [])
-headings_of before (Start ItemBody) after = if (is_in_list before && not (is_after_empty_item before)) then (LongDash ∷ []) else []
+headings_of before (Start ItemBody) after =
+    if (is_in_list before && not (is_after_empty_item before)) then (LongDash ∷ []) else []
 headings_of before _ after = []
 
 -- each fragment, and after it its heading and list marks
@@ -174,7 +178,7 @@ is_newline _ = false
 
 -- after its last newline the text has only blanks
 abbrev pub EndsInBlankLine : List ℕ → Type 0
-EndsInBlankLine text = AllPass (λ c. c == 32) (after_last (λ c. c == 10) text)
+EndsInBlankLine text = AllPass (λ c. c == byte.blank) (after_last (λ c. c == byte.newline) text)
 
 -- the answer to a document, in full or in brief
 pub record IsMarkdownOf (document : List Part) (full : Bool) (answer : List ℕ) : Type 0 where
@@ -183,22 +187,30 @@ pub record IsMarkdownOf (document : List Part) (full : Bool) (answer : List ℕ)
   pub spelling : answer ≡ flat_map_places snippet_text cut
   pub fragments : fragments_in cut ≡ shown_fragments full document
   -- the heading and list marks are those of the block marks, in order among the fragments
-  pub headings : filter (is_mark_or_fragment is_heading) cut ≡ flat_map_places headed_snippets (shown_fragments full document)
+  pub headings : filter (is_mark_or_fragment is_heading) cut ≡ flat_map_places headed_snippets
+      (shown_fragments full document)
   -- just the marks of its style stand round the chunks of each text
   pub styles : filter (is_mark_or_fragment is_style_mark) cut ≡ flat_map styled_snippets (shown_fragments full document)
   -- at a code line more fences were opened than closed
-  pub fenced : (before after : List MarkdownSnippet) (a : Fragment) → cut ≡ before ++ Of a ∷ after → IsTrue (shows is_code_line a) → closed_fences before < opened_fences before
+  pub fenced : (before after : List MarkdownSnippet) (a : Fragment) → cut ≡ before ++ Of a ∷ after
+      → IsTrue (shows is_code_line a) → closed_fences before < opened_fences before
   -- at an ordinary Raw chunk, and at the end of a text, as many
-  pub unfenced : (before after : List MarkdownSnippet) (a : Fragment) → cut ≡ before ++ Of a ∷ after → IsTrue (shows is_ordinary a || is_text_end a) → closed_fences before ≡ opened_fences before
+  pub unfenced : (before after : List MarkdownSnippet) (a : Fragment) → cut ≡ before ++ Of a ∷ after
+      → IsTrue (shows is_ordinary a || is_text_end a) → closed_fences before ≡ opened_fences before
   -- a code line and a line of a fence stand alone on their line, after blanks
-  pub lines : (before after : List MarkdownSnippet) (a : Fragment) → cut ≡ before ++ Of a ∷ after → IsTrue (shows is_whole_line a)
+  pub lines : (before after : List MarkdownSnippet) (a : Fragment) → cut ≡ before ++ Of a ∷ after
+      → IsTrue (shows is_whole_line a)
       → EndsInBlankLine (text_after [] before) × IsTrue (starts (text_after (before ++ Of a ∷ []) after) (codes "\n"))
   -- between ordinary Raw chunks that follow one another in a text stands nothing
   pub touching : Touch (shows is_ordinary) cut
   -- between Raw chunks with a Paragraph between them two newlines stand together
-  pub paragraphs : (before between after : List MarkdownSnippet) (a b : Fragment) → cut ≡ before ++ Of a ∷ (between ++ Of b ∷ after)
-      → IsTrue (shows is_raw a) → IsTrue (shows is_raw b) → IsTrue (list_any (shows is_paragraph) (fragments_in between))
+  pub paragraphs : (before between after : List MarkdownSnippet) (a b : Fragment)
+      → cut ≡ before ++ Of a ∷ (between ++ Of b ∷ after)
+      → IsTrue (shows is_raw a) → IsTrue (shows is_raw b)
+      → IsTrue (list_any (shows is_paragraph) (fragments_in between))
       → (front back : List MarkdownSnippet) × (between ≡ front ++ Put Newline ∷ Put Newline ∷ back)
   -- and with a LineBreak between them a newline
-  pub line_breaks : (before between after : List MarkdownSnippet) (a b : Fragment) → cut ≡ before ++ Of a ∷ (between ++ Of b ∷ after)
-      → IsTrue (shows is_raw a) → IsTrue (shows is_raw b) → IsTrue (list_any (shows is_line_break) (fragments_in between)) → IsTrue (list_any is_newline between)
+  pub line_breaks : (before between after : List MarkdownSnippet) (a b : Fragment)
+      → cut ≡ before ++ Of a ∷ (between ++ Of b ∷ after)
+      → IsTrue (shows is_raw a) → IsTrue (shows is_raw b)
+      → IsTrue (list_any (shows is_line_break) (fragments_in between)) → IsTrue (list_any is_newline between)

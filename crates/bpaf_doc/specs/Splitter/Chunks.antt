@@ -2,6 +2,7 @@
 use Rattle.std.specs.Prelude.{◌≡◌, ◌≢◌, ℕ, zero, suc, ◌==◌, Bool, true, false, not, ◌&&◌, ◌||◌, IsTrue, ◌⊎◌, ⊤, List, [], ◌∷◌, ◌++◌, length, drop, take_while, nat_eq, chars, codes}
 use Rattle.std.specs.List.{starts_with, list_all, prefix_len}
 use Rattle.unicode_width.specs.Width.{str_width}
+use Rattle.bpaf_roff.specs.Bytes as byte
 use Rattle.bpaf_doc.specs.Buffer.Parts.{ink}
 
 -- a slice of the text with its weight, a paragraph break, or a line break
@@ -84,11 +85,11 @@ is_paragraph LineBreak = false
 
 -- no newline
 abbrev pub is_line_byte : ℕ → Bool
-is_line_byte b = not (b == 10)
+is_line_byte b = not (b == byte.newline)
 
 -- no newline and no blank
 abbrev pub is_word_byte : ℕ → Bool
-is_word_byte b = not (b == 10) && not (b == 32)
+is_word_byte b = not (b == byte.newline) && not (b == byte.blank)
 
 -- no newline in it
 abbrev pub IsLine : List ℕ → Type 0
@@ -101,16 +102,16 @@ IsWord bytes = (bytes ≢ []) × IsTrue (list_all is_word_byte bytes)
 -- what may follow a line: a newline or the end
 abbrev pub IsLineEnd : List ℕ → Type 0
 IsLineEnd [] = ⊤
-IsLineEnd (b ∷ rest) = b ≡ 10
+IsLineEnd (b ∷ rest) = b ≡ byte.newline
 
 -- what may follow a word: a newline, a blank or the end
 abbrev pub IsWordEnd : List ℕ → Type 0
 IsWordEnd [] = ⊤
-IsWordEnd (b ∷ rest) = (b ≡ 10) ⊎ (b ≡ 32)
+IsWordEnd (b ∷ rest) = (b ≡ byte.newline) ⊎ (b ≡ byte.blank)
 
 -- next is rest without the newline in front, or both are empty
 abbrev pub IsPastNewline : List ℕ → List ℕ → Type 0
-IsPastNewline rest next = (rest ≡ 10 ∷ next) ⊎ ((rest ≡ []) × (next ≡ []))
+IsPastNewline rest next = (rest ≡ byte.newline ∷ next) ⊎ ((rest ≡ []) × (next ≡ []))
 
 -- the text begins with this front
 abbrev pub starts : List ℕ → List ℕ → Bool
@@ -129,7 +130,8 @@ pub data Spells : Form → List Chunk → List ℕ → Type 0 where
   -- the empty text spells no chunk
   nothing : {form : Form} {chunks : List Chunk} {text : List ℕ} → chunks ≡ [] → text ≡ [] → Spells form chunks text
   -- a newline and four blanks, then a code line up to the next newline or the end
-  code_line : {chunks : List Chunk} {text : List ℕ} (line rest : List ℕ) (others : List Chunk) → chunks ≡ Raw line code_weight ∷ others
+  code_line : {chunks : List Chunk} {text : List ℕ} (line rest : List ℕ) (others : List Chunk)
+      → chunks ≡ Raw line code_weight ∷ others
       → text ≡ codes "\n    " ++ (line ++ rest) → IsLine line → IsLineEnd rest
       → Spells Plain others rest → Spells Plain chunks text
   -- two newlines with three backquotes after them: a fence opens
@@ -137,7 +139,8 @@ pub data Spells : Form → List Chunk → List ℕ → Type 0 where
       → text ≡ codes "\n\n" ++ rest → IsTrue (starts rest (codes "```"))
       → Spells Opening others rest → Spells Plain chunks text
   -- a newline with a code line's newline and four blanks after it
-  before_code : {chunks : List Chunk} {text : List ℕ} (rest : List ℕ) (others : List Chunk) → chunks ≡ Paragraph ∷ others
+  before_code : {chunks : List Chunk} {text : List ℕ} (rest : List ℕ) (others : List Chunk)
+      → chunks ≡ Paragraph ∷ others
       → text ≡ codes "\n" ++ rest → IsTrue (starts rest (codes "\n    "))
       → Spells Plain others rest → Spells Plain chunks text
   -- two newlines with neither after them
@@ -149,29 +152,37 @@ pub data Spells : Form → List Chunk → List ℕ → Type 0 where
       → text ≡ codes "\n " ++ rest → ¬ IsTrue (starts rest (codes "   "))
       → Spells Plain others rest → Spells Plain chunks text
   -- a newline with no newline and no blank after it stands for a blank
-  newline : {chunks : List Chunk} {text : List ℕ} (rest : List ℕ) (others : List Chunk) → chunks ≡ Raw (codes " ") 1 ∷ others
+  newline : {chunks : List Chunk} {text : List ℕ} (rest : List ℕ) (others : List Chunk)
+      → chunks ≡ Raw (codes " ") 1 ∷ others
       → text ≡ codes "\n" ++ rest → ¬ IsTrue (starts rest (codes "\n")) → ¬ IsTrue (starts rest (codes " "))
       → Spells Plain others rest → Spells Plain chunks text
-  blank : {chunks : List Chunk} {text : List ℕ} (rest : List ℕ) (others : List Chunk) → chunks ≡ Raw (codes " ") 1 ∷ others
+  blank : {chunks : List Chunk} {text : List ℕ} (rest : List ℕ) (others : List Chunk)
+      → chunks ≡ Raw (codes " ") 1 ∷ others
       → text ≡ codes " " ++ rest
       → Spells Plain others rest → Spells Plain chunks text
-  word : {chunks : List Chunk} {text : List ℕ} (bytes rest : List ℕ) (others : List Chunk) → chunks ≡ Raw bytes (columns bytes) ∷ others
+  word : {chunks : List Chunk} {text : List ℕ} (bytes rest : List ℕ) (others : List Chunk)
+      → chunks ≡ Raw bytes (columns bytes) ∷ others
       → text ≡ bytes ++ rest → IsWord bytes → IsWordEnd rest
       → Spells Plain others rest → Spells Plain chunks text
   -- the opening line of a fence, with its newline
-  opening : {chunks : List Chunk} {text : List ℕ} (line rest next : List ℕ) (others : List Chunk) → chunks ≡ Raw line fence_weight ∷ others
+  opening : {chunks : List Chunk} {text : List ℕ} (line rest next : List ℕ) (others : List Chunk)
+      → chunks ≡ Raw line fence_weight ∷ others
       → text ≡ line ++ rest → text ≢ [] → IsLine line → IsPastNewline rest next
       → Spells Later others next → Spells Opening chunks text
   -- a later line with no three backquotes in front
-  later : {chunks : List Chunk} {text : List ℕ} (line rest next : List ℕ) (others : List Chunk) → chunks ≡ Raw line fence_weight ∷ others
+  later : {chunks : List Chunk} {text : List ℕ} (line rest next : List ℕ) (others : List Chunk)
+      → chunks ≡ Raw line fence_weight ∷ others
       → text ≡ line ++ rest → text ≢ [] → IsLine line → ¬ IsTrue (starts line (codes "```")) → IsPastNewline rest next
       → Spells Later others next → Spells Later chunks text
   -- a later line with three backquotes in front closes the fence
-  closing : {chunks : List Chunk} {text : List ℕ} (line rest next : List ℕ) (others : List Chunk) → chunks ≡ Raw line fence_weight ∷ others
-      → text ≡ line ++ rest → IsLine line → IsTrue (starts line (codes "```")) → ¬ IsTrue (starts rest (codes "\n\n")) → IsPastNewline rest next
+  closing : {chunks : List Chunk} {text : List ℕ} (line rest next : List ℕ) (others : List Chunk)
+      → chunks ≡ Raw line fence_weight ∷ others
+      → text ≡ line ++ rest → IsLine line → IsTrue (starts line (codes "```")) → ¬ IsTrue (starts rest (codes "\n\n"))
+      → IsPastNewline rest next
       → Spells Plain others next → Spells Later chunks text
   -- the same where two newlines follow, which both stay
-  closing_paragraph : {chunks : List Chunk} {text : List ℕ} (line rest : List ℕ) (others : List Chunk) → chunks ≡ Raw line fence_weight ∷ others
+  closing_paragraph : {chunks : List Chunk} {text : List ℕ} (line rest : List ℕ) (others : List Chunk)
+      → chunks ≡ Raw line fence_weight ∷ others
       → text ≡ line ++ rest → IsLine line → IsTrue (starts line (codes "```")) → IsTrue (starts rest (codes "\n\n"))
       → Spells Plain others rest → Spells Later chunks text
 
@@ -186,10 +197,11 @@ unfoldable pub chunks_within : ℕ → Form → List ℕ → List Chunk
 chunks_within zero form text = []
 chunks_within (suc n) form [] = []
 chunks_within (suc n) Plain (b ∷ rest) =
-    elim (b == 10) [
+    elim (b == byte.newline) [
       | true ↦
           elim (starts rest (codes "    ")) [
-            | true ↦ Raw (take_while is_line_byte (drop 4 rest)) code_weight ∷ chunks_within n Plain (without_front is_line_byte (drop 4 rest))
+            | true ↦ Raw (take_while is_line_byte (drop 4 rest)) code_weight
+                ∷ chunks_within n Plain (without_front is_line_byte (drop 4 rest))
             | false ↦
                 elim (starts rest (codes "\n```")) [
                   | true ↦ Paragraph ∷ chunks_within n Opening (drop 1 rest)
@@ -209,7 +221,7 @@ chunks_within (suc n) Plain (b ∷ rest) =
                 ]
           ]
       | false ↦
-          elim (b == 32) [
+          elim (b == byte.blank) [
             | true ↦ Raw (codes " ") 1 ∷ chunks_within n Plain rest
             | false ↦
                 Raw (take_while is_word_byte (b ∷ rest)) (columns (take_while is_word_byte (b ∷ rest)))
@@ -217,15 +229,19 @@ chunks_within (suc n) Plain (b ∷ rest) =
           ]
     ]
 chunks_within (suc n) Opening (b ∷ rest) =
-    Raw (take_while is_line_byte (b ∷ rest)) fence_weight ∷ chunks_within n Later (drop 1 (without_front is_line_byte (b ∷ rest)))
+    Raw (take_while is_line_byte (b ∷ rest)) fence_weight
+    ∷ chunks_within n Later (drop 1 (without_front is_line_byte (b ∷ rest)))
 chunks_within (suc n) Later (b ∷ rest) =
     elim (starts (b ∷ rest) (codes "```")) [
       | true ↦
           elim (starts (without_front is_line_byte (b ∷ rest)) (codes "\n\n")) [
-            | true ↦ Raw (take_while is_line_byte (b ∷ rest)) fence_weight ∷ chunks_within n Plain (without_front is_line_byte (b ∷ rest))
-            | false ↦ Raw (take_while is_line_byte (b ∷ rest)) fence_weight ∷ chunks_within n Plain (drop 1 (without_front is_line_byte (b ∷ rest)))
+            | true ↦ Raw (take_while is_line_byte (b ∷ rest)) fence_weight
+                ∷ chunks_within n Plain (without_front is_line_byte (b ∷ rest))
+            | false ↦ Raw (take_while is_line_byte (b ∷ rest)) fence_weight
+                ∷ chunks_within n Plain (drop 1 (without_front is_line_byte (b ∷ rest)))
           ]
-      | false ↦ Raw (take_while is_line_byte (b ∷ rest)) fence_weight ∷ chunks_within n Later (drop 1 (without_front is_line_byte (b ∷ rest)))
+      | false ↦ Raw (take_while is_line_byte (b ∷ rest)) fence_weight
+          ∷ chunks_within n Later (drop 1 (without_front is_line_byte (b ∷ rest)))
     ]
 
 -- the chunks of a text that is read in this form
@@ -233,5 +249,7 @@ unfoldable pub chunks_in : Form → List ℕ → List Chunk
 chunks_in form text = chunks_within (length text) form text
 
 -- the chunks that the text spells
+-- e.g. chunks_of (codes "hello\n world\n")
+--     ≡ Raw (codes "hello") 5 ∷ LineBreak ∷ Raw (codes "world") 5 ∷ Raw (codes " ") 1 ∷ []
 unfoldable pub chunks_of : List ℕ → List Chunk
 chunks_of text = chunks_in Plain text

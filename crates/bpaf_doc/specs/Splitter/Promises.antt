@@ -2,6 +2,7 @@
 use Rattle.std.specs.Prelude.{◌≡◌, ℕ, ◌≤◌, Bool, ◌||◌, ◌==◌, IsTrue, ◌⊎◌, ⊤, List, [], ◌∷◌, codes, length, drop, slice_range}
 use Rattle.std.specs.List.{All, flat_map, list_all}
 use Rattle.std.specs.Str.{IsUtf8}
+use Rattle.bpaf_roff.specs.Bytes as byte
 use Rattle.bpaf_doc.specs.Splitter.Chunks.{Chunk, Raw, Paragraph, LineBreak, Plain, Spells, chunk_ink, chunks_of, IsLine}
 use Rattle.bpaf_doc.specs.Buffer.Parts.{ink}
 
@@ -26,14 +27,14 @@ IsText LineBreak = ⊤
 
 -- a newline or a blank
 abbrev pub is_gap_byte : ℕ → Bool
-is_gap_byte b = (b == 10) || (b == 32)
+is_gap_byte b = (b == byte.newline) || (b == byte.blank)
 
 -- newlines and blanks alone
 abbrev pub IsGap : List ℕ → Type 0
 IsGap bytes = IsTrue (list_all is_gap_byte bytes)
 
--- What of the text a chunk stands for: a Raw for its own bytes, or for a newline in whose place it is a blank; a break for its
--- newlines and its blank.
+-- What of the text a chunk stands for: a Raw for its own bytes, or for a newline in whose place it is a blank; a break
+-- for its newlines and its blank.
 abbrev pub StandsFor : Chunk → List ℕ → Type 0
 StandsFor (Raw bytes weight) there = (there ≡ bytes) ⊎ ((there ≡ codes "\n") × (bytes ≡ codes " ") × (weight ≡ 1))
 StandsFor Paragraph there = (there ≡ codes "\n\n") ⊎ (there ≡ codes "\n")
@@ -47,10 +48,12 @@ pub record IsPlace (text : List ℕ) (from : ℕ) (chunk : Chunk) (start end : �
   pub gap : IsGap (slice_range text from start)
   pub stands : StandsFor chunk (slice_range text start end)
 
--- The chunks have places in the text from this place on, each after the one before it, and the rest of the text is gaps.
+-- The chunks have places in the text from this place on, each after the one before it, and the rest of the text is
+-- gaps.
 abbrev pub StandInOrder : List ℕ → ℕ → List Chunk → Type 0
 StandInOrder text from [] = IsGap (drop from text)
-StandInOrder text from (chunk ∷ chunks) = (start : ℕ) × (end : ℕ) × IsPlace text from chunk start end × StandInOrder text end chunks
+StandInOrder text from (chunk ∷ chunks) =
+    (start : ℕ) × (end : ℕ) × IsPlace text from chunk start end × StandInOrder text end chunks
 
 -- ---- the laws
 

@@ -425,7 +425,7 @@ fn is_printable(bytes: &[u8]) -> bool
     printable
 }
 
-// What has to stand before the next text, after the start of a block.
+// What has to stand before the next text, behind what was asked for.
 fn asked_by_start(asked: Asked, block: Block) -> Asked
     ensures { request_of result ≡ request_at_start block (request_of asked) }
 {
@@ -439,7 +439,6 @@ fn asked_by_start(asked: Asked, block: Block) -> Asked
     }
 }
 
-// The same after the end of a block.
 fn asked_by_end(asked: Asked, block: Block) -> Asked
     ensures { request_of result ≡ request_at_end block (request_of asked) }
 {

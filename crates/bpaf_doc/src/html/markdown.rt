@@ -99,7 +99,7 @@ impl<B: Allocator> Markdown<B> {
         }
     }
 
-    // The same with room for so many bytes, which are not moved then as the text grows.
+    // So many bytes are not moved then as the text grows.
     fn with_room(alloc: B, bytes: usize) -> Result<Self, AllocError>
         ensures { IfOk result (λ page. page ≡ blank_text) }
     {
@@ -153,7 +153,6 @@ impl<B: Allocator> Markdown<B> {
         Ok(())
     }
 
-    // Writes the marks of a text's style before it.
     fn open_text(&mut self, style: Style) -> Result<(), AllocError>
         ensures { OnOk result (self.new ≡ put self.old (opening_marks style)) }
     {
@@ -163,7 +162,6 @@ impl<B: Allocator> Markdown<B> {
         self.put(when(styles.mono, "`"))
     }
 
-    // And after it, in the other order.
     fn close_styles(&mut self, style: Style) -> Result<(), AllocError>
         ensures { OnOk result (self.new ≡ put self.old (closing_marks style)) }
     {

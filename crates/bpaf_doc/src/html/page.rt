@@ -38,7 +38,7 @@ struct Page<B: Allocator> {
     text: String<B>,
     // Whether the text is empty or ends in a break.
     fresh: bool,
-    // Whether the innermost open block is a definition list, and the same of the blocks around it.
+    // Whether the innermost open block is a definition list, and whether each block around it is one.
     in_list: bool,
     outer: Vec<bool, B>,
 }
@@ -57,7 +57,6 @@ impl<B: Allocator> Model for Page<B> {
     } };
 }
 
-// What the start of a block writes.
 fn start_tag(block: Block, in_list: bool) -> &'static str
     ensures { result.now ≡ start_tag block in_list }
 {
@@ -73,7 +72,6 @@ fn start_tag(block: Block, in_list: bool) -> &'static str
     }
 }
 
-// What the end of a block writes.
 fn end_tag(block: Block, in_list: bool) -> &'static str
     ensures { result.now ≡ end_tag block in_list }
 {
@@ -134,7 +132,6 @@ impl<B: Allocator> Page<B> {
         Ok(())
     }
 
-    // Writes a break.
     fn put_break(&mut self) -> Result<(), AllocError>
         ensures { OnOk result (self.new ≡ with_break self.old) }
     {
@@ -164,7 +161,6 @@ impl<B: Allocator> Page<B> {
         Ok(())
     }
 
-    // Opens the tags of a text's style.
     fn open_text(&mut self, style: Style) -> Result<(), AllocError>
         ensures { OnOk result (self.new ≡ with_text self.old (opening_tags style)) }
     {
@@ -174,7 +170,6 @@ impl<B: Allocator> Page<B> {
         self.put(when(styles.italic, "<i>"))
     }
 
-    // Closes them, in the other order.
     fn close_text(&mut self, style: Style) -> Result<(), AllocError>
         ensures { OnOk result (self.new ≡ with_text self.old (closing_tags style)) }
     {

@@ -19,5 +19,6 @@ choice_form (tree t no_trees) = t
 choice_form (tree t (tree v ts)) = or_of (tree t (tree v ts))
 
 -- the alternatives of both
+-- e.g. either_form (or_of (tree a no_trees)) b ≡ or_of (two a b)
 abbrev pub either_form : Tree → Tree → Tree
 either_form t v = choice_form (trees_then (alternatives t) (alternatives v))

@@ -1,4 +1,5 @@
--- Named items that stand after a positional one. Each item goes with its number in tree order, so that two equal items are two.
+-- Named items that stand after a positional one. Each item goes with its number in tree order, so that two equal items
+-- are two.
 use Rattle.std.specs.Prelude.{◌≡◌, ℕ, ◌+◌, ◌≤◌, Bool, true, false, not, if◌then◌else◌, List, [], ◌∷◌, ◌++◌, length, map, flat_map, filter, All, Contains, Option, Some, None}
 use Rattle.std.specs.Option.{option_map_or}
 use Rattle.std.specs.List.{after_first}
@@ -86,7 +87,8 @@ abbrev pub at_least_empty : List Line → List Line
 at_least_empty [] = [] ∷ []
 at_least_empty (line ∷ lines) = line ∷ lines
 
--- the lines of a scope whose items are numbered from n on: one for each choice of a branch of each Or; an Adjacent gives its items only if its first one is positional
+-- the lines of a scope whose items are numbered from n on: one for each choice of a branch of each Or; an Adjacent
+-- gives its items only if its first one is positional
 abbrev mutual
   pub lines_from : ℕ → Tree → List Line
   lines_from n (and_of ts) = and_lines n ts
@@ -116,14 +118,16 @@ abbrev mutual
 abbrev pub Scope : Type 0
 Scope = ℕ × Tree
 
--- the scopes inside a tree: each command's own tree, and the inner tree of each Adjacent whose first item is named; nothing is reached in an Adjacent without first item
+-- the scopes inside a tree: each command's own tree, and the inner tree of each Adjacent whose first item is named;
+-- nothing is reached in an Adjacent without first item
 abbrev mutual
   pub scopes_within : ℕ → Tree → List Scope
   scopes_within n (and_of ts) = scopes_within_parts n ts
   scopes_within n (or_of ts) = scopes_within_parts n ts
   scopes_within n (optional t) = scopes_within n t
   scopes_within n (required t) = scopes_within n t
-  scopes_within n (adjacent t) = if begins_named t then (n, t) ∷ scopes_within n t else if begins_positional t then scopes_within n t else []
+  scopes_within n (adjacent t) =
+      if begins_named t then (n, t) ∷ scopes_within n t else if begins_positional t then scopes_within n t else []
   scopes_within n (item l) = command_scopes (n + 1) l
   scopes_within n (many t) = scopes_within n t
   scopes_within n (subsection t d) = scopes_within n t
@@ -152,6 +156,7 @@ abbrev pub late_items : Line → List Numbered
 late_items line = filter (λ x. not (is_positional x.1)) (after_first (λ x. is_positional x.1) line)
 
 -- the misplaced items: the late items of all lines of all scopes
+-- e.g. misplaced_items (and_of (two FILE v)) ≡ (1, flag (short 118) [] None None) ∷ []
 abbrev pub misplaced_items : Tree → List Numbered
 misplaced_items t = flat_map (λ s. flat_map late_items (lines_from s.0 s.1)) (scopes_of t)
 

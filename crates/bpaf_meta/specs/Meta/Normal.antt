@@ -131,12 +131,15 @@ abbrev mutual
   -- the parts of an And, each from the running state
   pub and_parts : (usage : Bool) → (running : State) → Trees → Trees
   and_parts u running no_trees = no_trees
-  and_parts u running (tree t ts) = tree (guarded running (state_out running t) (normal_form u running t)) (and_parts u (state_after running (state_out running t)) ts)
+  and_parts u running (tree t ts) =
+      tree (guarded running (state_out running t) (normal_form u running t))
+      (and_parts u (state_after running (state_out running t)) ts)
 
   -- the parts of an Or, each from the state that came in, put in Strict by the final state so far
   pub or_parts : (usage : Bool) → State → (final : State) → Trees → Trees
   or_parts u s final no_trees = no_trees
-  or_parts u s final (tree t ts) = tree (guarded final (state_out s t) (normal_form u s t)) (or_parts u s (state_after final (state_out s t)) ts)
+  or_parts u s final (tree t ts) =
+      tree (guarded final (state_out s t) (normal_form u s t)) (or_parts u s (state_after final (state_out s t)) ts)
 
   pub or_state : State → (final : State) → Trees → State
   or_state s final no_trees = final
@@ -154,5 +157,6 @@ strict_if_push push t = strict t
 strict_if_push s t = t
 
 -- the normal form of a tree: from the state Pull, in Strict where the state comes out as Push
+-- e.g. normalized true (and_of (two v (optional (strict FILE)))) ≡ and_of (two v (strict (optional FILE)))
 abbrev pub normalized : (usage : Bool) → Tree → Tree
 normalized u t = strict_if_push (state_out pull t) (outer_form (normal_form u pull t))

@@ -56,7 +56,8 @@ abbrev pub has_no_parts : List Part → Bool
 has_no_parts [] = true
 has_no_parts (p ∷ d) = false
 
--- whether a tree has nothing to show: all its parts are hidden; no item is, and Skip is. In usage a custom usage is where its document has no parts
+-- whether a tree has nothing to show: all its parts are hidden; no item is, and Skip is. In usage a custom usage is
+-- where its document has no parts
 abbrev mutual
   pub is_hidden : (usage : Bool) → Tree → Bool
   is_hidden u (and_of ts) = are_hidden u ts

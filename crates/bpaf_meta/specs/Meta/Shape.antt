@@ -2,7 +2,8 @@
 use Rattle.std.specs.Prelude.{Bool, IsTrue, ⊤, ◌⊎◌}
 use Rattle.bpaf_meta.specs.Content.{Name, both, Tree, and_of, or_of, optional, required, adjacent, item, many, subsection, suffix, skip, custom_usage, strict, Trees, no_trees, tree, Leaf, flag, argument}
 
--- where a tree stands: it is the whole; directly in a Strict or a CustomUsage; directly in a Required or an Optional; directly in an And, an Or or a Many
+-- where a tree stands: it is the whole; directly in a Strict or a CustomUsage; directly in a Required or an Optional;
+-- directly in an And, an Or or a Many
 pub data Place : Type 0 where
   whole : Place
   guarded : Place
@@ -104,7 +105,8 @@ abbrev mutual
   SomeHasCustomUsage no_trees = ⊥
   SomeHasCustomUsage (tree t ts) = HasCustomUsage t ⊎ SomeHasCustomUsage ts
 
--- a normal form has a Strict only where the tree has one, and wherever it has one outside usage, and in usage if the tree has no CustomUsage
+-- a normal form has a Strict only where the tree has one, and wherever it has one outside usage, and in usage if the
+-- tree has no CustomUsage
 pub record KeepsStrict (usage : Bool) (t n : Tree) : Type 0 where
   pub none_added : HasStrict n → HasStrict t
   pub none_lost : (IsTrue usage → ¬ HasCustomUsage t) → HasStrict t → HasStrict n

@@ -3,6 +3,7 @@ use Rattle.std.specs.Prelude.{ℕ, Bool, ◌||◌, if◌then◌else◌, List, []
 use Rattle.std.specs.Char.{is_ascii_digit}
 use Rattle.std.specs.List.{list_all, join_by}
 use Rattle.unicode.specs.Binary.{is_uppercase}
+use Rattle.bpaf_roff.specs.Bytes as byte
 use Rattle.bpaf_doc.specs.declared.buffer.Block.TheVariants as block
 use Rattle.bpaf_doc.specs.Buffer.Writes.{Write, plain, literal, metavar, inside, doc_writes}
 use Rattle.bpaf_meta.specs.Content.{Name, short, long, both, Tree, and_of, or_of, optional, required, adjacent, item, many, subsection, suffix, skip, custom_usage, strict, Trees, no_trees, tree, Leaf, any, positional, command, flag, argument}
@@ -11,11 +12,13 @@ use Rattle.bpaf_meta.specs.Meta.Normal.{normalized}
 
 -- an Uppercase character, an ASCII digit, `-` or `_`
 abbrev pub is_bare_character : ℕ → Bool
-is_bare_character c = is_uppercase c || is_ascii_digit c || c == 45 || c == 95
+is_bare_character c = is_uppercase c || is_ascii_digit c || c == byte.dash || c == byte.underscore
 
 -- a metavar of bare characters alone is written as it is, any other between `<` and `>`
 abbrev pub metavar_writes : List ℕ → List Write
-metavar_writes name = if list_all is_bare_character (chars name) then metavar name ∷ [] else metavar (codes "<") ∷ metavar name ∷ metavar (codes ">") ∷ []
+metavar_writes name =
+    if list_all is_bare_character (chars name) then metavar name ∷ []
+    else metavar (codes "<") ∷ metavar name ∷ metavar (codes ">") ∷ []
 
 -- the short form of a Short, else the long form
 abbrev pub name_writes : Name → List Write
@@ -56,5 +59,8 @@ abbrev mutual
   part_writes (tree t ts) = tree_writes t ∷ part_writes ts
 
 -- `write_meta`: the normal form of the tree, between Mono marks
+-- e.g. document_of (usage_writes false (item (argument (both 115 (codes "speed")) [] (codes "file") None None)))
+--     ≡ Start block.Mono ∷ Text (codes "--speed") style.Literal ∷ Text (codes "=") style.Text
+--     ∷ Text (codes "<file>") style.Metavar ∷ End block.Mono ∷ []
 abbrev pub usage_writes : (usage : Bool) → Tree → List Write
 usage_writes u t = inside block.Mono (tree_writes (normalized u t))

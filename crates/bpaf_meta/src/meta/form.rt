@@ -29,20 +29,14 @@ impl<'a, A: Allocator> Form<'a, A> {
     pub(crate) fn is_skip(&self) -> bool
         ensures { result ≡ is_skip_tree (form_of self.now) }
     {
-        match self {
-            Form::Skip => true,
-            _ => false,
-        }
+        matches!(self, Form::Skip)
     }
 
     pub(crate) fn is_command(&self) -> bool
         ensures { result ≡ is_command_tree (form_of self.now) }
     {
         match self {
-            Form::Item(item, _) => match **item {
-                Item::Command { .. } => true,
-                _ => false,
-            },
+            Form::Item(item, _) => matches!(**item, Item::Command { .. }),
             _ => false,
         }
     }

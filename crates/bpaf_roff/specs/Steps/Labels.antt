@@ -1,5 +1,5 @@
--- How a payload and its labels give pieces: each label has the place where its text ends, and a text begins where the one before it
--- ends.
+-- How a payload and its labels give pieces: each label has the place where its text ends, and a text begins where the
+-- one before it ends.
 use Rattle.std.specs.Prelude.{◌≡◌, ℕ, ◌+◌, ◌-◌, ◌≤◌, Bool, ◌&&◌, if◌then◌else◌, List, [], ◌∷◌, ◌++◌, length, take, drop, map}
 use Rattle.std.specs.List.{AllZip}
 use Rattle.std.specs.Str.{IsUtf8}
@@ -10,16 +10,21 @@ module _ {T : Type 0} where
   -- the pieces of a payload that begins at a place
   abbrev pub pieces_of : List (Label T) → ℕ → List ℕ → List (Piece T)
   pieces_of [] at payload = []
-  pieces_of (l ∷ ls) at payload = record { label = l.label; text = take (l.end - at) payload } ∷ pieces_of ls l.end (drop (l.end - at) payload)
+  pieces_of (l ∷ ls) at payload =
+      record { label = l.label; text = take (l.end - at) payload } ∷ pieces_of ls l.end (drop (l.end - at) payload)
 
   -- no text ends before it begins, all of them are the whole payload, and each cut falls between characters
   abbrev pub Cuts : List (Label T) → ℕ → List ℕ → Type 0
   Cuts [] at payload = payload ≡ []
-  Cuts (l ∷ ls) at payload = (at ≤ l.end) × (l.end - at ≤ length payload) × IsUtf8 (take (l.end - at) payload) × Cuts ls l.end (drop (l.end - at) payload)
+  Cuts (l ∷ ls) at payload =
+      (at ≤ l.end) × (l.end - at ≤ length payload) × IsUtf8 (take (l.end - at) payload)
+      × Cuts ls l.end (drop (l.end - at) payload)
 
-  -- the labels with one put last, whose text ends at a place: the last one lengthened if that is to be and the labels are equal
+  -- the labels with one put last, whose text ends at a place: the last one lengthened if that is to be and the labels
+  -- are equal
   abbrev pub followed_by : (T → T → Bool) → Bool → Label T → T → ℕ → List (Label T)
-  followed_by eq squash l t end = if squash && eq l.label t then record l { end = end } ∷ [] else l ∷ record { end = end; label = t } ∷ []
+  followed_by eq squash l t end =
+      if squash && eq l.label t then record l { end = end } ∷ [] else l ∷ record { end = end; label = t } ∷ []
 
   abbrev pub with_label : (T → T → Bool) → Bool → List (Label T) → T → ℕ → List (Label T)
   with_label eq squash [] t end = record { end = end; label = t } ∷ []
@@ -46,7 +51,8 @@ module _ {T : Type 0} where
   AreClones clones = AllZip (λ l m. (m.end ≡ l.end) × clones l.label m.label)
 
   -- clones of labels put last, moved on
-  pub record EndsInClones (clones : T → T → Type 0) (labels more : List (Label T)) (by : ℕ) (new : List (Label T)) : Type 0 where
+  pub record EndsInClones (clones : T → T → Type 0) (labels more : List (Label T)) (by : ℕ)
+      (new : List (Label T)) : Type 0 where
     pub copies : List (Label T)
     pub are_clones : AreClones clones more copies
     pub labels_then : new ≡ labels ++ shifted by copies

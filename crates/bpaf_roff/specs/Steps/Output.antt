@@ -14,7 +14,8 @@ KeepsFront old new = take (length old) new ≡ old
 abbrev pub OnlyAdds : Script → Script → Type 0
 OnlyAdds old new = record new { pieces = take (length old.pieces) new.pieces } ≡ old
 
--- some bytes that were written before, after which the output is at a line start or not: nothing, or a byte that is no newline
+-- some bytes that were written before, after which the output is at a line start or not: nothing, or a byte that is no
+-- newline
 abbrev pub written : Bool → List ℕ
 written true = []
 written false = 0 ∷ []
@@ -31,10 +32,12 @@ IsText label = label ≡ Special ⊎ label ≡ SpecialNoNewline
 abbrev pub StayUnder : Escape → List ℕ → Type 0
 StayUnder label bytes = (q : Apostrophes) (before : List ℕ) → text_after q before (map (Byte label) bytes) ≡ bytes
 
--- How a byte of a plain text is written behind another one: 0 as it is, 1 behind a backslash, 2 in a way of its own. That is so of an
--- apostrophe, and of a dot at a line start.
+-- How a byte of a plain text is written behind another one: 0 as it is, 1 behind a backslash, 2 in a way of its own.
+-- That is so of an apostrophe, and of a dot at a line start.
 abbrev pub mark : ℕ → ℕ → ℕ
-mark before b = (if b == apostrophe || (b == dot && before == newline) then 2 else 0) + (if b == backslash || b == dash then 1 else 0)
+mark before b =
+    (if b == apostrophe || (b == dot && before == newline) then 2 else 0)
+    + (if b == backslash || b == dash then 1 else 0)
 
 -- the mark of a byte of these, or 2
 abbrev pub IsMark : List ℕ → ℕ → ℕ → Type 0

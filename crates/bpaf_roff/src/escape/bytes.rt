@@ -5,10 +5,11 @@ ghost use Rattle.std.specs.Borrow.{Bor};
 ghost use Rattle.std.specs.Iterator.{IsFinite, Drains};
 ghost use Rattle.bpaf_roff.specs.Pieces.{Piece, piece_at};
 ghost use Rattle.bpaf_roff.specs.Roff.{piece};
-ghost use Rattle.bpaf_roff.specs.Escaping.{Byte, is_line_start, spaces_text, breaks, signs_of, text_after, escaped};
-ghost use Rattle.bpaf_roff.specs.Steps.Output.{KeepsFront, IsText, written};
+ghost use Rattle.bpaf_roff.specs.Escaping.{spaces_text, breaks, signs_of, escaped};
+ghost use Rattle.bpaf_roff.specs.Steps.Output.{KeepsFront, IsText};
+ghost use Rattle.bpaf_roff.specs.Steps.Contexts.{bytes_in, ends_in_line_start, text_in};
 
-use crate::escape::text::{BLOCK, ROOM, are_plain, fill, starts_line};
+use crate::escape::text::{BLOCK, Context, ROOM, are_plain, fill, starts_line};
 use crate::escape::{Apostrophes, Escape};
 use std::alloc::{AllocError, Allocator};
 
@@ -39,44 +40,33 @@ fn write_argument<A: Allocator>(out: &mut Vec<u8, A>, bytes: &[u8]) -> Result<()
 fn write_text<A: Allocator>(
     out: &mut Vec<u8, A>,
     room: &mut [u8; ROOM],
-    apostrophes: Apostrophes,
-    at_line_start: bool,
-    label: Escape,
+    context: Context,
     bytes: &[u8],
 ) -> Result<(), AllocError>
-    requires text { IsText label }
+    requires text { IsText context.label }
     requires short { length bytes.now ≤ BLOCK }
-    ensures ok { OnOk result (out.new.items
-        ≡ out.old.items ++ text_after apostrophes (written at_line_start) (map (Byte label) bytes.now)) }
+    ensures ok { OnOk result (out.new.items ≡ out.old.items ++ text_in context (bytes_in context bytes.now)) }
     ensures kept { KeepsFront out.old.items out.new.items }
 {
-    let end = fill(room, apostrophes, at_line_start, label, bytes);
+    let end = fill(room, context, bytes);
     out.extend_from_slice(&room[..end])
 }
 
 // The newline before a piece that begins a line. Answers whether a line starts there.
-fn write_break<A: Allocator>(
-    out: &mut Vec<u8, A>,
-    at_line_start: bool,
-    label: Escape,
-) -> Result<bool, AllocError>
-    ensures ok { OnOk result ((apostrophes : Apostrophes)
-        → out.new.items ≡ out.old.items
-        ++ text_after apostrophes (written at_line_start) (breaks label)) }
-    ensures line_start { IfOk result (λ after. (apostrophes : Apostrophes)
-        → after ≡ is_line_start (written at_line_start
-        ++ text_after apostrophes (written at_line_start) (breaks label))) }
+fn write_break<A: Allocator>(out: &mut Vec<u8, A>, context: Context) -> Result<bool, AllocError>
+    ensures ok { OnOk result (out.new.items ≡ out.old.items ++ text_in context (breaks context.label)) }
+    ensures line_start { IfOk result (λ after. after ≡ ends_in_line_start context (breaks context.label)) }
     ensures kept { KeepsFront out.old.items out.new.items }
 {
-    match label {
+    match context.label {
         Escape::UnescapedAtNewline => {
-            if !at_line_start {
+            if !context.at_line_start {
                 out.push(b'\n')?;
             }
             Ok(true)
         }
         Escape::Spaces | Escape::Special | Escape::SpecialNoNewline | Escape::Unescaped => {
-            Ok(at_line_start)
+            Ok(context.at_line_start)
         }
     }
 }
@@ -87,17 +77,14 @@ fn write_break<A: Allocator>(
 fn write_bytes<A: Allocator>(
     out: &mut Vec<u8, A>,
     room: &mut [u8; ROOM],
-    apostrophes: Apostrophes,
-    at_line_start: bool,
-    label: Escape,
+    context: Context,
     bytes: &[u8],
 ) -> Result<(), AllocError>
     requires short { length bytes.now ≤ BLOCK }
-    ensures ok { OnOk result (out.new.items
-        ≡ out.old.items ++ text_after apostrophes (written at_line_start) (map (Byte label) bytes.now)) }
+    ensures ok { OnOk result (out.new.items ≡ out.old.items ++ text_in context (bytes_in context bytes.now)) }
     ensures kept { KeepsFront out.old.items out.new.items }
 {
-    match label {
+    match context.label {
         Escape::UnescapedAtNewline | Escape::Unescaped => out.extend_from_slice(bytes),
         Escape::Spaces => write_argument(out, bytes),
         Escape::Special => {
@@ -107,9 +94,10 @@ fn write_bytes<A: Allocator>(
             write_text(
                 out,
                 room,
-                apostrophes,
-                at_line_start,
-                Escape::Special,
+                Context {
+                    label: Escape::Special,
+                    ..context
+                },
                 bytes,
             )
         }
@@ -117,9 +105,10 @@ fn write_bytes<A: Allocator>(
             write_text(
                 out,
                 room,
-                apostrophes,
-                at_line_start,
-                Escape::SpecialNoNewline,
+                Context {
+                    label: Escape::SpecialNoNewline,
+                    ..context
+                },
                 bytes,
             )
         }
@@ -131,21 +120,16 @@ fn write_bytes<A: Allocator>(
 fn write_block<A: Allocator>(
     out: &mut Vec<u8, A>,
     room: &mut [u8; ROOM],
-    apostrophes: Apostrophes,
-    at_line_start: bool,
-    label: Escape,
+    context: Context,
     block: &[u8],
 ) -> Result<bool, AllocError>
     requires short { length block.now ≤ BLOCK }
-    ensures ok { OnOk result (out.new.items
-        ≡ out.old.items ++ text_after apostrophes (written at_line_start) (map (Byte label) block.now)) }
-    ensures line_start { IfOk result (λ after. after
-        ≡ is_line_start (written at_line_start
-        ++ text_after apostrophes (written at_line_start) (map (Byte label) block.now))) }
+    ensures ok { OnOk result (out.new.items ≡ out.old.items ++ text_in context (bytes_in context block.now)) }
+    ensures line_start { IfOk result (λ after. after ≡ ends_in_line_start context (bytes_in context block.now)) }
     ensures kept { KeepsFront out.old.items out.new.items }
 {
-    write_bytes(out, room, apostrophes, at_line_start, label, block)?;
-    Ok(starts_line(at_line_start, label, block))
+    write_bytes(out, room, context, block)?;
+    Ok(starts_line(context, block))
 }
 
 /// Answers whether a line starts after the piece. The room is for what blocks become: to clear it for each would take time.
@@ -153,27 +137,40 @@ fn write_block<A: Allocator>(
 pub(crate) fn write_piece<A: Allocator>(
     out: &mut Vec<u8, A>,
     room: &mut [u8; ROOM],
-    apostrophes: Apostrophes,
-    at_line_start: bool,
-    label: Escape,
+    context: Context,
     text: &str,
 ) -> Result<bool, AllocError>
     ensures ok { OnOk result (out.new.items
-        ≡ out.old.items ++ text_after apostrophes (written at_line_start) (signs_of (piece label text.now))) }
+        ≡ out.old.items ++ text_in context (signs_of (piece context.label text.now))) }
     ensures line_start { IfOk result (λ after. after
-        ≡ is_line_start (written at_line_start
-        ++ text_after apostrophes (written at_line_start) (signs_of (piece label text.now)))) }
+        ≡ ends_in_line_start context (signs_of (piece context.label text.now))) }
     ensures kept { KeepsFront out.old.items out.new.items }
     ensures utf8 { IsUtf8 text.now }
 {
-    let mut line_start = write_break(out, at_line_start, label)?;
+    let mut at_line_start = write_break(out, context)?;
     let mut rest = text.as_bytes();
     while rest.len() >= BLOCK {
         let (block, after) = rest.split_at(BLOCK);
-        line_start = write_block(out, room, apostrophes, line_start, label, block)?;
+        at_line_start = write_block(
+            out,
+            room,
+            Context {
+                at_line_start,
+                ..context
+            },
+            block,
+        )?;
         rest = after;
     }
-    let after = write_block(out, room, apostrophes, line_start, label, rest)?;
+    let after = write_block(
+        out,
+        room,
+        Context {
+            at_line_start,
+            ..context
+        },
+        rest,
+    )?;
     Ok(after)
 }
 
@@ -196,7 +193,12 @@ pub fn escape<'a, I: Iterator<Item = (&'a Escape, &'a str)> + Drop, A: Allocator
     let mut room = [0; ROOM];
     let mut at_line_start = true;
     for (label, text) in items {
-        match write_piece(out, &mut room, apostrophes, at_line_start, *label, text) {
+        let context = Context {
+            apostrophes,
+            at_line_start,
+            label: *label,
+        };
+        match write_piece(out, &mut room, context, text) {
             Ok(after) => at_line_start = after,
             Err(refused) => {
                 out.truncate(start);

@@ -5,8 +5,8 @@ ghost use Rattle.std.specs.Prelude.{◌≡◌, ◌<◌, ◌≤◌, ◌+◌, ◌+
 ghost use Rattle.std.specs.Prelude.{if◌then◌else◌};
 ghost use Rattle.std.specs.List.{list_all};
 ghost use Rattle.bpaf_roff.specs.Escaping.{Byte, is_line_start, guard, apostrophe_text, special_text, byte_text};
-ghost use Rattle.bpaf_roff.specs.Escaping.{text_after};
 ghost use Rattle.bpaf_roff.specs.Steps.Output.{IsText, AreMarks, IsMark, is_plain, mark, written};
+ghost use Rattle.bpaf_roff.specs.Steps.Contexts.{byte_text_in, bytes_in, ends_in_line_start, text_in};
 
 use crate::escape::{Apostrophes, Escape};
 
@@ -15,6 +15,16 @@ pub const BLOCK: usize = 65;
 
 /// What a block becomes at most: `\&\*(Aq` for each byte.
 pub const ROOM: usize = 7 * BLOCK;
+
+/// What the bytes of a text become depends on it.
+#[derive(Clone, Copy)]
+pub struct Context {
+    pub apostrophes: Apostrophes,
+    /// Whether the output is at a line start before the text.
+    pub at_line_start: bool,
+    /// What the text stands under.
+    pub label: Escape,
+}
 
 // Whether the output is at a line start after a byte, whatever was written before.
 fn ends_line(label: Escape, byte: u8) -> bool
@@ -29,14 +39,12 @@ fn ends_line(label: Escape, byte: u8) -> bool
 
 /// Whether a line starts after these bytes.
 #[inline(always)]
-pub fn starts_line(at_line_start: bool, label: Escape, bytes: &[u8]) -> bool
-    ensures { (apostrophes : Apostrophes) → result
-        ≡ is_line_start (written at_line_start
-        ++ text_after apostrophes (written at_line_start) (map (Byte label) bytes.now)) }
+pub fn starts_line(context: Context, bytes: &[u8]) -> bool
+    ensures { result ≡ ends_in_line_start context (bytes_in context bytes.now) }
 {
     match bytes.split_last() {
-        Some((last, _)) => ends_line(label, *last),
-        None => at_line_start,
+        Some((last, _)) => ends_line(context.label, *last),
+        None => context.at_line_start,
     }
 }
 
@@ -189,31 +197,19 @@ fn put_sign(
 
 // Puts what the byte at an index becomes, whatever it is.
 #[inline(always)]
-fn put_byte(
-    room: &mut [u8; ROOM],
-    at: usize,
-    apostrophes: Apostrophes,
-    at_line_start: bool,
-    label: Escape,
-    bytes: &[u8],
-    index: usize,
-) -> usize
-    requires text { IsText label }
+fn put_byte(room: &mut [u8; ROOM], at: usize, context: Context, bytes: &[u8], index: usize) -> usize
+    requires text { IsText context.label }
     requires within { index < length bytes.now }
     requires fits { at + 7 ≤ ROOM }
     ensures next { result ≤ at + 7 }
-    ensures text { take result room.new ≡ take at room.old ++ byte_text apostrophes
-        (written at_line_start
-        ++ text_after apostrophes (written at_line_start) (map (Byte label) (take index bytes.now)))
-        label (slice_index bytes.now index) }
+    ensures text { take result room.new ≡ take at room.old ++ byte_text_in context bytes.now index }
 {
-    let byte = shown(label, bytes[index]);
-    let line_start = starts_line(at_line_start, label, &bytes[..index]);
-    put_sign(room, at, apostrophes, line_start, byte)
+    let byte = shown(context.label, bytes[index]);
+    let line_start = starts_line(context, &bytes[..index]);
+    put_sign(room, at, context.apostrophes, line_start, byte)
 }
 
-// A byte with a backslash before it where its mark is 1. That one is put in either case, and the byte over it or behind
-// it: a branch on the byte would often be guessed wrong.
+// A byte with a backslash before it where its mark is 1, put as `put_escaped` puts it.
 #[inline(always)]
 fn put_marked(room: &mut [u8; ROOM], at: usize, mark: u8, byte: u8) -> usize
     requires mark { mark < ODD }
@@ -228,64 +224,43 @@ fn put_marked(room: &mut [u8; ROOM], at: usize, mark: u8, byte: u8) -> usize
     start + 1
 }
 
-// The same as `put_byte` for a byte with this mark.
+// Puts what the byte at an index becomes, by its mark where that says it.
 #[inline(always)]
 fn put_at(
     room: &mut [u8; ROOM],
     at: usize,
-    apostrophes: Apostrophes,
-    at_line_start: bool,
-    label: Escape,
+    context: Context,
     bytes: &[u8],
     index: usize,
     mark: u8,
 ) -> usize
-    requires text { IsText label }
+    requires text { IsText context.label }
     requires within { index < length bytes.now }
     requires fits { at + 7 ≤ ROOM }
     requires mark { IsMark bytes.now index mark }
     ensures next { result ≤ at + 7 }
-    ensures text { take result room.new ≡ take at room.old ++ byte_text apostrophes
-        (written at_line_start
-        ++ text_after apostrophes (written at_line_start) (map (Byte label) (take index bytes.now)))
-        label (slice_index bytes.now index) }
+    ensures text { take result room.new ≡ take at room.old ++ byte_text_in context bytes.now index }
 {
     if mark >= ODD {
-        return put_byte(room, at, apostrophes, at_line_start, label, bytes, index);
+        return put_byte(room, at, context, bytes, index);
     }
-    put_marked(room, at, mark, shown(label, bytes[index]))
+    put_marked(room, at, mark, shown(context.label, bytes[index]))
 }
 
 /// Puts what a text becomes at the start of the room, and answers how many bytes these are.
 #[inline(always)]
 #[tactic(auto, using(crate::proofs::lemmas::Written::front_text_more))]
-pub fn fill(
-    room: &mut [u8; ROOM],
-    apostrophes: Apostrophes,
-    at_line_start: bool,
-    label: Escape,
-    bytes: &[u8],
-) -> usize
-    requires text { IsText label }
+pub fn fill(room: &mut [u8; ROOM], context: Context, bytes: &[u8]) -> usize
+    requires text { IsText context.label }
     requires short { length bytes.now ≤ BLOCK }
     ensures fits { result ≤ ROOM }
-    ensures text { take result room.new
-        ≡ text_after apostrophes (written at_line_start) (map (Byte label) bytes.now) }
+    ensures text { take result room.new ≡ text_in context (bytes_in context bytes.now) }
 {
     let mut marks = [ODD; BLOCK];
     mark_all(&mut marks, bytes);
     let mut end = 0;
     for index in 0..bytes.len() {
-        end = put_at(
-            room,
-            end,
-            apostrophes,
-            at_line_start,
-            label,
-            bytes,
-            index,
-            marks[index],
-        );
+        end = put_at(room, end, context, bytes, index, marks[index]);
     }
     end
 }

@@ -1,5 +1,6 @@
-//! What a page asks for ahead of its text is little: an arena has room for no more than so many times what it writes.
-//! The bytes of its document times the parts of it are more than an arena has.
+//! What a page asks for ahead of its text is little, and what a document asks for the parts of another: an arena has room
+//! for no more than so many times what is written. The bytes of a document times its parts are more than an arena has,
+//! and so are its parts times its parts.
 use crate::arenas::{leave, little, roomy};
 use crate::doc::pages::{Page, text_of};
 use bpaf_doc::buffer::Doc;
@@ -25,6 +26,18 @@ const FORMS: &[(Form, &str)] = &[
     (Form::Page(Page::Roff), "a roff"),
     (Form::Rendered, "a roff of pieces"),
 ];
+
+// How many bytes a part takes beside its text.
+const PART: usize = 16;
+
+// How a document is put into another.
+#[derive(Clone, Copy)]
+enum Put {
+    Inline,
+    Titled,
+}
+
+const PUTS: &[(Put, &str)] = &[(Put::Inline, "inline"), (Put::Titled, "with a title")];
 
 // A text that hides in brief the two hundred behind it.
 fn many_texts<A: Allocator + Copy>(rt: &impl Abort, alloc: A) -> Doc<A> {
@@ -91,5 +104,44 @@ fn takes_little(rt: &impl Abort, out: Global, form: Form) -> bool {
 fn pages_take_little_more_than_they_write(rt: HostRuntime) {
     for &(form, name) in FORMS {
         assert!(rt; takes_little(&rt, rt.alloc(), form), "{name}");
+    }
+}
+
+fn is_put<A: Allocator>(doc: &mut Doc<A>, other: &Doc<Global>, put: Put) -> bool {
+    match put {
+        Put::Inline => doc.doc(other).is_ok(),
+        Put::Titled => doc.em_doc(other).is_ok(),
+    }
+}
+
+// How many bytes a document has into which another was put.
+fn length_with(rt: &impl Abort, out: Global, other: &Doc<Global>, put: Put) -> usize {
+    let mut doc = Doc::new(out);
+    assert!(rt; is_put(&mut doc, other, put));
+    let length = doc
+        .len()
+        .saturating_mul(PART)
+        .saturating_add(doc.text_len());
+    drop(doc);
+    length
+}
+
+fn puts_little(rt: &impl Abort, out: Global, put: Put) -> bool {
+    let other = many_texts(rt, out);
+    let room = little(length_with(rt, out, &other, put));
+    let arena = roomy(rt, out);
+    leave(rt, &arena, room);
+    let mut doc = Doc::new(&arena);
+    let is_put = is_put(&mut doc, &other, put);
+    drop(doc);
+    drop(arena);
+    drop(other);
+    is_put
+}
+
+#[test]
+fn a_document_in_another_takes_little_more_than_it_has(rt: HostRuntime) {
+    for &(put, name) in PUTS {
+        assert!(rt; puts_little(&rt, rt.alloc(), put), "{name}");
     }
 }

@@ -7,11 +7,12 @@ use Rattle.bpaf_doc.specs.declared.buffer.Style.TheVariants as style
 use Rattle.bpaf_doc.specs.declared.buffer.Block.{Block}
 use Rattle.bpaf_doc.specs.declared.buffer.Block.TheVariants as block
 use Rattle.bpaf_doc.specs.Buffer.Parts.{Part, Text, Start, End, document_ink}
-use Rattle.bpaf_doc.specs.Splitter.Chunks.{chunks_of, chunks_in, chunks_within}
+use Rattle.bpaf_doc.specs.Splitter.Chunks.{Raw, columns, chunks_of, chunks_in, chunks_within}
 use Rattle.bpaf_doc.specs.Shown.{console_ink}
 use Rattle.bpaf_doc.specs.Console.Exact.{console_page}
 use Rattle.bpaf_doc.specs.Console.Ink.{backquoted_ink}
-use Rattle.bpaf_doc.specs.Console.Margin.{greatest_margin}
+use Rattle.bpaf_doc.specs.Console.Layout.{Stretch, Gap, Placed, Passed, Shows, text_of, events_of, shown_events, column}
+use Rattle.bpaf_doc.specs.Console.Margin.{term_length, margin, greatest_margin}
 
 -- what has to unfold to compute the page of an ASCII document
 unfoldable pub computed : ℕ
@@ -86,3 +87,25 @@ row_ink : document_ink referenced ≡ codes "abcde"
     × console_ink false referenced ≡ codes "a`bc`d"
 unfolding computed
 row_ink = (refl, refl, refl, refl)
+
+row_mark : console_ink true (inside block.TermRef (words (codes "b c"))) ≡ codes "`bc`"
+unfolding computed
+row_mark = refl
+
+-- the length of a term, and the margin in a term in a section
+row_margin : term_length (inside block.ItemTerm (words (codes "--a"))) ≡ 3
+    × margin (Start block.Section3 ∷ Start block.ItemTerm ∷ words (codes "a")) 2 ≡ 6
+unfolding computed
+row_margin = (refl, refl)
+
+-- a small page with its placing
+abbrev word_at : List ℕ → Stretch
+word_at bytes = Placed (record { part = 0; bytes = bytes; weight = columns bytes; shown = bytes })
+
+row_placing : console_page true 3 (words (codes "a bc")) ≡ codes "a\nbc"
+    × text_of (word_at (codes "a") ∷ Passed (Shows 0 (Raw (codes " ") 1)) ∷ Gap 10 ∷ word_at (codes "bc") ∷ []) ≡ codes "a\nbc"
+    × shown_events true (words (codes "a bc")) ≡ Shows 0 (Raw (codes "a") 1) ∷ Shows 0 (Raw (codes " ") 1) ∷ Shows 0 (Raw (codes "bc") 2) ∷ []
+    × events_of (word_at (codes "a") ∷ Passed (Shows 0 (Raw (codes " ") 1)) ∷ Gap 10 ∷ word_at (codes "bc") ∷ []) ≡ shown_events true (words (codes "a bc"))
+    × column (word_at (codes "a") ∷ Passed (Shows 0 (Raw (codes " ") 1)) ∷ Gap 10 ∷ []) ≡ 0
+unfolding computed
+row_placing = (refl, refl, refl, refl, refl)

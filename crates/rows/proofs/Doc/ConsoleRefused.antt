@@ -283,18 +283,18 @@ module _ {document : List Part} {full : Bool} {width : ℕ} {text : List ℕ} (l
   module _ (small : width < 1_000_000) (clear : BeginsClear (shown_events full document)) where
     abbrev alone : Law layout
     alone = by_two (λ before e between f. is_whole_line (chunk_at e) && not (list_any is_newline between))
-        (λ p. clash (is_whole_line (chunk_at p.e)) (list_any is_newline p.between) p.holds (layout.alone small clear p.before p.between p.after p.e p.f p.order))
+        (λ p. clash (is_whole_line (chunk_at p.e)) (list_any is_newline p.between) p.holds ((layout.lines small clear).alone p.before p.between p.after p.e p.f p.order))
 
     abbrev fits : Law layout
     fits = by_one (λ before f. list_any holds_line (line_before before)) (λ before f. leb (column before + columns f.bytes) (width + padding before))
-        (λ before after f order held. le-leb (column before + columns f.bytes) (width + padding before) (layout.fits small clear before after f order held))
+        (λ before after f order held. le-leb (column before + columns f.bytes) (width + padding before) ((layout.lines small clear).fits before after f order held))
 
     abbrev padded : Law layout
     padded = record {
       breaks = some_cut (λ before x after. is_blank x && not (leads_to_place after)) [];
       never = λ h.
           let p = cut_from (λ before x after. is_blank x && not (leads_to_place after)) [] layout.stretches h in
-          clash (is_blank p.at) (leads_to_place p.after) p.holds (λ b. (layout.padded small clear).before_place p.before p.after (p.order ∙ ap (λ x. p.before ++ x ∷ p.after) (blank_is p.at b)));
+          clash (is_blank p.at) (leads_to_place p.after) p.holds (λ b. (layout.lines small clear).padded.before_place p.before p.after (p.order ∙ ap (λ x. p.before ++ x ∷ p.after) (blank_is p.at b)));
     }
 
     abbrev keeps_margin : Law layout
@@ -302,7 +302,7 @@ module _ {document : List Part} {full : Bool} {width : ℕ} {text : List ℕ} (l
         (λ before after f order t.
         let parts = and_parts (is_inked (chunk_at f)) (not (list_any is_inked_stretch (line_before before)) && not (list_any is_raw_or_ref (events_since_ink before))) t in
         let first = and_parts (not (list_any is_inked_stretch (line_before before))) (not (list_any is_raw_or_ref (events_since_ink before))) parts.1 in
-        eq-eqb (column before) (margin document f.part) ((layout.margin small clear).exact before after f order parts.0 first.0 (inl first.1)))
+        eq-eqb (column before) (margin document f.part) ((layout.lines small clear).margin.exact before after f order parts.0 first.0 (inl first.1)))
 
     abbrev room : Law layout
     room = by_apart (λ before e between f. not (list_any is_inked_stretch between) && (not (list_any asks_newline (events_of between)) && list_any is_newline between))
@@ -310,7 +310,7 @@ module _ {document : List Part} {full : Bool} {width : ℕ} {text : List ℕ} (l
         (λ before between e f apart t.
         let parts = and_parts (not (list_any is_inked_stretch between)) (not (list_any asks_newline (events_of between)) && list_any is_newline between) t in
         let line = and_parts (not (list_any asks_newline (events_of between))) (list_any is_newline between) parts.1 in
-        lt-ltb width (column before + e.weight + sum_by room_of (events_of between) + columns f.bytes + (if e.part == f.part then 0 else greatest_margin document)) (layout.room small clear before between e f apart parts.0 line.0 line.1))
+        lt-ltb width (column before + e.weight + sum_by room_of (events_of between) + columns f.bytes + (if e.part == f.part then 0 else greatest_margin document)) ((layout.lines small clear).room before between e f apart parts.0 line.0 line.1))
 
     abbrev needed : Law layout
     needed = by_apart (λ before e between f. (is_ordinary (chunk_at e) && is_ordinary (chunk_at f)) && (list_all is_light (events_of between) && list_any is_newline between))
@@ -319,7 +319,7 @@ module _ {document : List Part} {full : Bool} {width : ℕ} {text : List ℕ} (l
         let parts = and_parts (is_ordinary (chunk_at e) && is_ordinary (chunk_at f)) (list_all is_light (events_of between) && list_any is_newline between) t in
         let ordinary = and_parts (is_ordinary (chunk_at e)) (is_ordinary (chunk_at f)) parts.0 in
         let line = and_parts (list_all is_light (events_of between)) (list_any is_newline between) parts.1 in
-        lt-ltb width (column before + columns e.bytes + sum_by event_columns (events_of between) + columns f.bytes) (layout.needed small clear before between e f apart ordinary.0 ordinary.1 (inl line.0) line.1))
+        lt-ltb width (column before + columns e.bytes + sum_by event_columns (events_of between) + columns f.bytes) ((layout.lines small clear).needed before between e f apart ordinary.0 ordinary.1 (inl line.0) line.1))
 
 -- an empty code line that a break stands before, and one that nothing stands before
 begins_with_a_break : BeginsClear (shown_events true (words (codes "\n\n    \nx")))

@@ -41,3 +41,7 @@ inner : shown_fragments false (Words (codes "\n\n") Text ∷ PartStart InlineBlo
     ≡ TextStart Text ∷ TextEnd Text ∷ Start InlineBlock ∷ Hidden ∷ End InlineBlock ∷ Hidden ∷ End InlineBlock ∷ TextStart Text ∷ Shown Text (Raw (codes "z") 1) ∷ TextEnd Text ∷ []
 unfolding computed
 inner = refl
+
+hidden-text : shown_fragments false (Words (codes "a\n\nb") Text ∷ Words (codes "c") Text ∷ []) ≡ TextStart Text ∷ Shown Text (Raw (codes "a") 1) ∷ TextEnd Text ∷ Hidden ∷ []
+unfolding computed
+hidden-text = refl

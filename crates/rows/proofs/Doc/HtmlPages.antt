@@ -94,3 +94,7 @@ ill_nested = (refl, refl, refl, refl, refl)
 code : ShowsFull (Words (codes "x\n\n    c\n    d\ny") Text ∷ []) (codes "x<br>\ncd y")
 unfolding computed
 code = refl
+
+spelled : html_page true false (Words (codes "a<b") Literal ∷ []) ≡ codes "<tt><b>a&lt;b</b></tt>"
+unfolding computed
+spelled = refl

@@ -89,3 +89,7 @@ code_lines = (refl, refl, refl)
 -- a word of the weight of a code line
 wide_word : markdown_after [] [] (TextStart Text ∷ Shown Text (Raw (codes "aaa") code_weight) ∷ TextEnd Text ∷ []) ≡ codes "\n\n  ```text\n  aaa\n  ```\n"
 wide_word = refl
+
+term : markdown_page true (block ItemTerm (Words (codes "-a") Literal ∷ [])) ≡ codes "- **`-a`**"
+unfolding computed
+term = refl

@@ -14,10 +14,12 @@ part_with (kind.Text style) bytes = Text bytes style
 part_with (kind.Start b) bytes = Start b
 part_with (kind.End b) bytes = End b
 
--- The parts with these ends, where `rest` is the payload from `start` on: each reaches from the end before it to its own.
+-- The parts with these ends, where `rest` is the payload from `start` on: each reaches from the end before it to its
+-- own.
 abbrev pub parts_from : ℕ → List PartEnd → List ℕ → List Part
 parts_from start [] rest = []
-parts_from start (e ∷ es) rest = part_with e.kind (take (e.end - start) rest) ∷ parts_from e.end es (drop (e.end - start) rest)
+parts_from start (e ∷ es) rest =
+    part_with e.kind (take (e.end - start) rest) ∷ parts_from e.end es (drop (e.end - start) rest)
 
 -- a text may have any number of bytes, and a mark has none
 abbrev pub MayTake : Kind → ℕ → Type 0

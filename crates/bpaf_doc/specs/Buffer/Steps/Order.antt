@@ -8,15 +8,25 @@ use Rattle.bpaf_doc.specs.Buffer.Parts.{Part, part_bytes}
 use Rattle.bpaf_doc.specs.Buffer.Equality.{kind_number, label_number, same_text, same_part, same_document, part_cmp, document_cmp}
 
 pub documents_equiv : IsEquivalence same_document
-documents_equiv = lists_equiv (and_equiv (on_equiv kind_number nat_eq_equiv) (and_equiv (on_equiv part_bytes nat_list_eq_equiv) (on_equiv label_number nat_eq_equiv)))
+documents_equiv =
+    lists_equiv (and_equiv (on_equiv kind_number nat_eq_equiv)
+    (and_equiv (on_equiv part_bytes nat_list_eq_equiv) (on_equiv label_number nat_eq_equiv)))
 
 pub documents_total : IsTotalOrder document_cmp
-documents_total = lists_total (then_total (on_total kind_number nat_cmp_total) (then_total (on_total part_bytes nat_list_cmp_total) (on_total label_number nat_cmp_total)))
+documents_total =
+    lists_total (then_total (on_total kind_number nat_cmp_total)
+    (then_total (on_total part_bytes nat_list_cmp_total) (on_total label_number nat_cmp_total)))
 
 part_tied : (x y : Part) → same_part x y ≡ eq_by_cmp part_cmp x y
 part_tied x y =
-    both_tied (kind_number x == kind_number y) (same_text (part_bytes x) (part_bytes y) && (label_number x == label_number y)) (nat_cmp (kind_number x) (kind_number y)) (then_cmp (on part_bytes (slice_cmp nat_cmp)) (on label_number nat_cmp) x y) (unsigned_ties (kind_number x) (kind_number y))
-    (both_tied (same_text (part_bytes x) (part_bytes y)) (label_number x == label_number y) (slice_cmp nat_cmp (part_bytes x) (part_bytes y)) (nat_cmp (label_number x) (label_number y)) (texts_ties (part_bytes x) (part_bytes y)) (unsigned_ties (label_number x) (label_number y)))
+    both_tied (kind_number x == kind_number y)
+    (same_text (part_bytes x) (part_bytes y) && (label_number x == label_number y))
+    (nat_cmp (kind_number x) (kind_number y))
+    (then_cmp (on part_bytes (slice_cmp nat_cmp)) (on label_number nat_cmp) x y)
+    (unsigned_ties (kind_number x) (kind_number y))
+    (both_tied (same_text (part_bytes x) (part_bytes y)) (label_number x == label_number y)
+    (slice_cmp nat_cmp (part_bytes x) (part_bytes y)) (nat_cmp (label_number x) (label_number y))
+    (texts_ties (part_bytes x) (part_bytes y)) (unsigned_ties (label_number x) (label_number y)))
 
 -- the order agrees with equality
 pub documents_tied : (ps qs : List Part) → same_document ps qs ≡ eq_by_cmp document_cmp ps qs

@@ -15,8 +15,8 @@ abbrev pub is_inline : Block → Bool
 is_inline blocks.InlineBlock = true
 is_inline _ = false
 
--- How many inline blocks have to end before texts are shown again, 0 where they are shown: the count after the start of a
--- block, after an end, and after any part, from the count before it.
+-- How many inline blocks have to end before texts are shown again, 0 where they are shown: the count after the start of
+-- a block, after an end, and after any part, from the count before it.
 abbrev pub hidden_from_start : ℕ → Block → ℕ
 hidden_from_start hidden b = if not (hidden == 0) && is_inline b then hidden + 1 else hidden
 

@@ -1,14 +1,15 @@
--- A console page, step by step, as the private functions leave it: the page so far of the exact rules, and what the code carries
--- beside it. Nothing here has to be believed.
+-- A console page, step by step, as the private functions leave it: the page so far of the exact rules, and what the
+-- code carries beside it. Nothing here has to be believed.
 use Rattle.std.specs.Prelude.{◌≡◌, ℕ, ◌+◌, ◌-◌, ◌<◌, ◌≤◌, ◌==◌, Bool, false, not, ◌&&◌, List, [], ◌∷◌, ◌++◌, Option, Some, None, unwrap_or, length, take, nat_eq, nat_lt, string_bytes, if◌then◌else◌}
 use Rattle.std.specs.List.{slice_get, ends_with}
 use Rattle.std.specs.Str.{trim_end, bytes_eq}
+use Rattle.bpaf_roff.specs.Bytes as byte
 use Rattle.bpaf_doc.specs.declared.buffer.Block.TheVariants as blocks
 use Rattle.bpaf_doc.specs.declared.buffer.Block.{Block}
 use Rattle.bpaf_doc.specs.declared.console.page.Asked.TheVariants as asked
 use Rattle.bpaf_doc.specs.declared.console.page.Asked.{Asked}
 use Rattle.bpaf_doc.specs.declared.console.page.Page.{Page}
-use Rattle.bpaf_doc.specs.Splitter.Chunks.{Chunk, Raw, Paragraph, LineBreak, columns}
+use Rattle.bpaf_doc.specs.Splitter.Chunks.{Chunk, Raw, Paragraph, LineBreak, code_weight, columns}
 use Rattle.bpaf_doc.specs.Console.Exact.{Request, NoBreak, NewLine, BlankLine, PageSoFar, saturated, empty_page, asks_line, asks_blank_line, on_new_line, with_blanks, request_met, wrapped, placed, start_put, end_put}
 
 abbrev pub request_of : Asked → Request
@@ -24,7 +25,8 @@ pub record Sheet : Type 0 where
   pub margins : List ℕ
 
 abbrev pub page_of : {B : Type 0} → Page B → PageSoFar
-page_of p = record { text = string_bytes p.out; column = p.column; request = request_of p.asked; is_pending = p.at_body }
+page_of p =
+    record { text = string_bytes p.out; column = p.column; request = request_of p.asked; is_pending = p.at_body }
 
 abbrev pub sheet_of : {B : Type 0} → Page B → Sheet
 sheet_of p = record { page = page_of p; width = p.width; tab_stop = p.tab_stop; margins = p.margins.items }
@@ -40,7 +42,8 @@ on step s = record s { page = step s.page }
 abbrev pub margin_of : Sheet → ℕ
 margin_of s = unwrap_or (slice_get s.margins (length s.margins - 1)) 0
 
--- some text stands, and the next stands right behind it: the line has room, nothing is asked for, and no margin is missing
+-- some text stands, and the next stands right behind it: the line has room, nothing is asked for, and no margin is
+-- missing
 pub record IsWithinLine (s : Sheet) : Type 0 where
   pub nothing_asked : s.page.request ≡ NoBreak
   pub no_body : s.page.is_pending ≡ false
@@ -54,7 +57,7 @@ pub record IsPastLine (s : Sheet) : Type 0 where
   pub no_body : s.page.is_pending ≡ false
   pub some : 0 < length s.page.text
   pub past : s.width < s.page.column
-  pub narrow : s.width < 1000000
+  pub narrow : s.width < code_weight
 
 -- a line was begun behind the last ink, and behind its margin no more than one blank fits
 pub record DropsBlanks (s : Sheet) : Type 0 where
@@ -68,10 +71,11 @@ pub record DropsBlanks (s : Sheet) : Type 0 where
 
 -- where a break, or an empty line, is asked for and does not stand at the end
 abbrev pub lacks_newline : PageSoFar → Bool
-lacks_newline page = asks_line page.request && not (ends_with nat_eq page.text (10 ∷ []))
+lacks_newline page = asks_line page.request && not (ends_with nat_eq page.text (byte.newline ∷ []))
 
 abbrev pub lacks_blank_line : PageSoFar → Bool
-lacks_blank_line page = asks_blank_line page.request && not (ends_with nat_eq page.text (10 ∷ 10 ∷ []))
+lacks_blank_line page =
+    asks_blank_line page.request && not (ends_with nat_eq page.text (byte.newline ∷ byte.newline ∷ []))
 
 -- the line is broken where these columns do not fit
 abbrev pub has_no_room : ℕ → ℕ → PageSoFar → Bool
@@ -81,30 +85,36 @@ abbrev pub wraps : ℕ → ℕ → PageSoFar → Bool
 wraps width more page = not (length page.text == 0) && has_no_room width more (request_met page)
 
 abbrev pub room_made : ℕ → ℕ → PageSoFar → PageSoFar
-room_made width more page = if length page.text == 0 then page else if has_no_room width more (request_met page) then wrapped (request_met page) else request_met page
+room_made width more page =
+    if length page.text == 0 then page
+    else if has_no_room width more (request_met page) then wrapped (request_met page)
+    else request_met page
 
 -- a code line on a line of its own
 abbrev pub code_put : ℕ → List ℕ → PageSoFar → PageSoFar
 code_put margin line page =
     let p : PageSoFar = with_blanks margin (wrapped page) in
-    record p { text = p.text ++ line; column = saturated (p.column + 1000000) }
+    record p { text = p.text ++ line; column = saturated (p.column + code_weight) }
 
 -- the columns of a Raw chunk by its weight, unless it is a code or fence line
 abbrev pub columns_of : List ℕ → ℕ → ℕ
-columns_of raw weight = if nat_lt weight 1000000 then weight else columns raw
+columns_of raw weight = if nat_lt weight code_weight then weight else columns raw
 
 -- a Raw chunk, or no blank where it does not fit
 unfoldable pub raw_put : ℕ → ℕ → List ℕ → ℕ → PageSoFar → PageSoFar
 raw_put width margin raw weight page =
-    if wraps width (columns_of raw weight) page && bytes_eq raw (32 ∷ []) then room_made width (columns_of raw weight) page
+    if wraps width (columns_of raw weight) page && bytes_eq raw (byte.blank ∷ [])
+    then room_made width (columns_of raw weight) page
     else placed margin raw weight (room_made width (columns_of raw weight) page)
 
 -- the chunks of a text, in brief through the first paragraph break
 abbrev pub chunks_put : ℕ → ℕ → Bool → List Chunk → PageSoFar → PageSoFar
 chunks_put width margin full [] page = page
-chunks_put width margin full (Raw raw weight ∷ chunks) page = chunks_put width margin full chunks (raw_put width margin raw weight page)
+chunks_put width margin full (Raw raw weight ∷ chunks) page =
+    chunks_put width margin full chunks (raw_put width margin raw weight page)
 chunks_put width margin full (LineBreak ∷ chunks) page = chunks_put width margin full chunks (on_new_line page)
-chunks_put width margin full (Paragraph ∷ chunks) page = if full then chunks_put width margin full chunks (on_new_line page) else on_new_line page
+chunks_put width margin full (Paragraph ∷ chunks) page =
+    if full then chunks_put width margin full chunks (on_new_line page) else on_new_line page
 
 abbrev pub text_put : Bool → List Chunk → Sheet → Sheet
 text_put full chunks s = on (chunks_put s.width (margin_of s) full chunks) s

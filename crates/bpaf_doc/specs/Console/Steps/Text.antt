@@ -1,5 +1,5 @@
--- A console text, part by part, as the private functions leave it. Nothing here has to be believed: that such a text is the exact
--- page is proved.
+-- A console text, part by part, as the private functions leave it. Nothing here has to be believed: that such a text is
+-- the exact page is proved.
 use Rattle.std.specs.Prelude.{ℕ, ◌+◌, ◌-◌, ◌==◌, Bool, true, false, ◌&&◌, List, [], ◌∷◌, Option, Some, drop, max, nat_le, nat_lt, if◌then◌else◌}
 use Rattle.std.specs.List.{slice_get, position_or_len}
 use Rattle.bpaf_doc.specs.declared.buffer.Block.TheVariants as blocks
@@ -24,9 +24,13 @@ wider_term widest term = if nat_le term 24 then max widest term else widest
 -- the tab stop over the parts that follow: the widest term so far, whether a term is open, and its columns
 abbrev pub tab_stop_from : ℕ → Bool → ℕ → List Part → ℕ
 tab_stop_from widest in_term term [] = saturated (widest + 4)
-tab_stop_from widest in_term term (Text bytes style ∷ parts) = tab_stop_from widest in_term (if in_term then saturated (term + columns bytes) else term) parts
-tab_stop_from widest in_term term (Start b ∷ parts) = if is_term b then tab_stop_from widest true 0 parts else tab_stop_from widest in_term term parts
-tab_stop_from widest in_term term (End b ∷ parts) = if is_term b then tab_stop_from (wider_term widest term) false term parts else tab_stop_from widest in_term term parts
+tab_stop_from widest in_term term (Text bytes style ∷ parts) =
+    tab_stop_from widest in_term (if in_term then saturated (term + columns bytes) else term) parts
+tab_stop_from widest in_term term (Start b ∷ parts) =
+    if is_term b then tab_stop_from widest true 0 parts else tab_stop_from widest in_term term parts
+tab_stop_from widest in_term term (End b ∷ parts) =
+    if is_term b then tab_stop_from (wider_term widest term) false term parts
+    else tab_stop_from widest in_term term parts
 
 -- ---- empty Block pairs after a Section4
 
@@ -52,12 +56,14 @@ is_block_end _ = false
 
 -- the place of the first Section4 end after this place, or the number of parts
 abbrev pub section4_end : List Part → ℕ → ℕ
-section4_end document index = index + 1 + position_or_len (λ part. is_section4_end (Some part)) (drop (index + 1) document)
+section4_end document index =
+    index + 1 + position_or_len (λ part. is_section4_end (Some part)) (drop (index + 1) document)
 
 -- a start and an end of Block stand directly after this place
 abbrev pub has_empty_block : List Part → ℕ → Bool
 has_empty_block document index =
-    is_block_start (slice_get document (saturated (index + 1))) && is_block_end (slice_get document (saturated (index + 2)))
+    is_block_start (slice_get document (saturated (index + 1)))
+    && is_block_end (slice_get document (saturated (index + 2)))
 
 abbrev pub no_pairs : Pairs
 no_pairs = record { end = 0; has_pair = false }
@@ -66,7 +72,10 @@ no_pairs = record { end = 0; has_pair = false }
 abbrev pub pairs_at : List Part → ℕ → Block → Pairs → Pairs
 pairs_at document index b p =
     if is_section4 b && nat_le p.end index
-    then record { end = section4_end document index; has_pair = has_empty_block document (section4_end document index) } else p
+    then record {
+      end = section4_end document index;
+      has_pair = has_empty_block document (section4_end document index);
+    } else p
 
 abbrev pub is_adjacent : Block → Pairs → Bool
 is_adjacent b p = is_section4 b && p.has_pair
@@ -89,18 +98,21 @@ abbrev pub end_put : Pairs → ℕ → Block → Sheet → Sheet
 end_put p index b s = if skips p index b then s else closed b s
 
 abbrev pub part_put : Bool → List Part → ℕ → Pairs → ℕ → Part → Sheet → Sheet
-part_put full document index p hidden (Text bytes style) s = if hidden == 0 then text_put full (chunks_of bytes) s else s
+part_put full document index p hidden (Text bytes style) s =
+    if hidden == 0 then text_put full (chunks_of bytes) s else s
 part_put full document index p hidden (Start b) s = start_put (pairs_at document index b p) index b s
 part_put full document index p hidden (End b) s = end_put p index b s
 
 abbrev pub parts_put : Bool → List Part → ℕ → Pairs → ℕ → List Part → Sheet → Sheet
 parts_put full document index p hidden [] s = s
 parts_put full document index p hidden (part ∷ parts) s =
-    parts_put full document (index + 1) (pairs_after document index p part) (hidden_after full hidden part) parts (part_put full document index p hidden part s)
+    parts_put full document (index + 1) (pairs_after document index p part) (hidden_after full hidden part) parts
+    (part_put full document index p hidden part s)
 
 -- the page after all the parts, and its text
 abbrev pub whole_page : Bool → ℕ → List Part → Sheet
-whole_page full width document = parts_put full document 0 no_pairs 0 document (blank_sheet width (tab_stop_from 0 false 0 document))
+whole_page full width document =
+    parts_put full document 0 no_pairs 0 document (blank_sheet width (tab_stop_from 0 false 0 document))
 
 abbrev pub console_text : Bool → ℕ → List Part → List ℕ
 console_text full width document = finished (whole_page full width document).page

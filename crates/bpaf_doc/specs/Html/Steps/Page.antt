@@ -1,5 +1,5 @@
--- An HTML page as the code keeps it while it writes one fragment after another. `Html/Exact` says what comes out; that these pages are those is proved
--- (proofs/lemmas/Html/Exact), so this need not be believed.
+-- An HTML page as the code keeps it while it writes one fragment after another. `Html/Exact` says what comes out; that
+-- these pages are those is proved (proofs/lemmas/Html/Exact), so this need not be believed.
 use Rattle.std.specs.Prelude.{ℕ, Bool, true, false, ◌&&◌, List, [], ◌∷◌, ◌++◌, flat_map, if◌then◌else◌, codes}
 use Rattle.bpaf_doc.specs.declared.buffer.Block.{Block}
 use Rattle.bpaf_doc.specs.Splitter.Chunks.{Chunk, Raw, Paragraph, LineBreak}
@@ -7,7 +7,8 @@ use Rattle.bpaf_doc.specs.Html.Fragments.{Fragment, TextStart, Shown, TextEnd, H
 use Rattle.bpaf_doc.specs.Html.Page.{escaped_character, is_definition_list}
 pub use Rattle.bpaf_doc.specs.Html.Exact.{is_empty, is_header, start_tag, end_tag, opening_tags, closing_tags}
 
--- the bytes so far, whether they are none or end in a break, whether the innermost open block is a definition list, and the same of the blocks around it
+-- the bytes so far, whether they are none or end in a break, whether the innermost open block is a definition list, and
+-- the same of the blocks around it
 pub record Written : Type 0 where
   pub bytes : List ℕ
   pub fresh : Bool

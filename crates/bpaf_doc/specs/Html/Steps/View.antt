@@ -36,7 +36,8 @@ IsTaken (taken.One fragment) = ⊤
 
 -- a call gave the first of what was left, and left the others, or gave None where nothing was left
 abbrev pub YieldsTaken : List Fragment → Option declared_taken.Taken → List Fragment → Type 0
-YieldsTaken before result after = MatchOption result ((before ≡ []) × (after ≡ [])) (λ x. IsTaken x × (before ≡ fragments_in x ++ after))
+YieldsTaken before result after =
+    MatchOption result ((before ≡ []) × (after ≡ [])) (λ x. IsTaken x × (before ≡ fragments_in x ++ after))
 
 -- how a language writes a byte of a text
 abbrev pub spelling_of : Language → ℕ → List ℕ
@@ -50,7 +51,8 @@ IsPlain language bytes = flat_map (spelling_of language) bytes ≡ bytes
 -- the text is plain up to this place, where an ASCII character stands that is written in another way
 abbrev pub IsFirstSpelled : Language → List ℕ → ℕ → Type 0
 IsFirstSpelled language text at =
-    (at < length text) × IsPlain language (take at text) × (slice_index text at < 128) × (spelling_of language (slice_index text at) ≢ slice_index text at ∷ [])
+    (at < length text) × IsPlain language (take at text) × (slice_index text at < 128)
+    × (spelling_of language (slice_index text at) ≢ slice_index text at ∷ [])
 
 -- the bytes where it is turned on, and else none
 abbrev pub when : Bool → List ℕ → List ℕ

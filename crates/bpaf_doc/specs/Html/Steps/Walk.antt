@@ -1,5 +1,6 @@
--- The fragments of a document as the code finds them: one part after another, with a number that says how deep hiding is. `shown_fragments` says
--- what is meant, by looking back; that this is the same is proved (proofs/lemmas/Html/Fragments/Walking), so it need not be believed.
+-- The fragments of a document as the code finds them: one part after another, with a number that says how deep hiding
+-- is. `shown_fragments` says what is meant, by looking back; that this is the same is proved
+-- (proofs/lemmas/Html/Fragments/Walking), so it need not be believed.
 use Rattle.std.specs.Prelude.{ℕ, zero, suc, Bool, true, false, not, ◌&&◌, List, [], ◌∷◌, ◌++◌, map, if◌then◌else◌}
 use Rattle.std.specs.List.{list_any, before_first}
 use Rattle.bpaf_doc.specs.declared.buffer.Style.{Style}
@@ -17,7 +18,8 @@ is_inline _ = false
 abbrev pub depth_after_text : Bool → List Chunk → ℕ
 depth_after_text full chunks = if (not full && list_any is_paragraph chunks) then 1 else 0
 
--- How deep hiding is after a part: 0 where texts are shown, and else how many ends of inline blocks have to come, less the starts between.
+-- How deep hiding is after a part: 0 where texts are shown, and else how many ends of inline blocks have to come, less
+-- the starts between.
 abbrev pub depth_after : Bool → Part → ℕ → ℕ
 depth_after full (Text bytes style) zero = depth_after_text full (chunks_of bytes)
 depth_after full (Text bytes style) (suc depth) = suc depth

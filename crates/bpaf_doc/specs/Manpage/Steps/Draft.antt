@@ -1,5 +1,5 @@
--- What a page under way holds after each part, as its writer keeps it. `Manpage/Exact` says what comes out; that this comes to it is proved
--- (proofs/lemmas/Manpage/Drafts), so this need not be believed.
+-- What a page under way holds after each part, as its writer keeps it. `Manpage/Exact` says what comes out; that this
+-- comes to it is proved (proofs/lemmas/Manpage/Drafts), so this need not be believed.
 use Rattle.std.specs.Prelude.{ℕ, Bool, true, false, List, [], ◌∷◌, ◌++◌, ◌||◌, Option, Some, None, flat_map, fold, codes, if◌then◌else◌}
 use Rattle.std.specs.Str.{str_to_ascii_uppercase}
 use Rattle.bpaf_roff.specs.Pieces.{Piece}
@@ -58,7 +58,8 @@ abbrev pub style_name : Style → Option (List ℕ)
 style_name style.Emphasis = Some (codes "SS")
 style_name _ = None
 
--- the text of the page, whether newlines are stripped, the captured texts since the last end of a section, and whether a text is captured
+-- the text of the page, whether newlines are stripped, the captured texts since the last end of a section, and whether
+-- a text is captured
 pub record Draft : Type 0 where
   pub page : RoffText
   pub strips : Bool
@@ -75,7 +76,9 @@ draft_on page strips = record { page = page; strips = strips; heading = []; capt
 
 -- a text in capture is kept for the heading, and any other is written
 abbrev pub after_text : Draft → List ℕ → Style → Draft
-after_text draft text how = if draft.captures then record draft { heading = draft.heading ++ text } else with_draft_calls draft (control_calls (style_name how) ++ TextCall draft.strips (font_of how) text ∷ [])
+after_text draft text how =
+    if draft.captures then record draft { heading = draft.heading ++ text }
+    else with_draft_calls draft (control_calls (style_name how) ++ TextCall draft.strips (font_of how) text ∷ [])
 
 -- newlines are stripped from the start of a term on
 abbrev pub strips_after_start : Block → Bool → Bool
@@ -89,11 +92,22 @@ strips_after_end block.ItemBody strips = false
 strips_after_end _ strips = strips
 
 abbrev pub after_start : Draft → Block → Draft
-after_start draft b = record draft { page = with_calls draft.page (control_calls (start_name b)); strips = strips_after_start b draft.strips; captures = draft.captures || is_section b }
+after_start draft b =
+    record draft {
+      page = with_calls draft.page (control_calls (start_name b));
+      strips = strips_after_start b draft.strips;
+      captures = draft.captures || is_section b;
+    }
 
 -- a heading goes out in capitals
 abbrev pub after_section : Draft → List ℕ → Draft
-after_section draft name = record { page = with_calls draft.page (ControlCall name (str_to_ascii_uppercase draft.heading ∷ []) ∷ []); strips = draft.strips; heading = []; captures = false }
+after_section draft name =
+    record {
+      page = with_calls draft.page (ControlCall name (str_to_ascii_uppercase draft.heading ∷ []) ∷ []);
+      strips = draft.strips;
+      heading = [];
+      captures = false;
+    }
 
 -- a term ends its line
 abbrev pub break_calls : Block → List Call
@@ -101,7 +115,11 @@ break_calls block.ItemTerm = BreakCall ∷ []
 break_calls _ = []
 
 abbrev pub after_block : Draft → Block → Draft
-after_block draft b = record draft { page = with_calls draft.page (break_calls b ++ control_calls (end_name b)); strips = strips_after_end b draft.strips }
+after_block draft b =
+    record draft {
+      page = with_calls draft.page (break_calls b ++ control_calls (end_name b));
+      strips = strips_after_end b draft.strips;
+    }
 
 abbrev pub after_end_by : Draft → Block → Option (List ℕ) → Draft
 after_end_by draft b None = after_block draft b

@@ -1,5 +1,5 @@
--- A markdown text as the code keeps it while it writes one fragment after another. `Markdown/Exact` says what comes out; that these texts are those is proved
--- (proofs/lemmas/Markdown/Exact), so this need not be believed.
+-- A markdown text as the code keeps it while it writes one fragment after another. `Markdown/Exact` says what comes
+-- out; that these texts are those is proved (proofs/lemmas/Markdown/Exact), so this need not be believed.
 use Rattle.std.specs.Prelude.{ℕ, ◌+◌, ◌-◌, ◌^◌, ◌==◌, Bool, true, false, List, [], ◌∷◌, ◌++◌, flat_map, if◌then◌else◌, codes, nat_lt, min}
 use Rattle.bpaf_doc.specs.declared.buffer.Style.{Style}
 use Rattle.bpaf_doc.specs.declared.buffer.Block.{Block}
@@ -9,8 +9,9 @@ use Rattle.bpaf_doc.specs.Html.Fragments.{Fragment, TextStart, Shown, TextEnd, H
 use Rattle.bpaf_doc.specs.Markdown.Page.{escaped_character}
 pub use Rattle.bpaf_doc.specs.Markdown.Exact.{starts_line, starts_paragraph, opening_marks, closing_marks}
 
--- The bytes so far; whether a heading was written; whether the last mark of a definition list was a start; whether an item's dash waits for the
--- next fragment, and else whether it is empty; the Mono starts and ends so far; whether a code block is open.
+-- The bytes so far; whether a heading was written; whether the last mark of a definition list was a start; whether an
+-- item's dash waits for the next fragment, and else whether it is empty; the Mono starts and ends so far; whether a
+-- code block is open.
 pub record Marked : Type 0 where
   pub bytes : List ℕ
   pub headed : Bool
@@ -22,7 +23,17 @@ pub record Marked : Type 0 where
   pub in_code : Bool
 
 abbrev pub blank_text : Marked
-blank_text = record { bytes = []; headed = false; in_list = false; pending = false; empty_item = false; starts = 0; ends = 0; in_code = false }
+blank_text =
+    record {
+      bytes = [];
+      headed = false;
+      in_list = false;
+      pending = false;
+      empty_item = false;
+      starts = 0;
+      ends = 0;
+      in_code = false;
+    }
 
 abbrev pub put : Marked → List ℕ → Marked
 put p text = record p { bytes = p.bytes ++ text }
@@ -35,7 +46,14 @@ with_blank_line p = if starts_paragraph p.bytes then p else put p (codes "\n\n")
 
 -- the dash of an item that waits for it, or blanks where its term is empty
 abbrev pub with_item : Marked → Bool → Marked
-with_item p empty = if p.pending then record p { bytes = p.bytes ++ (if empty then codes "  " else codes "- "); pending = false; empty_item = empty } else p
+with_item p empty =
+    if p.pending
+    then record p {
+      bytes = p.bytes ++ (if empty then codes "  " else codes "- ");
+      pending = false;
+      empty_item = empty;
+    }
+    else p
 
 abbrev pub with_line : Marked → List ℕ → Marked
 with_line p text = put (put (put p (codes "  ")) text) (codes "\n")
@@ -47,11 +65,13 @@ abbrev pub close_code : Marked → List ℕ → Marked
 close_code p fence = if p.in_code then record p { bytes = p.bytes ++ fence; in_code = false } else p
 
 abbrev pub with_words : Marked → List ℕ → Marked
-with_words p text = put (close_code p (codes "\n  ```\n")) (if nat_lt p.ends p.starts then flat_map escaped_character text else text)
+with_words p text =
+    put (close_code p (codes "\n  ```\n")) (if nat_lt p.ends p.starts then flat_map escaped_character text else text)
 
 abbrev pub with_raw : Marked → List ℕ → ℕ → Marked
 with_raw p text weight =
-    if weight == fence_weight then with_line (with_new_line p) text else (if weight == code_weight then with_line (open_code p) text else with_words p text)
+    if weight == fence_weight then with_line (with_new_line p) text
+    else (if weight == code_weight then with_line (open_code p) text else with_words p text)
 
 abbrev pub with_chunk : Marked → Chunk → Marked
 with_chunk p (Raw text weight) = with_raw p text weight
@@ -62,10 +82,16 @@ abbrev pub text_ended : Marked → Style → Marked
 text_ended p style = put (close_code p (codes "  ```\n")) (closing_marks style)
 
 abbrev pub header_started : Marked → Marked
-header_started p = record (with_blank_line p) { bytes = (with_blank_line p).bytes ++ (if p.headed then codes "## " else codes "# "); headed = true }
+header_started p =
+    record (with_blank_line p) {
+      bytes = (with_blank_line p).bytes ++ (if p.headed then codes "## " else codes "# ");
+      headed = true;
+    }
 
 abbrev pub body_started : Marked → Marked
-body_started p = put (with_new_line (if p.in_list then put p (if p.empty_item then codes " " else codes " &mdash; ") else p)) (codes "  ")
+body_started p =
+    put (with_new_line (if p.in_list then put p (if p.empty_item then codes " " else codes " &mdash; ") else p))
+    (codes "  ")
 
 -- one more, up to the greatest number
 abbrev pub one_more : ℕ → ℕ

@@ -1,4 +1,5 @@
--- A run: words of a line and blanks between them, which a text begins with. As a text of its own it has the chunks that it has there.
+-- A run: words of a line and blanks between them, which a text begins with. As a text of its own it has the chunks that
+-- it has there.
 use Rattle.std.specs.Prelude.{◌≡◌, ◌≢◌, ℕ, ◌≤◌, Bool, true, not, ◌||◌, List, [], length, take, drop, count_by}
 use Rattle.std.specs.Int.{is_in_range}
 use Rattle.std.specs.List.{list_all}

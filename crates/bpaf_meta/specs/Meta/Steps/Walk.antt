@@ -27,7 +27,8 @@ abbrev mutual
   walked (optional t) a = walked t a
   walked (required t) a = walked t a
   walked (adjacent t) a = beside (first_item t) a (walked t a) (walked t false)
-  walked (item l) a = if a && not (is_positional l) then wrong l else then_check (walked_within l) (λ b. fine (a || is_positional l))
+  walked (item l) a =
+      if a && not (is_positional l) then wrong l else then_check (walked_within l) (λ b. fine (a || is_positional l))
   walked (many t) a = walked t a
   walked (subsection t d) a = walked t a
   walked (suffix t d) a = walked t a

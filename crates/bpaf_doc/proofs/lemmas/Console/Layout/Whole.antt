@@ -485,12 +485,14 @@ layout_of_page document full width nexts st final w events shallow ends same = r
   };
   asked = asked_law width document st final ends base;
   kept = kept_law width document st final ends base;
-  margin = λ small clear. margin_law width document st final ends base (clearly small clear);
-  needed = λ small clear. needed_law width document st final ends base (clearly small clear) (spacious small clear);
-  fits = λ small clear. fits_law width document st final ends base (clearly small clear);
-  padded = λ small clear. padded_law width document st final ends base (clearly small clear);
-  room = λ small clear. room_law width document st final ends base (clearly small clear) (spacious small clear);
-  alone = λ small clear. alone_law width document st final ends base (clearly small clear);
+  lines = λ small clear. record {
+    margin = margin_law width document st final ends base (clearly small clear);
+    needed = needed_law width document st final ends base (clearly small clear) (spacious small clear);
+    fits = fits_law width document st final ends base (clearly small clear);
+    padded = padded_law width document st final ends base (clearly small clear);
+    room = room_law width document st final ends base (clearly small clear) (spacious small clear);
+    alone = alone_law width document st final ends base (clearly small clear);
+  };
   bound = λ small refs. bounded small refs;
 } where
   base : Base width st

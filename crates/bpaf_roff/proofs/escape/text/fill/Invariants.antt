@@ -7,5 +7,5 @@ abbrev pub invariant-loop-index : goal.invariant-loop-index
 invariant-loop-index l = record {
   in_range : l.index ≤ length l.bytes;
   fits : l.end ≤ 7 * l.index;
-  text : take l.end l.room ≡ front_text l.apostrophes l.label (written l.at_line_start) l.bytes l.index;
+  text : take l.end l.room ≡ front_text l.context.apostrophes l.context.label (written l.context.at_line_start) l.bytes l.index;
 }
