@@ -30,7 +30,7 @@ pub struct Request<'a> {
     pub alloc: Global,
     names: &'a mut Names,
     terms: Vec<Term<'a>>,
-    // those of the terms, in order; behind a fault they are of no account
+    // those of the terms, in order; behind a fault they are of no account, and none is taken
     documents: Vec<Doc>,
     trees: Vec<Meta>,
     // one more than the most levels of the terms that were taken behind the word that is being read
@@ -255,9 +255,9 @@ impl<'a> Request<'a> {
             Some(Term::Document(levels)) => self.contain(levels),
             other => self.miss(other, "another word was expected"),
         }
-        match self.documents.pop() {
-            Some(document) => document,
-            None => Doc::new(self.alloc),
+        match (self.fault, self.documents.pop()) {
+            (None, Some(document)) => document,
+            _ => Doc::new(self.alloc),
         }
     }
 
@@ -275,9 +275,9 @@ impl<'a> Request<'a> {
             Some(Term::Tree(levels)) => self.contain(levels),
             other => self.miss(other, "a tree was expected"),
         }
-        match self.trees.pop() {
-            Some(tree) => tree,
-            None => Meta::Skip,
+        match (self.fault, self.trees.pop()) {
+            (None, Some(tree)) => tree,
+            _ => Meta::Skip,
         }
     }
 

@@ -11,7 +11,8 @@ pub record Watch (E : Type 0) : Type 0 where
 -- it is stored as the pair of its fields
 abbrev pub watch_code : {E : Type 0} → Coded E → Coded (Watch E)
 watch_code {E} code =
-    code_by (E × Bool) (coded× code coded_bool) (λ w. (w.end, w.marked)) (λ p. record { end = p.0; marked = p.1 }) (λ _. refl)
+    code_by (E × Bool) (coded× code coded_bool) (λ w. (w.end, w.marked)) (λ p. record { end = p.0; marked = p.1 })
+    (λ _. refl)
 
 abbrev pub IsMarked : {E : Type 0} → Watch E → Type 0
 IsMarked w = IsTrue w.marked
@@ -24,8 +25,8 @@ abbrev pub is_failed_write : {F : Type 0} → Result ℕ F → List ℕ → Bool
 is_failed_write (Ok taken) bytes = taken == 0 && not (length bytes == 0)
 is_failed_write (Err error) bytes = true
 
--- A beginning of the bytes was written, and not all of them. A writer tells which bytes it holds, here before and after; of one
--- that doesn't tell, nothing is said.
+-- A beginning of the bytes was written, and not all of them. A writer tells which bytes it holds, here before and
+-- after; of one that doesn't tell, nothing is said.
 pub record AppendsPart (before after : Option (List ℕ)) (bytes : List ℕ) : Type 0 where
   pub front : List ℕ
   pub rest : List ℕ
@@ -33,8 +34,8 @@ pub record AppendsPart (before after : Option (List ℕ)) (bytes : List ℕ) : T
   pub missing : rest ≢ []
   pub written : Appends before after front
 
--- The input is all that the reader had left. A reader tells which bytes it has left, here before and after; of one that doesn't
--- tell, nothing is said.
+-- The input is all that the reader had left. A reader tells which bytes it has left, here before and after; of one that
+-- doesn't tell, nothing is said.
 pub record ReadsAll (before after : Option (List ℕ)) (input : List ℕ) : Type 0 where
   pub given : Consumes before after input
   pub ended : IsAtEnd after
