@@ -1,6 +1,5 @@
 //! Writes a clap program as a description in JSON, but for what arguments need and exclude beside groups of one.
-
-use clap::{Arg, ArgAction, Command};
+use clap::{Arg, ArgAction, Command, ValueHint::*};
 use serde_json::{json, Value};
 
 /// The description of the command, and of all below it, as JSON. Global arguments, and `--help`, stand on each page.
@@ -15,7 +14,6 @@ fn is_shared(arg: &&Arg) -> bool {
     matches!(arg.get_action(), ArgAction::Help) || arg.is_global_set()
 }
 
-// What stands on the level of a command.
 fn level(command: &Command) -> Value {
     let own: Vec<&Arg> = command.get_arguments().filter(|arg| !is_shared(arg)).collect();
     let all: Vec<&str> = own.iter().filter_map(|arg| arg.get_help_heading()).collect();
@@ -92,13 +90,15 @@ fn positional_value(arg: &Arg) -> Value {
     without_empty(made)
 }
 
-// The values, the default and the help of an argument.
 fn said(arg: &Arg) -> Value {
     let takes = arg.get_num_args().unwrap_or_default().takes_values();
     let values = arg.get_possible_values().into_iter().filter(|one| takes && !one.is_hide_set());
+    let values: Vec<String> = values.map(|one| one.get_name().to_string()).collect();
+    let hints = [(DirPath, "folder"), (Username, "user"), (Hostname, "host"), (Url, "none"), (Other, "none")];
     let defaults = arg.get_default_values().iter().filter(|_| takes && !arg.is_required_set());
     json!({
-        "values": values.map(|one| one.get_name().to_string()).collect::<Vec<_>>(),
+        "values": values,
+        "hint": hints.iter().find(|one| takes && values.is_empty() && one.0 == arg.get_value_hint()).map(|one| one.1),
         "default": defaults.map(|one| one.to_string_lossy()).collect::<Vec<_>>().join(" "),
         "help": arg.get_long_help().or(arg.get_help()).map(ToString::to_string),
         "hidden": arg.is_hide_set(),
@@ -112,7 +112,7 @@ fn words(arg: &Arg) -> String {
 
 // The table without what says nothing. What is not required says so.
 fn without_empty(table: Value) -> Value {
-    let Value::Object(mut table) = table else { return table };
+    let mut table = if let Value::Object(table) = table { table } else { return table };
     let empty = [json!(null), json!(false), json!(""), json!([])];
     table.retain(|key, value| !empty.contains(value) || key.ends_with("required") && *value == json!(false));
     Value::Object(table)

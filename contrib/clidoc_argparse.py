@@ -16,7 +16,6 @@ def dump(parser, file=None):
 
 class Level:
     """A parser, which is a level of the description."""
-
     def __init__(self, parser):
         self.parser = parser
 
@@ -70,12 +69,13 @@ class Level:
         return {**made, **required, **without_empty({"repeated": action.nargs not in (None, "?", 1)})}
 
     def said(self, action, optional):
-        """The values, the default and the help."""
+        """The values, what a shell offers, the default and the help."""
         default = action.default if isinstance(action.default, (list, tuple)) else [action.default]
         tells = optional and action.nargs != 0 and default and default[0] not in (None, argparse.SUPPRESS, "")
         return without_empty({
             "default": " ".join(map(str, default)) if tells and "%(default)" not in str(action.help) else None,
             "values": action.nargs != 0 and action.choices and [str(one) for one in action.choices],
+            "hint": action.nargs != 0 and not action.choices and action.type in (int, float) and "none",
             **self.shown(action.help, vars(action)),
         })
 

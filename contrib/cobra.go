@@ -24,7 +24,6 @@ func Write(out io.Writer, root *cobra.Command) error {
 	return encoder.Encode(made)
 }
 
-// What stands on the level of a command.
 func level(command *cobra.Command) table {
 	values, usage := positionals(command.Use)
 	made := table{"name": command.Name(), "option": options(command, false), "positional": values,
@@ -93,6 +92,8 @@ func option(flag *pflag.Flag) table {
 	value, takesValue := strings.ToUpper(word), kind != "bool" && kind != "count"
 	made := table{}
 	put(made, "help", help)
+	put(made, "hint", map[string]string{"int": "none", "uint": "none", "float64": "none", "duration": "none"}[kind])
+	put(made, "hint", map[bool]string{true: "folder"}[flag.Annotations[cobra.BashCompSubdirsInDir] != nil])
 	put(made, "hidden", flag.Hidden || flag.Deprecated != "")
 	put(made, "required", isRequired)
 	put(made, "repeated", kind == "count" || strings.HasSuffix(kind, "Slice") || strings.HasSuffix(kind, "Array"))
@@ -111,7 +112,6 @@ func option(flag *pflag.Flag) table {
 	return made
 }
 
-// Puts what is neither empty nor false.
 func put(made table, key string, value any) {
 	if value != "" && value != false {
 		made[key] = value

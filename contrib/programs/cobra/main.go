@@ -23,6 +23,7 @@ func main() {
 	save.Flags().CountP("quick", "q", "be quick")
 	save.Flags().IntP("jobs", "j", 4, "how many at once")
 	save.Flags().String("to", "", "where to")
+	save.MarkFlagDirname("to")
 	save.Flags().String("old", "", "an older one")
 	save.MarkFlagRequired("to")
 	save.Flags().MarkHidden("old")

@@ -14,6 +14,12 @@ pub const OPTIONS: &[Row<'static>] = &[
         Shell::Zsh,
         "__table=(\n    'program' 'a' '' ''\n    'once' 'flag' 'none' ''\n    'name' '-h' '' ''\n    'name' '--help' '' ''\n    'level' '' '' ''\n    'many' 'flag' 'none' ''\n    'name' '-x' '' ''\n    'once' 'value' 'file' ''\n    'name' '--out' '' ''\n    'end' '' '' ''\n)\n",
     ),
+    // What is offered for values without a list.
+    (
+        "name = 'a'\n[[option]]\nlong = 'f'\nvalue = 'F'\nhint = 'file'\n[[option]]\nlong = 'd'\nvalue = 'D'\nhint = 'folder'\n[[option]]\nsyntax = '-n[N]'\nhint = 'none'\n[[option]]\nsyntax = '-u U'\nhint = 'user'\n[[option]]\nsyntax = '--flag'\nhint = 'host'\n[[positional]]\nvalue = 'H'\nhint = 'host'\n",
+        Shell::Bash,
+        "    'level' '' '' ''\n    'once' 'value' 'file' ''\n    'name' '--f' '' ''\n    'once' 'value' 'folder' ''\n    'name' '--d' '' ''\n    'once' 'optional' 'none' ''\n    'name' '-n' '' ''\n    'once' 'word' 'user' ''\n    'name' '-u' '' ''\n    'once' 'flag' 'none' ''\n    'name' '--flag' '' ''\n    'place' 'once' 'host' ''\n    'end' '' '' ''\n)\n",
+    ),
     // A comma without a blank is one of a value.
     (
         "name = 'a'\n[[option]]\nlong = 'is'\nvalue = 'W'\nvalues = ['very fast', 'a,b', 'c']\n",

@@ -36,6 +36,14 @@ def room_of(folder):
     return room
 
 
+def home_of(folder):
+    """A home whose owner has been at one host, which is told to each shell where it looks for hosts."""
+    known = folder / "home" / ".ssh" / "known_hosts"
+    known.parent.mkdir(parents=True)
+    known.write_text("depot.example.org ssh-ed25519 AAAA\n")
+    (folder / "home" / "hosts").write_text("192.0.2.1 depot.example.org\n")
+
+
 def plain(words):
     """Words as they are meant: zsh quotes files, and leaves out the slash behind a folder."""
     return {word.rstrip("/") for word in words}
@@ -107,7 +115,7 @@ def main(names):
         with tempfile.TemporaryDirectory() as room:
             folder = pathlib.Path(room)
             room_of(folder)
-            (folder / "home").mkdir()
+            home_of(folder)
             found = [(file, *it) for file in cursor_places.PLACES for it in places(shell, file, folder)]
             found += [("hostile", *it) for it in hostile(shell, folder)]
         for file, typed, got, wanted in found:

@@ -28,9 +28,11 @@ DECORATE = {"short", "full", "auto", "no"}
 
 MODES = {"very fast", "very slow", "it's", "a:b", "a:c", "k=v", "$HOME", "back\\slash"}
 COLORS = {"never", "auto", "always"}
-EDGE_LONG = {"--help", "--color", "--color=", "--mode=", "--optimize", "--optimize=", "--define=", "--lines", "--quiet", "--json", "--table", "--no-table"}
-EDGE_OPTIONS = EDGE_LONG | {"-m", "-O", "-D", "-n", "-q"}
+EDGE_LONG = {"--help", "--color", "--color=", "--mode=", "--optimize", "--optimize=", "--define=", "--into=", "--owner=", "--from", "--text=", "--lines", "--quiet", "--json", "--table", "--no-table"}
+EDGE_OPTIONS = EDGE_LONG | {"-m", "-O", "-D", "-I", "-n", "-q"}
 RUN = {"run", "r", "go:now"}
+
+FORMS = {"usage", "full", "brief", "man", "markdown", "html", "complete", "check", "all"}
 
 PLACES = {
     "tar.toml": [
@@ -66,7 +68,7 @@ PLACES = {
         ("-v --verb", {"--verbose"}),
         ("-w --int", set()),
         ("-zw --int", set()),
-        ("-C dir -C ", FILES),
+        ("-C dir -C ", FOLDERS),
         ("--directory=dir --dir", {"--directory="}),
         ("--no-same-owner --same", set()),
         ("-- ", FILES),
@@ -81,9 +83,11 @@ PLACES = {
         ("c", {"clone", "commit", "ci"}),
         ("-", GIT_OPTIONS),
         ("--", {"--help", "--git-dir=", "--work-tree=", "--no-pager"}),
-        ("--git-dir=", behind("--git-dir=", FILES)),
+        ("--git-dir=", behind("--git-dir=", FOLDERS)),
         ("--git-dir dir ", GIT),
-        ("-C ", FILES),
+        ("-C ", FOLDERS),
+        ("-C b", set()),
+        ("-c ", set()),
         ("-C dir ", GIT),
         ("-C dir -", GIT_OPTIONS),
         ("-c a=b l", {"log"}),
@@ -110,7 +114,7 @@ PLACES = {
         ("log -- b.txt ", FILES),
         ("log -- -", set()),
         ("clone -", {"-b", "--branch=", "--depth=", "--bare"} | HELP),
-        ("clone x ", FILES),
+        ("clone x ", FOLDERS),
         ("clone x y ", {"-b", "--branch=", "--depth=", "--bare"} | HELP),
         ("remote ", {"add", "remove", "rm"}),
         ("remote r", {"remove", "rm"}),
@@ -122,6 +126,17 @@ PLACES = {
         ("cat-f", set()),
         ("cat-file ", set()),
         ("status x ", {"-s", "--short"} | HELP),
+    ],
+    "clidoc.toml": [
+        ("", FORMS),
+        ("h", {"html"}),
+        ("html ", FILES),
+        ("html b", {"b.txt"}),
+        ("all --into=", behind("--into=", FOLDERS)),
+        ("all --into ", FOLDERS),
+        ("all --into b", set()),
+        ("--width ", set()),
+        ("man --date=", set()),
     ],
     "edges.toml": [
         ("-", EDGE_OPTIONS),
@@ -155,9 +170,24 @@ PLACES = {
         ("--json --no", set()),
         ("--no-table --js", set()),
         ("--sec", set()),
+        ("--into=", behind("--into=", FOLDERS)),
+        ("--into ", FOLDERS),
+        ("--into=b", set()),
+        ("--into b", set()),
+        ("-I", {"-I"}),
+        ("-Id", {"-Idir"}),
+        ("-Ib", set()),
+        ("--owner=roo", {"--owner=root"}),
+        ("--owner roo", {"root"}),
+        ("--owner b.", set()),
+        ("--from dep", {"depot.example.org"}),
+        ("--from b.", set()),
+        ("--text=", set()),
+        ("--text ", set()),
+        ("--text b", set()),
         ("--old", set()),
         ("-q", {"-q"}),
-        ("-qq", behind("-qq", set("mODn"))),
+        ("-qq", behind("-qq", set("mODIn"))),
         ("", {"a file", "plain"} | RUN),
         ("a", {"a file"}),
         ("x ", {"one", "two"} | RUN),
@@ -203,5 +233,9 @@ LINES = {
         ("a", "a\\ file ", "a\\ file "),
         ('"a', '"a file" ', '"a file" '),
         ("--mode=a", "--mode=a:", "--mode=a:"),
+        ("--into=d", "--into=dir/", "--into=dir/"),
+        ("--into b", "--into b", "--into b"),
+        ("--owner=roo", "--owner=root ", "--owner=root "),
+        ("--from dep", "--from depot.example.org ", "--from depot.example.org "),
     ],
 }

@@ -53,7 +53,7 @@ class Terminal:
         self.told.unlink(missing_ok=True)
         environment = {
             **{key: os.environ[key] for key in ("PATH", "LANG", "LC_ALL") if key in os.environ},
-            "SCRIPT": str(script), "ROOM": str(room), "TOLD": str(told), "HOME": str(home), "TERM": "dumb", "LC_ALL": "C.UTF-8",
+            "SCRIPT": str(script), "ROOM": str(room), "TOLD": str(told), "HOME": str(home), "HOSTFILE": f"{home}/hosts", "TERM": "dumb", "LC_ALL": "C.UTF-8",
         }
         words = {"bash": ["bash", "--norc", "--noprofile", "-i"], "zsh": ["zsh", "-f", "-i"]}[shell]
         self.process, self.terminal = pty.fork()

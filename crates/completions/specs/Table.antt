@@ -3,6 +3,8 @@
 use Rattle.std.specs.Prelude.{ℕ, Bool, true, false, List, [], ◌∷◌, ◌++◌, codes, map, flat_map, Option, Some, None, if◌then◌else◌}
 use Rattle.std.specs.Char.{encode_utf8}
 use Rattle.description.specs.Content.{NameSaid, short, long, both, SpellingSaid, named, syntax, OptSaid, ChoiceSaid, PositionalSaid, CommandNames, LevelSaid, level, GroupsSaid, no_groups, groups, GroupSaid, group, CommandsSaid, no_commands, commands, CommandSaid, command, DescriptionSaid}
+use Rattle.description.specs.Hints.{hint_word}
+use Rattle.description.specs.declared.hints.ValueHint.{ValueHint}
 use Rattle.completions.specs.Content.{EntrySaid, entry_words}
 use Rattle.completions.specs.Syntax.{syntax_how, syntax_words, word_names}
 use Rattle.completions.specs.Texts.{command_help, help_text}
@@ -22,10 +24,10 @@ mark what = lone what []
 
 -- ---- values
 
--- which kind of value may stand there: those of a list alone, where there is one
-abbrev pub hint_word : (values : Option (List ℕ)) → List ℕ
-hint_word None = codes "file"
-hint_word (Some values) = codes "none"
+-- what is offered for a value: those of a list alone, where there is one
+abbrev pub offer : (values : Option (List ℕ)) → ValueHint → List ℕ
+offer None hint = hint_word hint
+offer (Some values) hint = codes "none"
 
 abbrev pub value_entries : (values : Option (List ℕ)) → List EntrySaid
 value_entries None = []
@@ -54,11 +56,11 @@ how_of (named name) value = how_if value
 how_of (syntax text) value = syntax_how text
 
 -- a flag has no value
-abbrev pub hint_of : How → (values : Option (List ℕ)) → List ℕ
-hint_of how.Flag values = codes "none"
-hint_of how.Value values = hint_word values
-hint_of how.Word values = hint_word values
-hint_of how.Optional values = hint_word values
+abbrev pub hint_of : How → (values : Option (List ℕ)) → ValueHint → List ℕ
+hint_of how.Flag values hint = codes "none"
+hint_of how.Value values hint = offer values hint
+hint_of how.Word values hint = offer values hint
+hint_of how.Optional values hint = offer values hint
 
 abbrev pub names : NameSaid → List (List ℕ)
 names (short c) = (codes "-" ++ encode_utf8 c) ∷ []
@@ -74,7 +76,7 @@ name_entries spelling = map (lone (codes "name")) (spelling_names spelling)
 
 abbrev pub option_entry : (what : List ℕ) → OptSaid → EntrySaid
 option_entry what o =
-    entry what (how_word (how_of o.spelling o.value)) (hint_of (how_of o.spelling o.value) o.values) (help_text o.help)
+    entry what (how_word (how_of o.spelling o.value)) (hint_of (how_of o.spelling o.value) o.values o.hint) (help_text o.help)
 
 -- an option, its names and its values
 abbrev pub option_entries : (what : List ℕ) → OptSaid → List EntrySaid
@@ -112,7 +114,7 @@ place_word false = codes "place"
 abbrev pub place_entries : PositionalSaid → List EntrySaid
 place_entries p =
     if p.hidden then entry (place_word p.strict) (times p.repeated) (codes "none") [] ∷ []
-    else entry (place_word p.strict) (times p.repeated) (hint_word p.values) [] ∷ value_entries p.values
+    else entry (place_word p.strict) (times p.repeated) (offer p.values p.hint) [] ∷ value_entries p.values
 
 abbrev pub places_entries : List PositionalSaid → List EntrySaid
 places_entries positionals = flat_map place_entries positionals

@@ -11,9 +11,9 @@ use crate::entries::{Entry, push_entry};
 use crate::helps::help_text;
 use crate::shells::Shell;
 use crate::syntax::{How, push_syntax, syntax_how};
-use crate::values::{hint_word, push_values};
+use crate::values::{offer, push_values};
 use bumpalo::Bump;
-use description::{Choice, Name, Opt, Positional, Spelling};
+use description::{Choice, Name, Opt, Positional, Spelling, ValueHint};
 use std::alloc::{AllocError, Allocator};
 
 /// A script in an arena.
@@ -31,12 +31,12 @@ fn how_of(option: &Opt<'_>) -> How
     }
 }
 
-fn hint_of(how: How, values: Option<&str>) -> &'static str
-    ensures { result.now ≡ hint_of how (text_of values.entry) }
+fn hint_of(how: How, values: Option<&str>, hint: ValueHint) -> &'static str
+    ensures { result.now ≡ hint_of how (text_of values.entry) hint }
 {
     match how {
         How::Flag => "none",
-        How::Value | How::Word | How::Optional => hint_word(values),
+        How::Value | How::Word | How::Optional => offer(values, hint),
     }
 }
 
@@ -109,7 +109,7 @@ fn push_option_entry<'p>(
     let how = how_of(option);
     let help = help_text(arena, option.help)?;
     let row = Entry {
-        hint: hint_of(how, option.values),
+        hint: hint_of(how, option.values, option.hint),
         help: help.as_str(),
         ..Entry::lone(what, how.word())
     };
@@ -237,7 +237,7 @@ fn push_place<A: Allocator>(
             },
         );
     }
-    let hint = hint_word(positional.values);
+    let hint = offer(positional.values, positional.hint);
     push_entry(out, shell, Entry { hint, ..place })?;
     push_values(out, shell, positional.values)
 }

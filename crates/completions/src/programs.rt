@@ -189,7 +189,8 @@ _clidoc_`__files() {
             printf '%s\0' "$tilde${file:${#front}}"
         done
     )
-    if ((${#found[@]} == 0)); then compopt -o default; fi
+    if ((${#found[@]})); then return; fi
+    if [[ -n $1 ]]; then compopt -o dirnames; else compopt -o default; fi
 }
 
 # Offers what the entry at $1 may be, behind 'before'.
@@ -466,7 +467,7 @@ _clidoc_`__values() {
     if (($#values)) && compadd -J values -a values; then offers=0; fi
     case $_clidoc_`__table[$1+2] in
         (file) if _files; then offers=0; fi ;;
-        (folder) if _files -/; then offers=0; fi ;;
+        (folder) if _path_files -/; then offers=0; fi ;;
         (user) if _users; then offers=0; fi ;;
         (host) if _hosts; then offers=0; fi ;;
     esac

@@ -4,12 +4,13 @@ ghost use Rattle.std.specs.Prelude.{length, map, take};
 ghost use Rattle.std.specs.Prelude.{IfSome, MatchOption, OnOk, string_bytes};
 ghost use Rattle.std.specs.List.{slice_index};
 ghost use Rattle.description.specs.View.{text_of};
-ghost use Rattle.completions.specs.Table.{hint_word, lone, value_entries};
+ghost use Rattle.completions.specs.Table.{lone, offer, value_entries};
 ghost use Rattle.completions.specs.Values.{begins_blank, listed_values};
 ghost use Rattle.completions.specs.Written.{Writes};
 
 use crate::entries::{Entry, push_entry};
 use crate::shells::Shell;
+use description::ValueHint;
 use std::alloc::{AllocError, Allocator};
 
 fn begins_blank(bytes: &[u8]) -> bool
@@ -83,12 +84,12 @@ pub fn push_values<A: Allocator>(
     }
 }
 
-/// Which kind of value may stand there: those of a list alone, where there is one.
-pub fn hint_word(values: Option<&str>) -> &'static str
-    ensures { result.now ≡ hint_word (text_of values.entry) }
+/// What is offered for a value: those of a list alone, where there is one.
+pub fn offer(values: Option<&str>, hint: ValueHint) -> &'static str
+    ensures { result.now ≡ offer (text_of values.entry) hint }
 {
     match values {
         Some(_) => "none",
-        None => "file",
+        None => hint.word(),
     }
 }

@@ -1,10 +1,11 @@
 -- What the calls on the parts of a description leave.
 use Rattle.std.specs.Prelude.{ℕ, List, [], ◌∷◌, ◌++◌, true, false, Some, None}
+use Rattle.description.specs.declared.hints.ValueHint.TheVariants.{File}
 use Rattle.description.specs.Content.{NameSaid, SpellingSaid, named, syntax, OptSaid, ChoiceSaid, PositionalSaid, TopicSaid, LevelSaid, level, GroupsSaid, no_groups, groups, GroupSaid, group, CommandsSaid, no_commands, commands, CommandSaid, command}
 
 -- an option of which nothing is said but how it is written
 abbrev pub spelled_option : SpellingSaid → OptSaid
-spelled_option spelling = record { spelling = spelling; value = None; default = None; values = None; help = None; env = None; required = false; repeated = false; hidden = false }
+spelled_option spelling = record { spelling = spelling; value = None; default = None; values = None; hint = File; help = None; env = None; required = false; repeated = false; hidden = false }
 
 -- a flag of which nothing but the name is said
 abbrev pub plain_option : NameSaid → OptSaid

@@ -1,6 +1,7 @@
 -- What a description and its parts say, with no memory in it: names and texts are bytes.
 use Rattle.std.specs.Prelude.{ℕ, List, Bool, Option}
 use Rattle.description.specs.Words.{WordsSaid}
+use Rattle.description.specs.declared.hints.ValueHint.{ValueHint}
 
 -- the content of a `Name`
 pub data NameSaid : Type 0 where
@@ -19,6 +20,7 @@ pub record OptSaid : Type 0 where
   pub value : Option (List ℕ)
   pub default : Option (List ℕ)
   pub values : Option (List ℕ)
+  pub hint : ValueHint
   pub help : Option (List ℕ)
   pub env : Option (List ℕ)
   pub required : Bool
@@ -35,6 +37,7 @@ pub record PositionalSaid : Type 0 where
   pub value : List ℕ
   pub default : Option (List ℕ)
   pub values : Option (List ℕ)
+  pub hint : ValueHint
   pub help : Option (List ℕ)
   pub required : Bool
   pub repeated : Bool

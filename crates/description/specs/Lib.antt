@@ -1,4 +1,5 @@
 pub mod Content
 pub mod View
+pub mod Hints
 pub mod Words
 pub mod Calls

@@ -30,13 +30,13 @@ spelling_said (Names name) = named (name_said name)
 spelling_said (Syntax text) = syntax text.now
 
 abbrev pub opt_said : Opt → OptSaid
-opt_said o = record { spelling = spelling_said o.spelling; value = text_of o.value; default = text_of o.default; values = text_of o.values; help = text_of o.help; env = text_of o.env; required = o.required; repeated = o.repeated; hidden = o.hidden }
+opt_said o = record { spelling = spelling_said o.spelling; value = text_of o.value; default = text_of o.default; values = text_of o.values; hint = o.hint; help = text_of o.help; env = text_of o.env; required = o.required; repeated = o.repeated; hidden = o.hidden }
 
 abbrev pub choice_said : {A : Type 0} → Choice A → ChoiceSaid
 choice_said c = record { options = map opt_said c.options.items; required = c.required }
 
 abbrev pub positional_said : Positional → PositionalSaid
-positional_said p = record { value = p.value.now; default = text_of p.default; values = text_of p.values; help = text_of p.help; required = p.required; repeated = p.repeated; strict = p.strict; hidden = p.hidden }
+positional_said p = record { value = p.value.now; default = text_of p.default; values = text_of p.values; hint = p.hint; help = text_of p.help; required = p.required; repeated = p.repeated; strict = p.strict; hidden = p.hidden }
 
 abbrev pub topic_said : Topic → TopicSaid
 topic_said t = record { title = t.title.now; text = t.text.now }

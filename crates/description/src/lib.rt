@@ -2,6 +2,7 @@
 #![tactic(auto)]
 
 pub mod descriptions;
+pub mod hints;
 pub mod levels;
 pub mod options;
 pub mod positionals;
@@ -9,6 +10,7 @@ pub mod topics;
 pub mod words;
 
 pub use descriptions::Description;
+pub use hints::ValueHint;
 pub use levels::{Command, Group, Level};
 pub use options::{Choice, Name, Opt, Spelling};
 pub use positionals::Positional;

@@ -4,6 +4,7 @@ ghost use Rattle.description.specs.Calls.{plain_option, spelled_option, syntax_o
 ghost use Rattle.description.specs.Content.{both, long as long_of, short as short_of};
 ghost use Rattle.description.specs.View.{choice_said, name_said, opt_said, spelling_said};
 
+use crate::hints::ValueHint;
 use std::alloc::{AllocError, Allocator, Global};
 
 /// The name of an option: short, long or both.
@@ -36,6 +37,8 @@ pub struct Opt<'a> {
     pub default: Option<&'a str>,
     /// The values that it may have, as the help shows them: `never, auto, always`.
     pub values: Option<&'a str>,
+    /// What a shell offers for the value. Where it has `values`, which are offered, it counts for nothing.
+    pub hint: ValueHint,
     pub help: Option<&'a str>,
     /// The environment variable that stands for the option: a note in its help.
     pub env: Option<&'static str>,
@@ -88,6 +91,7 @@ impl<'a> Opt<'a> {
             value: None,
             default: None,
             values: None,
+            hint: ValueHint::File,
             help: None,
             env: None,
             required: false,
@@ -118,6 +122,14 @@ impl<'a> Opt<'a> {
         ensures { opt_said result ≡ record (opt_said self.entry) { values = Some values.now } }
     {
         self.values = Some(values);
+        self
+    }
+
+    /// The option with what a shell offers for its value, where `values` says nothing.
+    pub fn hint(mut self, hint: ValueHint) -> Opt<'a>
+        ensures { opt_said result ≡ record (opt_said self.entry) { hint = hint } }
+    {
+        self.hint = hint;
         self
     }
 

@@ -1,6 +1,9 @@
 //! Values that are taken by their place.
 ghost use Rattle.std.specs.Prelude.{◌≡◌, Some, None, true, false};
 ghost use Rattle.description.specs.View.{positional_said};
+ghost use Rattle.description.specs.declared.hints.ValueHint.TheVariants.{File};
+
+use crate::hints::ValueHint;
 
 /// A value that is taken by its place. It has to be given if it is `required`, many of it are taken if it is
 /// `repeated`, and it stands behind `--` if it is `strict`.
@@ -12,6 +15,8 @@ pub struct Positional<'a> {
     pub default: Option<&'a str>,
     /// The values that it may have, as the help shows them: `never, auto, always`.
     pub values: Option<&'a str>,
+    /// What a shell offers for it. Where it has `values`, which are offered, it counts for nothing.
+    pub hint: ValueHint,
     pub help: Option<&'a str>,
     pub required: bool,
     pub repeated: bool,
@@ -28,6 +33,7 @@ impl<'a> Positional<'a> {
               value = value.now;
               default = None;
               values = None;
+              hint = File;
               help = None;
               required = true;
               repeated = false;
@@ -39,6 +45,7 @@ impl<'a> Positional<'a> {
             value,
             default: None,
             values: None,
+            hint: ValueHint::File,
             help: None,
             required: true,
             repeated: false,
@@ -61,6 +68,14 @@ impl<'a> Positional<'a> {
         ensures { positional_said result ≡ record (positional_said self.entry) { values = Some values.now } }
     {
         self.values = Some(values);
+        self
+    }
+
+    /// The value with what a shell offers for it, where `values` says nothing.
+    pub fn hint(mut self, hint: ValueHint) -> Positional<'a>
+        ensures { positional_said result ≡ record (positional_said self.entry) { hint = hint } }
+    {
+        self.hint = hint;
         self
     }
 

@@ -10,28 +10,30 @@ use Rattle.std.specs.Cmp.Lexicographic.{slice_cmp}
 use Rattle.toml.specs.Data.{Data, array, table, Items, no_items, item, Members, no_members, member, get_member}
 use Rattle.description.specs.Content.{DescriptionSaid, NameSaid, short, long, both, SpellingSaid, named, syntax, OptSaid, ChoiceSaid, PositionalSaid, TopicSaid, TextsSaid, LevelSaid, level, GroupsSaid, no_groups, groups, GroupSaid, group, CommandsSaid, no_commands, commands, CommandSaid, command, CommandNames}
 use Rattle.description.specs.Words.{WordsSaid, english}
+use Rattle.description.specs.declared.hints.ValueHint.{ValueHint}
+use Rattle.description.specs.declared.hints.ValueHint.TheVariants.{File}
 use Rattle.description_toml.specs.Described.Texts.{as_body, as_command_name, as_heading, as_language, as_long, as_name, as_text, as_title, as_value, without_colon}
-use Rattle.description_toml.specs.Described.Values.{has_only, at_key, table_at, flag_at, optional_at, required_at, tables_at, is_empty, each_table, as_short, as_section, as_date, words_at, as_default, as_syntax, as_values}
+use Rattle.description_toml.specs.Described.Values.{has_only, at_key, table_at, flag_at, optional_at, required_at, tables_at, is_empty, each_table, as_short, as_section, as_date, words_at, as_default, as_syntax, as_values, as_hint}
 use Rattle.description_toml.specs.Described.Taken.{has_distinct_names}
 
 -- ---- keys
 
 -- of an option of a choice, which is neither required nor repeated
 abbrev pub alternative_keys : List (List ℕ)
-alternative_keys = codes "short" ∷ codes "long" ∷ codes "syntax" ∷ codes "value" ∷ codes "default" ∷ codes "values" ∷ codes "help" ∷ codes "hidden" ∷ codes "env" ∷ []
+alternative_keys = codes "short" ∷ codes "long" ∷ codes "syntax" ∷ codes "value" ∷ codes "default" ∷ codes "values" ∷ codes "hint" ∷ codes "help" ∷ codes "hidden" ∷ codes "env" ∷ []
 
 abbrev pub option_keys : List (List ℕ)
-option_keys = codes "short" ∷ codes "long" ∷ codes "syntax" ∷ codes "value" ∷ codes "default" ∷ codes "values" ∷ codes "help" ∷ codes "hidden" ∷ codes "env" ∷ codes "required" ∷ codes "repeated" ∷ []
+option_keys = codes "short" ∷ codes "long" ∷ codes "syntax" ∷ codes "value" ∷ codes "default" ∷ codes "values" ∷ codes "hint" ∷ codes "help" ∷ codes "hidden" ∷ codes "env" ∷ codes "required" ∷ codes "repeated" ∷ []
 
 -- of an option that asks for help, which pages show
 abbrev pub help_option_keys : List (List ℕ)
-help_option_keys = codes "short" ∷ codes "long" ∷ codes "syntax" ∷ codes "value" ∷ codes "default" ∷ codes "values" ∷ codes "help" ∷ codes "env" ∷ codes "required" ∷ codes "repeated" ∷ []
+help_option_keys = codes "short" ∷ codes "long" ∷ codes "syntax" ∷ codes "value" ∷ codes "default" ∷ codes "values" ∷ codes "hint" ∷ codes "help" ∷ codes "env" ∷ codes "required" ∷ codes "repeated" ∷ []
 
 abbrev pub choice_keys : List (List ℕ)
 choice_keys = codes "option" ∷ codes "required" ∷ []
 
 abbrev pub positional_keys : List (List ℕ)
-positional_keys = codes "value" ∷ codes "default" ∷ codes "values" ∷ codes "help" ∷ codes "hidden" ∷ codes "required" ∷ codes "repeated" ∷ codes "strict" ∷ []
+positional_keys = codes "value" ∷ codes "default" ∷ codes "values" ∷ codes "hint" ∷ codes "help" ∷ codes "hidden" ∷ codes "required" ∷ codes "repeated" ∷ codes "strict" ∷ []
 
 abbrev pub group_keys : List (List ℕ)
 group_keys = codes "title" ∷ codes "option" ∷ codes "choice" ∷ codes "positional" ∷ codes "command" ∷ []
@@ -83,11 +85,12 @@ abbrev pub is_syntax : SpellingSaid → Bool
 is_syntax (named name) = false
 is_syntax (syntax text) = true
 
--- the word for the value of an option, what holds where it is not given, and what it may be
+-- the word for the value of an option, what holds where it is not given, what it may be, and what a shell offers
 pub record ValueSaid : Type 0 where
   pub value : Option (List ℕ)
   pub default : Option (List ℕ)
   pub values : Option (List ℕ)
+  pub hint : ValueHint
 
 -- a text where there is none of another kind
 abbrev pub unless_there : (other : Bool) → Option (List ℕ) → Option (Option (List ℕ))
@@ -98,17 +101,23 @@ unless_there other text = Some text
 abbrev pub is_flag : (is_syntax : Bool) → (value : Option (List ℕ)) → Bool
 is_flag is_syntax value = not (is_syntax || is_some value)
 
--- a word for a value stands beside no syntax, and nothing is said of the value of a flag
+-- what a shell offers, where there is nothing of another kind; files where nothing is said
+abbrev pub hint_unless : (other : Bool) → Option ValueHint → Option ValueHint
+hint_unless other None = Some File
+hint_unless true (Some hint) = None
+hint_unless false (Some hint) = Some hint
+
+-- a word for a value stands beside no syntax, nothing is said of the value of a flag, and a hint stands beside no values
 unfoldable pub option_value : (is_syntax : Bool) → Members → Option ValueSaid
 option_value is_syntax ms =
-    optional_at as_value (codes "value") ms >>= unless_there is_syntax >>= (λ value. optional_at as_default (codes "default") ms >>= unless_there (is_flag is_syntax value) >>= (λ default. optional_at as_values (codes "values") ms >>= unless_there (is_flag is_syntax value) >>= (λ values.
-    Some (record { value = value; default = default; values = values }))))
+    optional_at as_value (codes "value") ms >>= unless_there is_syntax >>= (λ value. optional_at as_default (codes "default") ms >>= unless_there (is_flag is_syntax value) >>= (λ default. optional_at as_values (codes "values") ms >>= unless_there (is_flag is_syntax value) >>= (λ values. optional_at as_hint (codes "hint") ms >>= hint_unless (is_flag is_syntax value || is_some values) >>= (λ hint.
+    Some (record { value = value; default = default; values = values; hint = hint })))))
 
 -- what an option is called and says
 abbrev pub option_texts : Members → Option OptSaid
 option_texts ms =
     option_spelling ms >>= (λ spelling. option_value (is_syntax spelling) ms >>= (λ v. optional_at as_text (codes "help") ms >>= (λ help. flag_at false (codes "hidden") ms >>= (λ hidden. optional_at as_name (codes "env") ms >>= (λ env.
-    Some (record { spelling = spelling; value = v.value; default = v.default; values = v.values; help = help; env = env; required = false; repeated = false; hidden = hidden }))))))
+    Some (record { spelling = spelling; value = v.value; default = v.default; values = v.values; hint = v.hint; help = help; env = env; required = false; repeated = false; hidden = hidden }))))))
 
 -- what has a default may be left out
 abbrev pub required_beside : (default : Option (List ℕ)) → (left_out : Bool) → Members → Option Bool
@@ -131,8 +140,8 @@ choice_from = with_only choice_keys (λ ms. tables_at (codes "option") ms >>= (�
 -- what a positional value is called and says
 abbrev pub positional_texts : Members → Option PositionalSaid
 positional_texts ms =
-    required_at as_value (codes "value") ms >>= (λ value. optional_at as_default (codes "default") ms >>= (λ default. optional_at as_values (codes "values") ms >>= (λ values. optional_at as_text (codes "help") ms >>= (λ help. flag_at false (codes "hidden") ms >>= (λ hidden.
-    Some (record { value = value; default = default; values = values; help = help; required = true; repeated = false; strict = false; hidden = hidden }))))))
+    required_at as_value (codes "value") ms >>= (λ value. optional_at as_default (codes "default") ms >>= (λ default. optional_at as_values (codes "values") ms >>= (λ values. optional_at as_hint (codes "hint") ms >>= hint_unless (is_some values) >>= (λ hint. optional_at as_text (codes "help") ms >>= (λ help. flag_at false (codes "hidden") ms >>= (λ hidden.
+    Some (record { value = value; default = default; values = values; hint = hint; help = help; required = true; repeated = false; strict = false; hidden = hidden })))))))
 
 abbrev pub positional_of : Members → Option PositionalSaid
 positional_of ms = positional_texts ms >>= (λ positional. required_beside positional.default true ms >>= (λ required. flag_at false (codes "repeated") ms >>= (λ repeated. flag_at false (codes "strict") ms >>= (λ strict.

@@ -11,6 +11,7 @@ ghost use Rattle.description_toml.specs.Faults.{IsMemory, Reads, TellsSome};
 
 mod faults;
 mod fixed;
+mod hints;
 mod levels;
 mod options;
 mod places;

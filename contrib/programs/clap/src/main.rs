@@ -3,7 +3,7 @@
 #[path = "../../../clap.rs"]
 mod clidoc;
 
-use clap::{Arg, ArgAction, ArgGroup, Command};
+use clap::{Arg, ArgAction, ArgGroup, Command, ValueHint};
 
 fn main() {
     let save = Command::new("save")
@@ -23,6 +23,7 @@ fn main() {
         )
         .arg(Arg::new("jobs").short('j').long("jobs").value_name("COUNT").env("DEPOT_JOBS").help("How many at once"))
         .arg(Arg::new("exclude").short('x').action(ArgAction::Append).help_heading("Filters"))
+        .arg(Arg::new("to").long("to").value_name("FOLDER").value_hint(ValueHint::DirPath).help("Where to"))
         .arg(Arg::new("point").long("point").value_names(["X", "Y"]).help("Where to begin"))
         .arg(Arg::new("name").short('n').visible_short_alias('N').long("name").help("Its name").help_heading("Filters"))
         .arg(Arg::new("all").short('a').long("all").action(ArgAction::SetTrue).help("All files"))

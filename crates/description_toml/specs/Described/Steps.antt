@@ -43,7 +43,7 @@ abbrev pub group_head_seen : SeenGroup → GroupHead
 group_head_seen g = record { title = g.title.now; lists = lists_seen g.lists }
 
 abbrev pub value_texts_seen : ValueTexts → ValueSaid
-value_texts_seen t = record { value = text_of t.value; default = text_of t.default; values = text_of t.values }
+value_texts_seen t = record { value = text_of t.value; default = text_of t.default; values = text_of t.values; hint = t.hint }
 
 abbrev pub command_head_seen : {A : Type 0} → SeenCommand A → CommandHead
 command_head_seen c = record { names = record { name = c.name.now; initial = c.short; aliases = words_of c.aliases.items; hidden = c.hidden }; help = text_of c.help; outline = outline_seen c.outline }

@@ -5,6 +5,8 @@ use Rattle.std.specs.Int.{is_in_range}
 use Rattle.std.specs.List.{list_all}
 use Rattle.std.specs.Str.{trim_end}
 use Rattle.toml.specs.Data.{Data, as_str}
+use Rattle.unicode.specs.Binary.{is_variation_selector}
+use Rattle.shown_words.specs.Hidden.{is_unseen}
 use Rattle.description_texts.specs.Texts.{is_empty}
 
 -- ---- characters
@@ -21,13 +23,13 @@ is_line_character c = not (is_control c) && not (is_noncharacter c)
 abbrev pub is_text_character : ℕ → Bool
 is_text_character c = (c == 10 || c == 9) || is_line_character c
 
--- what shows nothing, or turns the direction of what stands beside it: U+200B, U+202A to U+202E, U+2060 to U+206F, U+FEFF, and the tags, U+E0000 to U+E007F
-abbrev pub is_hidden : ℕ → Bool
-is_hidden c = c == 0x200B || is_in_range 0x202A 0x202E c || is_in_range 0x2060 0x206F c || c == 0xFEFF || is_in_range 0xE_0000 0xE_007F c
-
--- what joins letters of some scripts or parts them, and tells the direction of a letter beside it: U+200C to U+200F
+-- what joins letters of some scripts or parts them, tells the direction of a letter beside it, U+200C to U+200F, or tells which form of a sign is meant, as of an emoji
 abbrev pub is_joiner : ℕ → Bool
-is_joiner = is_in_range 0x200C 0x200F
+is_joiner c = is_in_range 0x200C 0x200F c || is_variation_selector c
+
+-- any other of which nothing is seen where it stands
+abbrev pub is_hidden : ℕ → Bool
+is_hidden c = is_unseen c && not (is_joiner c)
 
 -- of a word that stands for something, or above something: what is there is seen
 abbrev pub is_word_character : ℕ → Bool

@@ -2,6 +2,8 @@
 use Rattle.std.specs.Prelude.{chars, codes, ℕ, ◌+◌, nat_lt, ℤ, pos, negsuc, List, [], ◌∷◌, Bool, true, false, ◌&&◌, if◌then◌else◌, Option, Some, None, is_some, option_map, option_and_then, bytes_eq}
 use Rattle.std.specs.Fmt.{signed_decimal}
 use Rattle.std.specs.List.{join_by, list_any}
+use Rattle.description.specs.declared.hints.ValueHint.{ValueHint}
+use Rattle.description.specs.declared.hints.ValueHint.TheVariants as hint
 use Rattle.toml_datetime.specs.declared.datetime.Datetime.{Datetime}
 use Rattle.toml_datetime.specs.declared.datetime.Date.{Date}
 use Rattle.toml_datetime.specs.declared.datetime.Offset.{Offset}
@@ -127,3 +129,16 @@ listed_texts = join_by (λ text. text) (codes ", ")
 -- the values that there may be, as one text on one line
 abbrev pub as_values : Data → Option (List ℕ)
 as_values d = option_and_then (λ values. if_passes is_value (listed_texts values)) (as_texts as_value d)
+
+-- what a shell offers, by the word that says it
+abbrev pub hint_named : List ℕ → Option ValueHint
+hint_named word =
+    if bytes_eq word (codes "file") then Some hint.File
+    else if bytes_eq word (codes "folder") then Some hint.Folder
+    else if bytes_eq word (codes "none") then Some hint.Nothing
+    else if bytes_eq word (codes "user") then Some hint.User
+    else if bytes_eq word (codes "host") then Some hint.Host
+    else None
+
+abbrev pub as_hint : Data → Option ValueHint
+as_hint d = option_and_then hint_named (as_str d)

@@ -12,35 +12,38 @@ ghost use Rattle.description_toml.specs.Described.Texts.{as_value};
 ghost use Rattle.description_toml.specs.Described.Values.{as_default, as_values, each_table, optional_at, tables_at};
 ghost use Rattle.description_toml.specs.Faults.{Reads};
 
+use super::hints::{BESIDE_NONE, has_values, hint_beside};
 use super::teller::{Refused, Teller};
 use super::texts::Kind;
 use super::values::{
     check_keys, default_at, flag_at, is_empty, required_word_at, short_at, syntax_at, table_of,
     tables_at, text_at, value_at, values_at, word_at,
 };
+use description::hints::ValueHint;
 use description::options::{Choice, Name, Opt, Spelling};
 use description::positionals::Positional;
 use lasting_names::Names;
 use std::alloc::Allocator;
 use toml::{Table, Value};
 
-const ALTERNATIVE_KEYS: [&str; 9] = [
-    "short", "long", "syntax", "value", "default", "values", "help", "hidden", "env",
+const ALTERNATIVE_KEYS: [&str; 10] = [
+    "short", "long", "syntax", "value", "default", "values", "hint", "help", "hidden", "env",
 ];
 
-const OPTION_KEYS: [&str; 11] = [
-    "short", "long", "syntax", "value", "default", "values", "help", "hidden", "env", "required",
+const OPTION_KEYS: [&str; 12] = [
+    "short", "long", "syntax", "value", "default", "values", "hint", "help", "hidden", "env",
+    "required", "repeated",
+];
+
+const HELP_OPTION_KEYS: [&str; 11] = [
+    "short", "long", "syntax", "value", "default", "values", "hint", "help", "env", "required",
     "repeated",
-];
-
-const HELP_OPTION_KEYS: [&str; 10] = [
-    "short", "long", "syntax", "value", "default", "values", "help", "env", "required", "repeated",
 ];
 
 const CHOICE_KEYS: [&str; 2] = ["option", "required"];
 
-const POSITIONAL_KEYS: [&str; 8] = [
-    "value", "default", "values", "help", "hidden", "required", "repeated", "strict",
+const POSITIONAL_KEYS: [&str; 9] = [
+    "value", "default", "values", "hint", "help", "hidden", "required", "repeated", "strict",
 ];
 
 fn option_spelling<'a, A: Allocator + Copy>(
@@ -101,6 +104,7 @@ struct ValueTexts<'a> {
     value: Option<&'static str>,
     default: Option<&'a str>,
     values: Option<&'a str>,
+    hint: ValueHint,
 }
 
 // The word for a value, which stands beside no syntax.
@@ -156,15 +160,14 @@ fn option_value<'a, A: Allocator + Copy>(
     let is_flag = seems_flag(is_syntax, value);
     let default = default_beside(teller, names, table, is_flag);
     let values = values_beside(teller, names, table, is_flag);
+    let hint = hint_beside(teller, table, is_flag, has_values(values));
     Ok(ValueTexts {
         value: value?,
         default: default?,
         values: values?,
+        hint: hint?,
     })
 }
-
-// What is wrong with what is said of the value of a flag.
-const BESIDE_NONE: &str = " stands beside no value and no syntax";
 
 fn is_flag(is_syntax: bool, value: Option<&str>) -> bool
     ensures { result ≡ is_flag is_syntax (text_of value.entry) }
@@ -217,12 +220,14 @@ fn option_texts<'a, A: Allocator + Copy>(
         value,
         default,
         values,
+        hint,
     } = texts?;
     Ok(Opt {
         spelling,
         value,
         default,
         values,
+        hint,
         help: help?,
         env: env?,
         required: false,
@@ -423,12 +428,14 @@ fn positional_texts<'a, A: Allocator + Copy>(
     let value = required_word_at(teller, names, table, "value", Kind::Value);
     let default = default_at(teller, names, table);
     let values = values_at(teller, names, table);
+    let hint = hint_beside(teller, table, false, has_values(values));
     let help = text_at(teller, table, "help", Kind::Text);
     let hidden = flag_at(teller, table, "hidden", false);
     Ok(Positional {
         value: value?,
         default: default?,
         values: values?,
+        hint: hint?,
         help: help?,
         hidden: hidden?,
         required: true,

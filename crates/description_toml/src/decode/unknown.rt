@@ -1,26 +1,42 @@
-//! What is said of keys that are not known.
+//! What is said of keys and hints that are not known.
 use crate::words::{Brief, nearest};
 use std::alloc::{AllocError, Allocator};
 use std::fmt;
 use std::fmt::Display;
 
-// Keys that others have for what a key here says, and the keys that say it, the first that a table has.
-const OTHER_KEYS: [(&str, [&str; 2]); 15] = [
-    ("alias", ["aliases", "aliases"]),
-    ("arg", ["positional", "value"]),
-    ("args", ["positional", "value"]),
-    ("argument", ["positional", "value"]),
-    ("arguments", ["positional", "value"]),
-    ("choices", ["values", "values"]),
-    ("description", ["about", "help"]),
-    ("epilog", ["footer", "footer"]),
-    ("flags", ["syntax", "option"]),
-    ("metavar", ["value", "value"]),
-    ("subcommand", ["command", "command"]),
-    ("subcommands", ["command", "command"]),
-    ("summary", ["about", "help"]),
-    ("type", ["value", "value"]),
-    ("version", ["vendor", "vendor"]),
+// Keys that others have for what a key here says, and the keys that say it, of which the first counts that a table has.
+const OTHER_KEYS: [(&str, &[&str]); 18] = [
+    ("alias", &["aliases"]),
+    ("arg", &["positional", "value"]),
+    ("args", &["positional", "value"]),
+    ("argument", &["positional", "value"]),
+    ("arguments", &["positional", "value"]),
+    ("choices", &["values"]),
+    ("count", &["repeated"]),
+    ("description", &["about", "help"]),
+    ("epilog", &["footer"]),
+    ("flags", &["syntax", "option"]),
+    ("metavar", &["value"]),
+    ("multiple", &["repeated"]),
+    ("name", &["long", "value", "title"]),
+    ("subcommand", &["command"]),
+    ("subcommands", &["command"]),
+    ("summary", &["about", "help"]),
+    ("value_hint", &["hint"]),
+    ("version", &["vendor"]),
+];
+
+// The words of the key `hint`.
+const HINTS: [&str; 5] = ["file", "folder", "none", "user", "host"];
+
+// Words that others have for what a hint here says.
+const OTHER_HINTS: [(&str, &str); 6] = [
+    ("dir", "folder"),
+    ("directory", "folder"),
+    ("hostname", "host"),
+    ("nothing", "none"),
+    ("path", "file"),
+    ("username", "user"),
 ];
 
 // The keys of the top that are no tables.
@@ -38,7 +54,7 @@ const TOP_KEYS: [&str; 11] = [
     "command_required",
 ];
 
-/// Which key may be meant by one that is not known.
+/// Which word may be meant by one that is not known.
 #[derive(Clone, Copy)]
 enum Meant {
     /// One that says this.
@@ -58,7 +74,7 @@ fn is_in(key: &str, keys: &[&str]) -> bool {
 fn other_key(key: &str, known: &'static [&'static str]) -> Option<&'static str> {
     for (other, keys) in &OTHER_KEYS {
         if *other == key {
-            return first_in(keys, known);
+            return first_in(*keys, known);
         }
     }
     None
@@ -91,34 +107,68 @@ fn meaning_of<A: Allocator + Copy>(
     Ok(Meant::Any(known))
 }
 
-/// A key that is not known, with what may be meant.
+fn other_hint(word: &str) -> Option<&'static str> {
+    for (other, hint) in &OTHER_HINTS {
+        if *other == word {
+            return Some(*hint);
+        }
+    }
+    None
+}
+
+fn hint_meant<A: Allocator + Copy>(alloc: A, word: &str) -> Result<Meant, AllocError> {
+    if let Some(hint) = other_hint(word) {
+        return Ok(Meant::Other(hint));
+    }
+    match nearest(alloc, word, &HINTS)? {
+        Some(near) => Ok(Meant::Near(near)),
+        None => Ok(Meant::Any(&HINTS)),
+    }
+}
+
+/// A key or a hint that is not known, with what may be meant.
 #[derive(Clone, Copy)]
 pub struct Unknown<'k> {
-    key: &'k str,
+    what: &'static str,
+    word: &'k str,
     meant: Meant,
 }
 
 impl<'k> Unknown<'k> {
     /// A key of a table that has these keys. `AllocError` where an allocation failed.
-    pub fn new<A: Allocator + Copy>(
+    pub fn key<A: Allocator + Copy>(
         alloc: A,
         key: &'k str,
         known: &'static [&'static str],
         is_top: bool,
     ) -> Result<Unknown<'k>, AllocError> {
         let meant = meaning_of(alloc, key, known, is_top)?;
-        Ok(Unknown { key, meant })
+        Ok(Unknown {
+            what: "key",
+            word: key,
+            meant,
+        })
+    }
+
+    /// A word that is none of those of the key `hint`. `AllocError` where an allocation failed.
+    pub fn hint<A: Allocator + Copy>(alloc: A, word: &'k str) -> Result<Unknown<'k>, AllocError> {
+        let meant = hint_meant(alloc, word)?;
+        Ok(Unknown {
+            what: "hint",
+            word,
+            meant,
+        })
     }
 }
 
 impl Display for Unknown<'_> {
     fn fmt<W: fmt::Write>(&self, f: &mut fmt::Formatter<W>) -> fmt::Result {
-        write!(f, "no key {} is known here; ", Brief(self.key))?;
+        write!(f, "no {} {} is known here; ", self.what, Brief(self.word))?;
         match self.meant {
             Meant::Other(other) => write!(f, "it is called {other}"),
             Meant::Near(near) => write!(f, "is it {near}?"),
             Meant::Top => f.write_str("a key of the top stands before the first table"),
-            Meant::Any(known) => write!(f, "keys are {}", Listed(known)),
+            Meant::Any(known) => write!(f, "{}s are {}", self.what, Listed(known)),
         }
     }
 }
