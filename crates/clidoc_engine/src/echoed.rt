@@ -1,6 +1,6 @@
 //! How lines show names of files and of folders.
 
-use description_toml::words::Shown;
+use description_toml::words::{Quoted, Shown};
 use std::fmt;
 use std::fmt::Display;
 
@@ -18,7 +18,7 @@ impl Display for Echoed<'_> {
         let Echoed(words) = self;
         match end(words) {
             Some(end) => write!(f, "..{}", Shown(end)),
-            None if is_for_a_reader_of_lines(words) => write!(f, "{words:?}"),
+            None if is_for_a_reader_of_lines(words) => write!(f, "{}", Quoted(words)),
             None => write!(f, "{}", Shown(words)),
         }
     }

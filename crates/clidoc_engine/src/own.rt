@@ -44,6 +44,7 @@ help = "Print the version"
 [[option]]
 long = "command"
 value = "NAME"
+hint = "none"
 help = """
 Show this command, by any of its names.
 
@@ -60,6 +61,7 @@ It goes with `man` and `markdown`."""
 [[option]]
 long = "width"
 value = "COLUMNS"
+hint = "none"
 help = """
 Break lines at so many columns.
 
@@ -84,6 +86,7 @@ It goes with `check`."""
 [[option]]
 long = "into"
 value = "FOLDER"
+hint = "folder"
 help = """
 Write all pages into this folder, which has to be there.
 
@@ -92,6 +95,7 @@ It goes with `all`."""
 [[option]]
 long = "date"
 value = "DATE"
+hint = "none"
 help = """
 Put this date on manual and HTML pages, and not that of the description.
 
@@ -100,6 +104,7 @@ It goes with `man`, `html` and `all`."""
 [[option]]
 long = "vendor"
 value = "TEXT"
+hint = "none"
 help = """
 Name this vendor on manual and HTML pages, and not that of the description.
 
@@ -107,6 +112,7 @@ It goes with `man`, `html` and `all`."""
 
 [[positional]]
 value = "FORM"
+values = ["usage", "full", "brief", "man", "markdown", "html", "complete", "check", "all"]
 help = """
 What is made of the description.
 

@@ -9,12 +9,14 @@ use crate::echoed::Echoed;
 use crate::engine::{check_description, page_of, run_description};
 use crate::faults::Fault;
 use crate::files::{PageFile, check_names};
+use crate::meant::Named;
 use crate::own::{DESCRIPTION, VERSION};
 use crate::reading::WordFault;
 use crate::words::{Choice, Console, ConsoleForm, Page, TitleGiven, choose, terminal_width};
 use crate::wrong::line_of;
 use folder::{enter, tell_left, tell_written, write_files};
 use limits::{Limit, Limits};
+use page_model::permitted::are_permitted;
 use std::alloc::{AllocError, Allocator, Global};
 use std::env::VarError;
 use std::fmt::Display;
@@ -209,6 +211,9 @@ fn write_page_of<R: Alloc + Env + Files + Input + Print>(
 where
     R::A: Copy,
 {
+    if let Page::Html { title, .. } | Page::Man { title, .. } = page {
+        check_given(global, *title)?;
+    }
     let limits = Limits::said(rt, global)?;
     match named(file) {
         None => write_page(rt, global, limits, page, (STANDARD_INPUT, rt.reader())),
@@ -247,6 +252,7 @@ fn write_all_of<R: Alloc + Env + Files + Input + Eprint + RandomSource>(
 where
     R::A: Copy,
 {
+    check_given(global, place.1)?;
     let limits = Limits::said(rt, global)?;
     match named(file) {
         None => write_all(rt, global, limits, place, (STANDARD_INPUT, rt.reader())),
@@ -254,6 +260,25 @@ where
             let input = opened(rt, global, file)?;
             write_all(rt, global, limits, place, (file, input))
         }
+    }
+}
+
+// Says which of the words that are given no page may have.
+fn check_given(global: Global, given: TitleGiven<'_>) -> Result<(), Failure> {
+    check_word(global, "--date", given.date)?;
+    check_word(global, "--vendor", given.vendor)
+}
+
+fn check_word(global: Global, option: &str, given: Option<&str>) -> Result<(), Failure> {
+    match given {
+        Some(word) if !are_permitted(word) => {
+            let word = Named(word);
+            let line = format!(in global;
+                "clidoc: no page: {option} {word} holds a control character or a noncharacter"
+            )?;
+            Err(Failure::Told(line))
+        }
+        _ => Ok(()),
     }
 }
 

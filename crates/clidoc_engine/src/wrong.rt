@@ -120,7 +120,7 @@ fn put_turned(line: &mut String, word: &str, form: &str) -> Result<(), AllocErro
 fn put_known(line: &mut String, global: Global, fault: &WordFault<'_>) -> Result<(), AllocError> {
     match fault {
         WordFault::NoForm => put_all(line, "; forms are ", &FORMS),
-        WordFault::NoSuchForm(word) => match nearest(global, word, &FORMS)? {
+        WordFault::NoSuchForm(word) => match meant_form(global, word)? {
             Some(form) => put_question(line, form),
             None => put_all(line, "; forms are ", &FORMS),
         },
@@ -130,6 +130,17 @@ fn put_known(line: &mut String, global: Global, fault: &WordFault<'_>) -> Result
             None => put_all(line, "; options are ", &OPTIONS),
         },
         _ => Ok(()),
+    }
+}
+
+// What a word may be that is no form: another word for one, or one that is written much alike.
+fn meant_form(global: Global, word: &str) -> Result<Option<&'static str>, AllocError> {
+    match word {
+        "help" => Ok(Some("--help")),
+        "version" => Ok(Some("--version")),
+        "md" => Ok(Some("markdown")),
+        "completion" | "completions" => Ok(Some("complete")),
+        _ => nearest(global, word, &FORMS),
     }
 }
 

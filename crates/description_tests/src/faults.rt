@@ -140,7 +140,7 @@ value = ''
 name = 'a'
 [[positional]]
 value = "\ufffe"
-=> positional 1 (￾): value holds a noncharacter
+=> positional 1 ("\u{fffe}"): value holds a noncharacter
 
 name = 'a'
 [[option]]
@@ -196,8 +196,26 @@ vendor = "\u206f"
 => vendor holds a character that is not seen
 
 name = 'a'
-vendor = "\u205f\u2070\ufefe\ufefd\u2029\u202f\U000dfffd\U000e0080"
+vendor = "\u205f\u2070\ufefe\ufefd\u2029\u202f\U000dfffd\U000e1000\u27ff\u2801\ufff8\ufffc"
+=> vendor holds a character that is not seen
+
+name = 'a'
+vendor = "\u205f\u2070\ufefe\ufefd\u2029\u202f\U000dfffd\U000e1000\u27ff\u2801\ufffc"
 => read
+
+name = 'a'
+vendor = "\u2764\ufe0f\u845b\U000e0100\u1820\u180b"
+=> read
+
+name = 'a'
+title = "\u3164"
+=> title holds a character that is not seen
+
+name = 'a'
+[[option]]
+short = 'b'
+value = "A\u00ad"
+=> option 1 (-b): value holds a character that is not seen
 
 name = 'a'
 title = ''
@@ -562,8 +580,47 @@ name = "a\u2060"
 name = "\u2010\u200a"
 => name holds a blank
 
-name = "\u2010\u2070\U000e0080"
+name = "\u2010\u2070\U000e1000"
 => read
+
+name = "a\u00adb"
+=> name holds a character that is not seen
+
+name = "a\u034f"
+=> name holds a character that is not seen
+
+name = "\u115f"
+=> name holds a character that is not seen
+
+name = "\u1160"
+=> name holds a character that is not seen
+
+name = "\u17b5"
+=> name holds a character that is not seen
+
+name = "a\u180e"
+=> name holds a character that is not seen
+
+name = "\u3164"
+=> name holds a character that is not seen
+
+name = "\uffa0"
+=> name holds a character that is not seen
+
+name = "a\ufe0f"
+=> name holds a character that is not seen
+
+name = "a\ufff9"
+=> name holds a character that is not seen
+
+name = "\u2800"
+=> name holds a character that is not seen
+
+name = "a\U0001d17a"
+=> name holds a character that is not seen
+
+name = "a\U000e0fff"
+=> name holds a character that is not seen
 
 name = 'a\'
 => name holds a backslash
@@ -678,7 +735,7 @@ short = "\u0007"
 name = 'a'
 [[option]]
 short = "\ufdd1"
-=> option 1 (-﷑): short holds a noncharacter
+=> option 1 (-"\u{fdd1}"): short holds a noncharacter
 
 name = 'a'
 [[option]]
@@ -852,7 +909,7 @@ option 1: short, long or syntax is missing
 
 [[option]]
 long_name = 1
-=> option 1: no key long_name is known here; keys are short, long, syntax, value, default, values, help, hidden, env, required and repeated
+=> option 1: no key long_name is known here; keys are short, long, syntax, value, default, values, hint, help, hidden, env, required and repeated
 option 1: short, long or syntax is missing
 
 [[option]]
@@ -862,7 +919,7 @@ option 1: short, long or syntax is missing
 
 [[option]]
 ev = 1
-=> option 1: no key ev is known here; keys are short, long, syntax, value, default, values, help, hidden, env, required and repeated
+=> option 1: no key ev is known here; keys are short, long, syntax, value, default, values, hint, help, hidden, env, required and repeated
 option 1: short, long or syntax is missing
 
 [[option]]
@@ -873,7 +930,7 @@ option 1: short, long or syntax is missing
 [[choice]]
 [[choice.option]]
 required = 1
-=> choice 1, option 1: no key required is known here; keys are short, long, syntax, value, default, values, help, hidden and env
+=> choice 1, option 1: no key required is known here; keys are short, long, syntax, value, default, values, hint, help, hidden and env
 choice 1, option 1: short, long or syntax is missing
 
 [[option]]
@@ -884,7 +941,7 @@ hidden = 1
 [[help_option]]
 short = 'b'
 hidden = true
-=> help_option 1 (-b): no key hidden is known here; keys are short, long, syntax, value, default, values, help, env, required and repeated
+=> help_option 1 (-b): no key hidden is known here; keys are short, long, syntax, value, default, values, hint, help, env, required and repeated
 
 [[command]]
 sort = 'a'
@@ -1054,6 +1111,92 @@ value = 'V'
 values = ["a\nb"]
 => positional 1 (V): values holds a control character
 
+[[option]]
+long = 'b'
+value = 'V'
+hint = 'file'
+=> read
+
+[[option]]
+syntax = '--b[=V]'
+hint = 'folder'
+=> read
+
+[[positional]]
+value = 'V'
+hint = 'none'
+=> read
+
+[[help_option]]
+long = 'b'
+value = 'V'
+hint = 'user'
+=> read
+
+[[choice]]
+[[choice.option]]
+long = 'b'
+value = 'V'
+hint = 'host'
+=> read
+
+[[option]]
+long = 'b'
+hint = 'file'
+=> option 1 (--b): hint stands beside no value and no syntax
+
+[[option]]
+long = 'b'
+value = 'V'
+values = ['x']
+hint = 'none'
+=> option 1 (--b): hint stands beside values
+
+[[option]]
+long = 'b'
+values = ['x']
+hint = 'none'
+=> option 1 (--b): values stands beside no value and no syntax
+option 1 (--b): hint stands beside no value and no syntax
+
+[[positional]]
+value = 'V'
+values = ['x']
+hint = 'file'
+=> positional 1 (V): hint stands beside values
+
+[[positional]]
+value = 'V'
+hint = 'File'
+=> positional 1 (V): no hint File is known here; is it file?
+
+[[positional]]
+value = 'V'
+hint = 'fodler'
+=> positional 1 (V): no hint fodler is known here; is it folder?
+
+[[positional]]
+value = 'V'
+hint = 'directory'
+=> positional 1 (V): no hint directory is known here; it is called folder
+
+[[positional]]
+value = 'V'
+hint = ''
+=> positional 1 (V): no hint '' is known here; hints are file, folder, none, user and host
+
+[[option]]
+long = 'b'
+value = 'V'
+hint = "file\u001b[1m"
+=> option 1 (--b): no hint "file\u{1b}[1m" is known here; hints are file, folder, none, user and host
+
+[[option]]
+long = 'b'
+value = 'V'
+hint = ['file']
+=> option 1 (--b): hint is no text
+
 [[command]]
 name = 'b'
 aliases = []
@@ -1218,11 +1361,20 @@ short = 'b'
 choices = ['x']
 description = 'x'
 flags = '-b'
-type = 'int'
+name = 'int'
+count = true
+value_hint = 'file'
 => option 1 (-b): no key choices is known here; it is called values
+option 1 (-b): no key count is known here; it is called repeated
 option 1 (-b): no key description is known here; it is called help
 option 1 (-b): no key flags is known here; it is called syntax
-option 1 (-b): no key type is known here; it is called value
+option 1 (-b): no key name is known here; it is called long
+option 1 (-b): no key value_hint is known here; it is called hint
+
+[[positional]]
+value = 'B'
+name = 'B'
+=> positional 1 (B): no key name is known here; it is called value
 
 [[command]]
 name = 'b'
@@ -1243,7 +1395,7 @@ about = 'A'
 [[option]]
 short = 'b'
 positional = 1
-=> option 1 (-b): no key positional is known here; keys are short, long, syntax, value, default, values, help, hidden, env, required and repeated
+=> option 1 (-b): no key positional is known here; keys are short, long, syntax, value, default, values, hint, help, hidden, env, required and repeated
 
 [[topic]]
 title = 'T'
@@ -1361,6 +1513,7 @@ syntax = 1
 value = 1
 default = true
 values = 1
+hint = 1
 help = 1
 hidden = 1
 env = 1
@@ -1372,6 +1525,7 @@ option 1: syntax is no text
 option 1: value is no text
 option 1: default is no text and no whole number
 option 1: values is no array of texts
+option 1: hint is no text
 option 1: help is no text
 option 1: hidden is neither true nor false
 option 1: env is no text
@@ -1382,6 +1536,7 @@ name = 'a'
 [[positional]]
 default = true
 values = 1
+hint = 1
 help = 1
 hidden = 1
 required = 1
@@ -1390,6 +1545,7 @@ strict = 1
 => positional 1: value is missing
 positional 1: default is no text and no whole number
 positional 1: values is no array of texts
+positional 1: hint is no text
 positional 1: help is no text
 positional 1: hidden is neither true nor false
 positional 1: required is neither true nor false

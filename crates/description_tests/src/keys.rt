@@ -22,19 +22,25 @@ pub const OPTION_ROWS: &[Row<'static>] = &[
     (
         "name = 'a'\n[[option]]\nshort = 'b'\nrequired = true\nrepeated = true\nhidden = true\n[[option]]\nlong = 'color'\nvalue = 'WHEN'\ndefault = 'auto'\nvalues = ['never', 'auto']\nhelp = 'H'\nenv = 'E'\n[[option]]\nsyntax = '-n, --line'\n",
         Form::Level,
-        "Level { about: None, header: None, footer: None, usage: None, command_required: true, options: [Opt { spelling: Names(Short('b')), value: None, default: None, values: None, help: None, env: None, required: true, repeated: true, hidden: true }, Opt { spelling: Names(Long(\"color\")), value: Some(\"WHEN\"), default: Some(\"auto\"), values: Some(\"never, auto\"), help: Some(\"H\"), env: Some(\"E\"), required: false, repeated: false, hidden: false }, Opt { spelling: Syntax(\"-n, --line\"), value: None, default: None, values: None, help: None, env: None, required: false, repeated: false, hidden: false }], choices: [], groups: [], positionals: [], commands: [], topics: [] }",
+        "Level { about: None, header: None, footer: None, usage: None, command_required: true, options: [Opt { spelling: Names(Short('b')), value: None, default: None, values: None, hint: File, help: None, env: None, required: true, repeated: true, hidden: true }, Opt { spelling: Names(Long(\"color\")), value: Some(\"WHEN\"), default: Some(\"auto\"), values: Some(\"never, auto\"), hint: File, help: Some(\"H\"), env: Some(\"E\"), required: false, repeated: false, hidden: false }, Opt { spelling: Syntax(\"-n, --line\"), value: None, default: None, values: None, hint: File, help: None, env: None, required: false, repeated: false, hidden: false }], choices: [], groups: [], positionals: [], commands: [], topics: [] }",
     ),
     (
         "name = 'a'\n[[choice]]\nrequired = true\n[[choice.option]]\nshort = 'd'\nlong = 'dd'\n",
         Form::Level,
-        "Level { about: None, header: None, footer: None, usage: None, command_required: true, options: [], choices: [Choice { options: [Opt { spelling: Names(Both('d', \"dd\")), value: None, default: None, values: None, help: None, env: None, required: false, repeated: false, hidden: false }], required: true }], groups: [], positionals: [], commands: [], topics: [] }",
+        "Level { about: None, header: None, footer: None, usage: None, command_required: true, options: [], choices: [Choice { options: [Opt { spelling: Names(Both('d', \"dd\")), value: None, default: None, values: None, hint: File, help: None, env: None, required: false, repeated: false, hidden: false }], required: true }], groups: [], positionals: [], commands: [], topics: [] }",
+    ),
+    // What a shell offers.
+    (
+        "name = 'a'\n[[option]]\nlong = 'f'\nvalue = 'F'\nhint = 'file'\n[[option]]\nlong = 'd'\nvalue = 'D'\nhint = 'folder'\n[[option]]\nsyntax = '-n[N]'\nhint = 'none'\n[[positional]]\nvalue = 'U'\nhint = 'user'\n[[positional]]\nvalue = 'H'\nhint = 'host'\n",
+        Form::Level,
+        "Level { about: None, header: None, footer: None, usage: None, command_required: true, options: [Opt { spelling: Names(Long(\"f\")), value: Some(\"F\"), default: None, values: None, hint: File, help: None, env: None, required: false, repeated: false, hidden: false }, Opt { spelling: Names(Long(\"d\")), value: Some(\"D\"), default: None, values: None, hint: Folder, help: None, env: None, required: false, repeated: false, hidden: false }, Opt { spelling: Syntax(\"-n[N]\"), value: None, default: None, values: None, hint: Nothing, help: None, env: None, required: false, repeated: false, hidden: false }], choices: [], groups: [], positionals: [Positional { value: \"U\", default: None, values: None, hint: User, help: None, required: true, repeated: false, strict: false, hidden: false }, Positional { value: \"H\", default: None, values: None, hint: Host, help: None, required: true, repeated: false, strict: false, hidden: false }], commands: [], topics: [] }",
     ),
 ];
 
 pub const VALUE_ROWS: &[Row<'static>] = &[(
     "name = 'a'\n[[positional]]\nvalue = 'F'\ndefault = -4\nhelp = \"Read\\nit\"\n[[positional]]\nvalue = 'G'\nvalues = ['x']\nrepeated = true\nstrict = true\nhidden = true\n",
     Form::Level,
-    "Level { about: None, header: None, footer: None, usage: None, command_required: true, options: [], choices: [], groups: [], positionals: [Positional { value: \"F\", default: Some(\"-4\"), values: None, help: Some(\"Read\\nit\"), required: false, repeated: false, strict: false, hidden: false }, Positional { value: \"G\", default: None, values: Some(\"x\"), help: None, required: true, repeated: true, strict: true, hidden: true }], commands: [], topics: [] }",
+    "Level { about: None, header: None, footer: None, usage: None, command_required: true, options: [], choices: [], groups: [], positionals: [Positional { value: \"F\", default: Some(\"-4\"), values: None, hint: File, help: Some(\"Read\\nit\"), required: false, repeated: false, strict: false, hidden: false }, Positional { value: \"G\", default: None, values: Some(\"x\"), hint: File, help: None, required: true, repeated: true, strict: true, hidden: true }], commands: [], topics: [] }",
 )];
 
 pub const COMMAND_ROWS: &[Row<'static>] = &[(

@@ -106,7 +106,7 @@ syntax = "-a\u001b[m"
 
 [[help_option]]
 syntax = "-a\uffff"
-=> help_option 1 (-a￿): syntax holds a noncharacter
+=> help_option 1 ("-a\u{ffff}"): syntax holds a noncharacter
 
 # In the order of keys `syntax` stands between `long` and `value`.
 [[option]]
@@ -145,7 +145,7 @@ option 1: short, long or syntax is missing
 [[positional]]
 value = 'V'
 syntax = 'V'
-=> positional 1 (V): no key syntax is known here; keys are value, default, values, help, hidden, required, repeated and strict
+=> positional 1 (V): no key syntax is known here; keys are value, default, values, hint, help, hidden, required, repeated and strict
 "#;
 
 // Names that are taken, and names that are not.

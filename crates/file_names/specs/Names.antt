@@ -1,5 +1,5 @@
 -- Which names files may have, here and on other systems, and which of them some folders take for one.
-use Rattle.std.specs.Prelude.{codes, chars, encode_utf8_all, ℕ, List, [], ◌∷◌, ◌==◌, ◌&&◌, ◌||◌, nat_le, length, map, take, Bool, true, not, bytes_eq, slice_index}
+use Rattle.std.specs.Prelude.{codes, chars, drop, encode_utf8_all, ℕ, List, [], ◌∷◌, ◌==◌, ◌&&◌, ◌||◌, nat_le, length, map, take, Bool, false, true, not, bytes_eq, slice_index}
 use Rattle.std.specs.Borrow.{Bor}
 use Rattle.std.specs.Char.{is_ascii_digit, to_ascii_lowercase}
 use Rattle.std.specs.List.{list_any, prefix_len}
@@ -31,12 +31,23 @@ stem name = take (prefix_len is_no_dot name) name
 abbrev pub is_console : List ℕ → Bool
 is_console word = are_same_letters word (codes "con") || are_same_letters word (codes "prn") || are_same_letters word (codes "aux") || are_same_letters word (codes "nul")
 
--- `com` or `lpt` with a digit
+-- what is typed into a console, and what it shows
+abbrev pub is_console_end : List ℕ → Bool
+is_console_end word = are_same_letters word (codes "conin$") || are_same_letters word (codes "conout$")
+
+-- a digit, or `²`, `³` or `¹`, which are C2 with B2, B3 or B9 behind it
+abbrev pub is_port_number : List ℕ → Bool
+is_port_number [] = false
+is_port_number (b ∷ []) = is_ascii_digit b
+is_port_number (b ∷ c ∷ []) = b == 0xC2 && (c == 0xB2 || c == 0xB3 || c == 0xB9)
+is_port_number (b ∷ c ∷ d ∷ number) = false
+
+-- `com` or `lpt` with the number of a port
 abbrev pub is_port : List ℕ → Bool
-is_port word = length word == 4 && is_ascii_digit (slice_index word 3) && (are_same_letters (take 3 word) (codes "com") || are_same_letters (take 3 word) (codes "lpt"))
+is_port word = is_port_number (drop 3 word) && (are_same_letters (take 3 word) (codes "com") || are_same_letters (take 3 word) (codes "lpt"))
 
 abbrev pub is_device : List ℕ → Bool
-is_device name = is_console (stem name) || is_port (stem name)
+is_device name = is_console (stem name) || is_console_end (stem name) || is_port (stem name)
 
 -- the page that is shown where a folder is asked for
 abbrev pub is_index : List ℕ → Bool

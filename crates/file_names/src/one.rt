@@ -2,8 +2,9 @@
 
 ghost use Rattle.std.specs.Prelude.{◌≡◌, ◌&&◌, is_ok, nat_le, length, not};
 ghost use Rattle.std.specs.List.{list_any, prefix_len};
-ghost use Rattle.file_names.specs.Names.{are_same_letters, begins_well, is_console, is_device, is_file_name};
-ghost use Rattle.file_names.specs.Names.{is_foreign, is_index, is_no_dot, is_port, is_slash, stem};
+ghost use Rattle.file_names.specs.Names.{are_same_letters, begins_well, is_console, is_console_end, is_device};
+ghost use Rattle.file_names.specs.Names.{is_file_name, is_foreign, is_index, is_no_dot, is_port, is_port_number};
+ghost use Rattle.file_names.specs.Names.{is_slash, stem};
 
 use crate::NameFault;
 
@@ -100,7 +101,7 @@ fn is_device(name: &[u8]) -> bool
     ensures { result ≡ is_device name.now }
 {
     let word = stem(name);
-    is_console(word) || is_port(word)
+    is_console(word) || is_console_end(word) || is_port(word)
 }
 
 fn is_console(word: &[u8]) -> bool
@@ -112,11 +113,28 @@ fn is_console(word: &[u8]) -> bool
         || are_same_letters(word, "nul")
 }
 
+fn is_console_end(word: &[u8]) -> bool
+    ensures { result ≡ is_console_end word.now }
+{
+    are_same_letters(word, "conin$") || are_same_letters(word, "conout$")
+}
+
+// A digit, or one of three that are written above the line.
+fn is_port_number(number: &[u8]) -> bool
+    ensures { result ≡ is_port_number number.now }
+{
+    match number {
+        [digit] => digit.is_ascii_digit(),
+        [first, second] => *first == 0xc2 && matches!(*second, 0xb2 | 0xb3 | 0xb9),
+        _ => false,
+    }
+}
+
 fn is_port(word: &[u8]) -> bool
     ensures { result ≡ is_port word.now }
 {
-    word.len() == 4
-        && word[3].is_ascii_digit()
+    word.len() > 3
+        && is_port_number(&word[3..])
         && (are_same_letters(&word[..3], "com") || are_same_letters(&word[..3], "lpt"))
 }
 

@@ -46,6 +46,15 @@ clidoc: no form a.toml; forms are usage, full, brief, man, markdown, html, compl
 clidoc|a.toml|b.toml
 clidoc: no form a.toml; forms are usage, full, brief, man, markdown, html, complete, check and all
 
+clidoc|help
+clidoc: no form help; is it --help?
+
+clidoc|md|a.toml
+clidoc: no form md; is it markdown?
+
+clidoc|completion|a.toml
+clidoc: no form completion; is it complete?
+
 clidoc|full|a|b
 clidoc: one word too many: b
 
@@ -416,6 +425,9 @@ Arguments:
                          - all: the manual page and the page in markdown of each level, and the HTML
                            page, as files of --into.
 
+                         [possible values: usage, full, brief, man, markdown, html, complete, check,
+                         all]
+
     FILE                 Where the description stands; - is standard input
 
 Options:
@@ -573,7 +585,7 @@ clidoc: no command add in app; its command is remote
 clidoc|man|--date=a\u{7}
 
 ====
-clidoc: no page: a control character or a noncharacter in a text
+clidoc: no page: --date \"a\\u{7}\" holds a control character or a noncharacter
 ----
 clidoc|html|--command|add
 
@@ -583,7 +595,7 @@ clidoc: no command add in app; its command is remote
 clidoc|html|--vendor=a\u{7}
 
 ====
-clidoc: no page: a control character or a noncharacter in a text
+clidoc: no page: --vendor \"a\\u{7}\" holds a control character or a noncharacter
 ----
 clidoc|full|nowhere.toml
 
@@ -942,7 +954,7 @@ const FAULTY: &[Faulty] = &[
         FIRST,
         1,
         0,
-        "clidoc: no page: a control character or a noncharacter in a text",
+        "clidoc: no page: --vendor \"\\u{1}\" holds a control character or a noncharacter",
     ),
     (
         "clidoc|full",

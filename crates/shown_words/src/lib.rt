@@ -3,13 +3,14 @@
 
 ghost use Rattle.std.specs.Prelude.{◌≡◌, chars};
 ghost use Rattle.std.specs.List.{list_any};
-ghost use Rattle.shown_words.specs.Hidden.{is_between, is_direction, is_hidden, is_zero_width};
+ghost use Rattle.shown_words.specs.Hidden.{is_between, is_hidden, is_separator, is_unseen};
 
 use std::fmt;
 use std::fmt::Display;
+use unicode::properties::{is_default_ignorable_code_point, is_noncharacter_code_point};
 
-/// A word, as it stands; or as `{:?}` has it, where it holds a hidden character, so that what shows it stays one line,
-/// nothing in it is hidden, and nothing of it reaches a terminal as a command or turns the line around.
+/// A word, as it stands; or in double quotes and with escapes, where it holds a hidden character, so that what shows it
+/// stays one line, nothing in it is hidden, and nothing of it reaches a terminal as a command or turns the line around.
 #[derive(Clone, Copy)]
 pub struct Shown<'w>(pub &'w str);
 
@@ -17,14 +18,15 @@ impl Display for Shown<'_> {
     fn fmt<W: fmt::Write>(&self, f: &mut fmt::Formatter<W>) -> fmt::Result {
         let Shown(word) = self;
         if holds_hidden(*word) {
-            write!(f, "{word:?}")
+            write_quoted(*word, f)
         } else {
             f.write_str(*word)
         }
     }
 }
 
-/// A word as `Shown` has it: of more than 60 characters the first 60, with `..` behind them, and of none two quotes.
+/// A word as `Shown` has it: of a long one its front, with `..` behind it, and of none two quotes. A word is long that has
+/// more than 60 characters, or is shown by more than 200 bytes.
 #[derive(Clone, Copy)]
 pub struct Brief<'w>(pub &'w str);
 
@@ -41,7 +43,7 @@ impl Display for Brief<'_> {
     }
 }
 
-/// A word as `{:?}` has it, in double quotes: of more than 60 characters the first 60, with `..` behind them.
+/// A word in double quotes and with escapes: of a long one its front, with `..` behind it.
 #[derive(Clone, Copy)]
 pub struct Quoted<'w>(pub &'w str);
 
@@ -49,20 +51,58 @@ impl Display for Quoted<'_> {
     fn fmt<W: fmt::Write>(&self, f: &mut fmt::Formatter<W>) -> fmt::Result {
         let Quoted(word) = self;
         match front(*word) {
-            Some(front) => write!(f, "{front:?}.."),
-            None => write!(f, "{word:?}"),
+            Some(front) => {
+                write_quoted(front, f)?;
+                f.write_str("..")
+            }
+            None => write_quoted(*word, f),
         }
     }
 }
 
-// So many characters of a word are shown where it is to be brief.
+// So many characters of a word, and bytes of what shows it, are shown where it is to be brief.
 const BRIEF: usize = 60;
 
-// The first characters of a word that has more.
+const BRIEF_BYTES: usize = 200;
+
+// The first characters of a word that is longer.
 fn front(word: &str) -> Option<&str> {
-    let (end, _) = word.char_indices().nth(BRIEF)?;
-    let (front, _) = word.split_at_checked(end)?;
-    Some(front)
+    let mut left = BRIEF_BYTES;
+    for (count, (at, character)) in word.char_indices().enumerate() {
+        match left.checked_sub(shown_len(character)) {
+            Some(less) if count < BRIEF => left = less,
+            _ => return word.get(..at),
+        }
+    }
+    None
+}
+
+// How many bytes show a character at most.
+fn shown_len(character: char) -> usize {
+    if is_unseen(character) {
+        character.escape_unicode().count()
+    } else {
+        character.escape_debug().count().max(character.len_utf8())
+    }
+}
+
+// Writes a character as it stands within double quotes.
+fn write_escaped<W: fmt::Write>(character: char, f: &mut fmt::Formatter<W>) -> fmt::Result {
+    if character == '\'' {
+        f.write_str("'")
+    } else if is_unseen(character) {
+        write!(f, "{}", character.escape_unicode())
+    } else {
+        write!(f, "{}", character.escape_debug())
+    }
+}
+
+fn write_quoted<W: fmt::Write>(word: &str, f: &mut fmt::Formatter<W>) -> fmt::Result {
+    f.write_str("\"")?;
+    for character in word.chars() {
+        write_escaped(character, f)?;
+    }
+    f.write_str("\"")
 }
 
 fn is_between(first: char, last: char, character: char) -> bool
@@ -71,31 +111,31 @@ fn is_between(first: char, last: char, character: char) -> bool
     first <= character && character <= last
 }
 
-fn is_direction(character: char) -> bool
-    ensures { result ≡ is_direction character }
+/// Whether nothing is seen of a character where it stands: a font may leave it out, it is a mark of notes between lines,
+/// or it is the pattern of Braille without a dot.
+pub fn is_unseen(character: char) -> bool
+    ensures { result ≡ is_unseen character }
 {
-    character == '\u{61c}'
-        || is_between('\u{200b}', '\u{200f}', character)
-        || is_between('\u{2028}', '\u{202e}', character)
-        || is_between('\u{2060}', '\u{206f}', character)
-}
-
-fn is_zero_width(character: char) -> bool
-    ensures { result ≡ is_zero_width character }
-{
-    character == '\u{ad}'
-        || character == '\u{180e}'
-        || character == '\u{feff}'
+    is_default_ignorable_code_point(character)
         || is_between('\u{fff9}', '\u{fffb}', character)
-        || is_between('\u{e0000}', '\u{e0fff}', character)
+        || character == '\u{2800}'
 }
 
-/// Whether nothing is seen of a character, or it moves what stands beside it: control characters, marks of direction and
-/// of lines, and characters of no width.
+fn is_separator(character: char) -> bool
+    ensures { result ≡ is_separator character }
+{
+    is_between('\u{2028}', '\u{2029}', character)
+}
+
+/// Whether nothing is seen of a character, or it moves what stands beside it: control characters, unseen ones, separators
+/// of lines, and noncharacters.
 pub fn is_hidden(character: char) -> bool
     ensures { result ≡ is_hidden character }
 {
-    character.is_control() || is_direction(character) || is_zero_width(character)
+    character.is_control()
+        || is_unseen(character)
+        || is_separator(character)
+        || is_noncharacter_code_point(character)
 }
 
 /// Whether a word holds such a character.

@@ -39,6 +39,7 @@ enum Wrong<'a> {
         key: &'a str,
         known: &'static [&'static str],
     },
+    NoHint(&'a str),
 }
 
 /// Tells what is wrong, and knows where. Each failed allocation goes through it, so that it knows of one at the end.
@@ -152,6 +153,11 @@ impl<'a, A: Allocator + Copy> Teller<'a, A> {
         self.say(Wrong::Unknown { key, known })
     }
 
+    /// Tells of a word that is none of those of `hint`.
+    pub fn tell_no_hint(&mut self, word: &'a str) -> Refused {
+        self.say(Wrong::NoHint(word))
+    }
+
     /// Tells of a name that stood before, at the end of this path.
     pub fn tell_twice(&mut self, named: Named<'a>, earlier: &[Step<'a>]) -> Refused {
         if self.is_full() {
@@ -202,6 +208,7 @@ impl<'a, A: Allocator + Copy> Teller<'a, A> {
             Wrong::At { key, .. } => self.path_to(key),
             Wrong::NoTables { key, .. } => self.path_to(key),
             Wrong::Unknown { key, .. } => self.path_to(key),
+            Wrong::NoHint(_) => self.path_to("hint"),
         }
     }
 
@@ -218,7 +225,11 @@ impl<'a, A: Allocator + Copy> Teller<'a, A> {
                 format!(in self.alloc; "{way}{key} is no array of tables")
             }
             Wrong::Unknown { key, known } => {
-                let unknown = Unknown::new(self.alloc, key, known, self.places.is_empty())?;
+                let unknown = Unknown::key(self.alloc, key, known, self.places.is_empty())?;
+                format!(in self.alloc; "{way}{unknown}")
+            }
+            Wrong::NoHint(word) => {
+                let unknown = Unknown::hint(self.alloc, word)?;
                 format!(in self.alloc; "{way}{unknown}")
             }
         }

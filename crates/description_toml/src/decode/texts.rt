@@ -14,7 +14,9 @@ ghost use Rattle.description_toml.specs.Faults.{Reads};
 
 use super::teller::{Refused, Teller};
 use description_texts::is_empty;
+use shown_words::is_unseen;
 use std::alloc::Allocator;
+use unicode::properties::is_variation_selector;
 
 /// What a text at a key is, which decides what it may hold.
 #[derive(Clone, Copy)]
@@ -82,14 +84,16 @@ fn is_between(first: u32, last: u32, character: char) -> bool
     first <= code && code <= last
 }
 
+fn is_joiner(character: char) -> bool
+    ensures { result ≡ is_joiner character }
+{
+    is_between(0x200C, 0x200F, character) || is_variation_selector(character)
+}
+
 fn is_hidden(character: char) -> bool
     ensures { result ≡ is_hidden character }
 {
-    character == '\u{200B}'
-        || is_between(0x202A, 0x202E, character)
-        || is_between(0x2060, 0x206F, character)
-        || character == '\u{FEFF}'
-        || is_between(0xE_0000, 0xE_007F, character)
+    is_unseen(character) && !is_joiner(character)
 }
 
 const HIDDEN: &str = " holds a character that is not seen";
@@ -111,7 +115,7 @@ fn refused_in_a_name(character: char) -> Refusal
         Some(" holds a blank")
     } else if character == '=' {
         Some(" holds =")
-    } else if is_between(0x200C, 0x200F, character) {
+    } else if is_joiner(character) {
         Some(HIDDEN)
     } else {
         refused_in_a_word(character)

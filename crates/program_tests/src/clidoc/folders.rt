@@ -402,6 +402,12 @@ const NOTHING: &[(&str, &[u8], &[&str], &str)] = &[
         "clidoc: file name a-b/c.1 holds a slash",
     ),
     (
+        "clidoc|all|--into|out|--date=2026\u{9b}",
+        INPUT,
+        &[],
+        "clidoc: no page: --date \"2026\\u{9b}\" holds a control character or a noncharacter",
+    ),
+    (
         "clidoc|all|--into|out|b.toml",
         INPUT,
         &[],
@@ -619,6 +625,11 @@ con.1 => clidoc: file name con.1 is a device of other systems
 Nul.tar.md => clidoc: file name Nul.tar.md is a device of other systems
 COM7.html => clidoc: file name COM7.html is a device of other systems
 lpt0 => clidoc: file name lpt0 is a device of other systems
+COM\u{b9}.1 => clidoc: file name COM\u{b9}.1 is a device of other systems
+lpt\u{b3} => clidoc: file name lpt\u{b3} is a device of other systems
+conin$.1 => clidoc: file name conin$.1 is a device of other systems
+ConOut$ => clidoc: file name ConOut$ is a device of other systems
+com\u{b4}.1|com\u{e9}.1|com\u{b2}0.1|conin.1|conout.1
 con-a.1|cons.1|co.1|com.1|coma.1|com10.1|lpd1.1|xcon.1|.con => clidoc: file name .con begins with a dot
 con-a.1|cons.1|co.1|com.1|coma.1|com10.1|lpd1.1|xcon.1
 index.1|index.md|index.html => clidoc: file name index.html is that of the page of the folder itself
