@@ -10,7 +10,7 @@ use Rattle.description_pages.specs.declared.levels.Depth.{Depth}
 use Rattle.description.specs.Words.{WordsSaid}
 use Rattle.command_pages.specs.Pages.{TitleGiven, manual_parts, markdown_parts, title_line, title_of}
 
--- a reader of man(7) reads the bytes, whole, as what the page says
+-- a reader of man(7) reads the bytes, whole, as what a manual page keeps of what is said
 abbrev pub IsManualOf : DescriptionSaid → Depth → TitleGiven → SubjectSaid → List ℕ → Type 0
 IsManualOf d depth given s output = ReadsAsManual output (kept_in_manual (title_line d given s) (manual_parts depth d.words s))
 

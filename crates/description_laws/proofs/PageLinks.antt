@@ -1,6 +1,7 @@
 -- Each link of the page of a level leads somewhere.
-use Rattle.std.proofs.Common.{◌≡◌, ℕ, Bool, true, false, List, [], ◌∷◌, map, sym, subst, inl, inr, ⊎_elim, ap}
-use Rattle.std.specs.Prelude.{if◌then◌else◌}
+use Rattle.std.proofs.Common.{◌≡◌, ℕ, Bool, true, false, List, [], ◌∷◌, ◌++◌, map, refl, sym, subst, inl, inr, ⊎_elim, ap, ap₂, ◌∙◌}
+use Rattle.std.proofs.lemmas.List.{map-append}
+use Rattle.std.specs.Prelude.{codes, if◌then◌else◌}
 use Rattle.html_page.specs.Laws.{EntriesLeadToTitles, all_led_to, is_among, titles_in}
 use Rattle.html_page.proofs.Among.{Among, Each, among_either, among_left, among_right, each_from, each_weaker}
 use Rattle.html_page.proofs.Apart.{test_among, test_each}
@@ -9,11 +10,12 @@ use Rattle.description.specs.Content.{LevelSaid, level, GroupsSaid, no_groups, g
 use Rattle.description.specs.Words.{WordsSaid}
 use Rattle.description_pages.specs.Chapters.{chapter_from}
 use Rattle.description_pages.specs.Levels.{SubjectSaid}
-use Rattle.description_pages.specs.Subjects.{all_from, below, below_commands, below_group, below_groups, below_level, from_command, is_shown}
+use Rattle.description_pages.specs.Sections.{joined_names}
+use Rattle.description_pages.specs.Subjects.{all_from, below, below_commands, below_group, below_groups, below_level, from_command, in_short, is_shown}
 use Rattle.command_pages.specs.Html.{frame_said}
 use Rattle.description_laws.specs.HtmlPages.{HtmlLinksHaveTargets}
 use Rattle.description_laws.proofs.Led.{each_of_flat, level_leads}
-use Rattle.description_laws.proofs.PageTitles.{led_from, led_on_page, title, titles_on_page}
+use Rattle.description_laws.proofs.PageTitles.{led_from, led_on_page, on_page, title, titles_on_page}
 
 -- ---- what is below a level that is below another is below that
 
@@ -61,13 +63,46 @@ below_all : (s t u : SubjectSaid) → Among (all_from s) t → BelowIt t u → A
 below_all s t u (inl e) b = inr (subst (λ r. BelowIt r u) e b)
 below_all s t u (inr a) b = inr (below_in s s.level t u a b)
 
+-- ---- the titles of levels below are those of the names that lead there
+
+if_titles : (shown : Bool) (ss ts : List SubjectSaid) → map title ss ≡ map title ts → map title (if shown then ss else []) ≡ map title (if shown then ts else [])
+if_titles true ss ts e = e
+if_titles false ss ts e = refl
+
+both_titles : (ss more ts others : List SubjectSaid) → map title ss ≡ map title ts → map title more ≡ map title others → map title (ss ++ more) ≡ map title (ts ++ others)
+both_titles ss more ts others e f = map-append title ss more ∙ ap₂ (λ xs ys. xs ++ ys) e f ∙ sym (map-append title ts others)
+
+mutual
+  same_titles : (s t : SubjectSaid) → s.names ≡ t.names → (l : LevelSaid) → map title (below_level s l) ≡ map title (below_level t l)
+  same_titles s t e (level texts r os cs gs ps ms) = both_titles (below_groups s gs) (below_commands s ms) (below_groups t gs) (below_commands t ms) (titles_of_groups s t e gs) (titles_of_commands s t e ms)
+
+  titles_of_groups : (s t : SubjectSaid) → s.names ≡ t.names → (gs : GroupsSaid) → map title (below_groups s gs) ≡ map title (below_groups t gs)
+  titles_of_groups s t e no_groups = refl
+  titles_of_groups s t e (groups g gs) = both_titles (below_group s g) (below_groups s gs) (below_group t g) (below_groups t gs) (titles_of_group s t e g) (titles_of_groups s t e gs)
+
+  titles_of_group : (s t : SubjectSaid) → s.names ≡ t.names → (g : GroupSaid) → map title (below_group s g) ≡ map title (below_group t g)
+  titles_of_group s t e (group name os cs ps ms) = titles_of_commands s t e ms
+
+  titles_of_commands : (s t : SubjectSaid) → s.names ≡ t.names → (ms : CommandsSaid) → map title (below_commands s ms) ≡ map title (below_commands t ms)
+  titles_of_commands s t e no_commands = refl
+  titles_of_commands s t e (commands m ms) = both_titles (from_command s m) (below_commands s ms) (from_command t m) (below_commands t ms) (titles_of_command s t e m) (titles_of_commands s t e ms)
+
+  titles_of_command : (s t : SubjectSaid) → s.names ≡ t.names → (m : CommandSaid) → map title (from_command s m) ≡ map title (from_command t m)
+  titles_of_command s t e (command called help l) =
+      let longer : s.names ++ called.name ∷ [] ≡ t.names ++ called.name ∷ [] = ap (λ names. names ++ called.name ∷ []) e in
+      if_titles (is_shown (command called help l)) (below s (command called help l) ∷ below_level (below s (command called help l)) l) (below t (command called help l) ∷ below_level (below t (command called help l)) l)
+      (ap₂ (λ x xs. x ∷ xs) (ap (joined_names (codes " ")) longer) (same_titles (below s (command called help l)) (below t (command called help l)) longer l))
+
 -- each entry of a level leads to the chapter of a level
 pub entries_lead_to_titles : (fixed : WordsSaid) (s : SubjectSaid) → EntriesLeadToTitles (chapter_from fixed s)
 entries_lead_to_titles fixed s =
-    let T : List (List ℕ) = map title (all_from s) in
-    let from_each : Each (λ t. Each (Among T) (led_from fixed t)) (all_from s) =
-    each_from (λ t. Each (Among T) (led_from fixed t)) (all_from s) (λ t a. level_leads (Among T) fixed t (λ u b. among_mapped title (all_from s) u (below_all s t u a b))) in
-    let led : Each (Among T) (all_led_to (chapter_from fixed s)) = subst (Each (Among T)) (sym (led_on_page fixed s)) (each_of_flat (Among T) (led_from fixed) (all_from s) from_each) in
+    let short : SubjectSaid = in_short s in
+    let T : List (List ℕ) = map title (all_from short) in
+    let from_first : Each (Among T) (led_from fixed s) =
+    level_leads (Among T) fixed s (λ u b. inr (subst (λ ts. Among ts (title u)) (same_titles s short refl s.level) (among_mapped title (below_level s s.level) u b))) in
+    let from_others : Each (λ t. Each (Among T) (led_from fixed t)) (below_level short s.level) =
+    each_from (λ t. Each (Among T) (led_from fixed t)) (below_level short s.level) (λ t a. level_leads (Among T) fixed t (λ u b. among_mapped title (all_from short) u (below_all short t u (inr a) b))) in
+    let led : Each (Among T) (all_led_to (chapter_from fixed s)) = subst (Each (Among T)) (sym (led_on_page fixed s)) (each_of_flat (Among T) (led_from fixed) (on_page s) (from_first, from_others)) in
     let titled : Each (Among (titles_in (chapter_from fixed s))) (all_led_to (chapter_from fixed s)) = subst (λ ts. Each (Among ts) (all_led_to (chapter_from fixed s))) (sym (titles_on_page fixed s)) led in
     test_each (is_among (titles_in (chapter_from fixed s))) (all_led_to (chapter_from fixed s))
     (each_weaker (Among (titles_in (chapter_from fixed s))) (λ x. is_among (titles_in (chapter_from fixed s)) x ≡ true) (λ x a. test_among x (titles_in (chapter_from fixed s)) a) (all_led_to (chapter_from fixed s)) titled)

@@ -9,7 +9,7 @@ use Rattle.description.specs.Words.{WordsSaid}
 use Rattle.description_pages.specs.Chapters.{all_alone, chapter_from, chapter_with, each_alone, parts_behind, parts_of}
 use Rattle.description_pages.specs.Levels.{SubjectSaid, page_of}
 use Rattle.description_pages.specs.Sections.{joined_names}
-use Rattle.description_pages.specs.Subjects.{all_from}
+use Rattle.description_pages.specs.Subjects.{all_from, in_short, subjects_behind}
 use Rattle.description_pages.specs.declared.levels.Depth.TheVariants.{Deep}
 use Rattle.description_pages.specs.declared.sections.Detail.TheVariants.{Full}
 use Rattle.description_pages.proofs.ChapterParts.{each_level_has_its_chapter}
@@ -51,8 +51,13 @@ mutual
   led_of_all no_chapters = refl
   led_of_all (chapters first others) = ap₂ (λ xs ys. xs ++ ys) (led_alone first) (led_of_all others) ∙ sym (flat_map-append led_by (each_alone first) (all_alone others))
 
-pub titles_on_page : (fixed : WordsSaid) (s : SubjectSaid) → titles_in (chapter_from fixed s) ≡ map title (all_from s)
-titles_on_page fixed s = titles_alone (chapter_from fixed s) ∙ ap (map title_of) (each_level_has_its_chapter fixed s) ∙ mapped_twice (alone fixed) title_of (all_from s)
+-- the levels of a page
+abbrev pub on_page : SubjectSaid → List SubjectSaid
+on_page s = s ∷ subjects_behind s
 
-pub led_on_page : (fixed : WordsSaid) (s : SubjectSaid) → all_led_to (chapter_from fixed s) ≡ flat_map (led_from fixed) (all_from s)
-led_on_page fixed s = led_alone (chapter_from fixed s) ∙ ap (flat_map led_by) (each_level_has_its_chapter fixed s) ∙ flat_mapped (alone fixed) led_by (all_from s)
+-- the first has the same title in short
+pub titles_on_page : (fixed : WordsSaid) (s : SubjectSaid) → titles_in (chapter_from fixed s) ≡ map title (all_from (in_short s))
+titles_on_page fixed s = titles_alone (chapter_from fixed s) ∙ ap (map title_of) (each_level_has_its_chapter fixed s) ∙ mapped_twice (alone fixed) title_of (on_page s)
+
+pub led_on_page : (fixed : WordsSaid) (s : SubjectSaid) → all_led_to (chapter_from fixed s) ≡ flat_map (led_from fixed) (on_page s)
+led_on_page fixed s = led_alone (chapter_from fixed s) ∙ ap (flat_map led_by) (each_level_has_its_chapter fixed s) ∙ flat_mapped (alone fixed) led_by (on_page s)

@@ -10,7 +10,7 @@ use Rattle.description.specs.Words.{WordsSaid}
 use Rattle.description_pages.specs.Chapters.{chapter_from}
 use Rattle.description_pages.specs.Levels.{SubjectSaid}
 use Rattle.description_pages.specs.Sections.{joined_names}
-use Rattle.description_pages.specs.Subjects.{all_from, below, below_commands, below_group, below_groups, below_level, from_command, is_shown}
+use Rattle.description_pages.specs.Subjects.{all_from, below, below_commands, below_group, below_groups, below_level, from_command, in_short, is_shown}
 use Rattle.description_laws.proofs.PageTitles.{mapped_twice, titles_on_page}
 use Rattle.description_laws.proofs.Told.{TellsApart, CommandsTell, CommandTells, GroupTells, GroupsTell, group_own, groups_own, names_in, own_name, level_own}
 use Rattle.description_laws.proofs.Words.{IsWord, words_parted, words_told}
@@ -161,11 +161,12 @@ titles_distinct (p ∷ ps) h d = (no, titles_distinct ps h.1 d.1) where
 -- the titles of a level and of those below it
 pub titles_tell : (fixed : WordsSaid) (s : SubjectSaid) → IsPath s.names → TellsApart IsWord s.level → AreTitles (titles_in (chapter_from fixed s))
 titles_tell fixed s path tells =
-    let lower : ArePaths s.names (level_own s.level) (paths (below_level s s.level)) = on_level s s.level tells in
-    let all : List (List (List ℕ)) = paths (all_from s) in
+    let short : SubjectSaid = in_short s in
+    let lower : ArePaths s.names (level_own s.level) (paths (below_level short s.level)) = on_level short s.level tells in
+    let all : List (List (List ℕ)) = paths (all_from short) in
     let are_paths : Each IsPath all =
-    (path, each_weaker (GoesOn s.names (level_own s.level)) IsPath (λ p g. subst IsPath (sym g.is) (longer s.names (g.first ∷ g.more) path g.words)) (paths (below_level s s.level)) lower.go_on) in
-    let distinct : Distinct all = (not_there s.names (level_own s.level) (paths (below_level s s.level)) lower, lower.distinct) in
-    let same : titles_in (chapter_from fixed s) ≡ map joined all = titles_on_page fixed s ∙ sym (mapped_twice (λ (t : SubjectSaid). t.names) joined (all_from s)) in
+    (path, each_weaker (GoesOn s.names (level_own s.level)) IsPath (λ p g. subst IsPath (sym g.is) (longer s.names (g.first ∷ g.more) path g.words)) (paths (below_level short s.level)) lower.go_on) in
+    let distinct : Distinct all = (not_there s.names (level_own s.level) (paths (below_level short s.level)) lower, lower.distinct) in
+    let same : titles_in (chapter_from fixed s) ≡ map joined all = titles_on_page fixed s ∙ sym (mapped_twice (λ (t : SubjectSaid). t.names) joined (all_from short)) in
     let parted : Each (λ t. is_parted t ≡ true) (map joined all) = each_mapped (λ t. is_parted t ≡ true) joined all (each_weaker IsPath (λ p. is_parted (joined p) ≡ true) path_parted all are_paths) in
     subst AreTitles (sym same) (test_each is_parted (map joined all) parted, test_distinct (map joined all) (titles_distinct all are_paths distinct))

@@ -1,15 +1,15 @@
 -- Each text and each name of a description that a TOML text gives is plain, reader by reader.
 use Rattle.std.proofs.lemmas.Grind.{common_steps}
 use Rattle.std.proofs.Common.{ℕ, List, [], ◌++◌, Bool, true, false, Option, Some, None, refl, codes, arith, ◌≡◌}
-use Rattle.std.specs.Prelude.{flat_map, if◌then◌else◌}
+use Rattle.std.specs.Prelude.{flat_map, if◌then◌else◌, is_some, option_and_then}
 use Rattle.std.specs.Str.{chars}
 use Rattle.toml.specs.Data.{Members}
 use Rattle.description.specs.Words.{WordsSaid, english}
 use Rattle.description.specs.Content.{NameSaid, SpellingSaid, OptSaid, ChoiceSaid, PositionalSaid, TopicSaid, TextsSaid, LevelSaid, GroupsSaid, GroupSaid, CommandsSaid, CommandSaid, DescriptionSaid}
-use Rattle.description_toml.specs.Described.{alternative_keys, choice_from, choice_keys, command_head, command_keys, command_of, CommandHead, commands_at, described, description_head, description_keys, description_of, DescriptionHead, group_of, GroupHead, groups_at, level_of, lists_from, name_from, option_from, option_keys, option_spelling, Outline, outline_from, positional_from, texts_from, title_words, topic_from, topic_keys, help_option_keys, fixed_in, is_syntax, spelling_from, unless_there, option_texts, option_value, positional_texts, required_beside, ValueSaid, language_from, TitleWords}
+use Rattle.description_toml.specs.Described.{alternative_keys, choice_from, choice_keys, command_head, command_keys, command_of, CommandHead, commands_at, described, description_head, description_keys, description_of, DescriptionHead, group_of, GroupHead, groups_at, level_of, lists_from, name_from, option_from, option_keys, option_spelling, Outline, outline_from, positional_from, texts_from, title_words, topic_from, topic_keys, help_option_keys, fixed_in, is_syntax, spelling_from, unless_there, hint_unless, option_texts, option_value, positional_texts, required_beside, ValueSaid, language_from, TitleWords}
 use Rattle.description_toml.specs.Described.Taken.{has_distinct_names}
 use Rattle.description_toml.specs.Described.Texts.{as_body, as_command_name, as_heading, as_long, as_name, as_text, as_value, is_body, is_command_name, is_heading, is_long, is_name, is_short, is_text, is_value, if_passes, is_line, as_language, is_language_tag}
-use Rattle.description_toml.specs.Described.Values.{as_short, each_table, flag_at, if_short, is_empty, optional_at, required_at, table_at, tables_at, as_default, as_syntax, as_texts, as_values, default_text, listed_texts, words_at}
+use Rattle.description_toml.specs.Described.Values.{as_short, each_table, flag_at, if_short, is_empty, optional_at, required_at, table_at, tables_at, as_default, as_syntax, as_texts, as_values, as_hint, default_text, listed_texts, words_at}
 use Rattle.description_laws.specs.Plain.{each_word, characters_of, choice_characters, command_characters, commands_characters, description_characters, group_characters, groups_characters, initial_characters, level_characters, name_characters, option_characters, spelling_characters, positional_characters, texts_characters, topic_characters, TextsArePlain}
 use Rattle.description_laws.proofs.Characters.{body_plain, colon_plain, command_plain, day_plain, digit_plain, english_plain, heading_plain, language_plain, long_plain, name_plain, Plain, plain_append, plain_cons, plain_each, PlainCharacter, PlainText, section_plain, short_plain, title_plain, value_plain, line_plain}
 use Rattle.description_toml.specs.Syntax.{is_well_formed}
@@ -89,7 +89,7 @@ alone_there other o h2 = grind arith
 
 option_value_there : (is_syntax : Bool) (ms : Members) → Gives PlainValue (option_value is_syntax ms)
 unfolding option_value
-option_value_there is_syntax ms = grind (arith, gives_then, value_there, alone_there, default_there, values_there)
+option_value_there is_syntax ms = grind (arith, gives_then, value_there, alone_there, default_there, values_there, gives_whatever)
 
 texts_of_value : (default values help : Option (List ℕ)) → PlainOption default → PlainOption values → PlainOption help → Plain (characters_of default ++ (characters_of values ++ characters_of help))
 texts_of_value default values help d w h = grind (arith, plain_append, there)
@@ -107,7 +107,7 @@ option_there ms =
     gives_then PlainOption PlainOpt (optional_at as_text (codes "help") ms) _ (text_there (codes "help") ms) (λ help h.
     gives_then Whatever PlainOpt (flag_at false (codes "hidden") ms) _ (flag_there false (codes "hidden") ms) (λ hidden u.
     gives_then PlainOption PlainOpt (optional_at as_name (codes "env") ms) _ (gives_optional PlainText as_name (gives_text PlainText is_name name_plain) (codes "env") ms) (λ env e.
-    opt_plain (record { spelling = spelling; value = v.value; default = v.default; values = v.values; help = help; env = env; required = false; repeated = false; hidden = hidden }) n p.value p.default p.values h e)))))
+    opt_plain (record { spelling = spelling; value = v.value; default = v.default; values = v.values; hint = v.hint; help = help; env = env; required = false; repeated = false; hidden = hidden }) n p.value p.default p.values h e)))))
 
 option_plain : (keys : List (List ℕ)) (ms : Members) → Gives PlainOpt (option_from keys ms)
 unfolding option_from
@@ -129,9 +129,10 @@ positional_there ms =
     gives_then PlainText PlainPositional (required_at as_value (codes "value") ms) _ (gives_required PlainText as_value (gives_text PlainText is_value value_plain) (codes "value") ms) (λ value v.
     gives_then PlainOption PlainPositional (optional_at as_default (codes "default") ms) _ (default_there ms) (λ default d.
     gives_then PlainOption PlainPositional (optional_at as_values (codes "values") ms) _ (values_there ms) (λ values w.
+    gives_then Whatever PlainPositional (option_and_then (hint_unless (is_some values)) (optional_at as_hint (codes "hint") ms)) _ (gives_whatever (option_and_then (hint_unless (is_some values)) (optional_at as_hint (codes "hint") ms))) (λ hint q.
     gives_then PlainOption PlainPositional (optional_at as_text (codes "help") ms) _ (text_there (codes "help") ms) (λ help h.
     gives_then Whatever PlainPositional (flag_at false (codes "hidden") ms) _ (flag_there false (codes "hidden") ms) (λ hidden u.
-    plain_append (chars value) (characters_of default ++ (characters_of values ++ characters_of help)) v (texts_of_value default values help d w h))))))
+    plain_append (chars value) (characters_of default ++ (characters_of values ++ characters_of help)) v (texts_of_value default values help d w h)))))))
 
 positional_plain : (ms : Members) → Gives PlainPositional (positional_from ms)
 unfolding positional_from

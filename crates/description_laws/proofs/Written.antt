@@ -21,7 +21,7 @@ use Rattle.description_pages.specs.Consoles.{console_of, usage_of}
 use Rattle.description_pages.specs.Levels.{SubjectSaid}
 use Rattle.description_pages.specs.Manuals.{manual_below, manual_of}
 use Rattle.description_pages.specs.Markdowns.{markdown_below, markdown_of}
-use Rattle.description_pages.specs.Subjects.{subjects_below}
+use Rattle.description_pages.specs.Subjects.{subjects_behind}
 use Rattle.description_pages.specs.declared.levels.Depth.{Depth}
 use Rattle.description_pages.specs.declared.levels.Depth.TheVariants.{Alone, Deep}
 use Rattle.description_pages.specs.declared.sections.Detail.TheVariants as Detail
@@ -37,7 +37,7 @@ use Rattle.page_laws.proofs.Clean.{clean_nil}
 use Rattle.page_laws.proofs.Each.{Each, each_append, each_if, each_left, each_right, each_weaker}
 use Rattle.page_laws.proofs.Entries.{WordsAre, words_known}
 use Rattle.page_laws.proofs.PageLaws.{parts_pass, subject_known}
-use Rattle.page_laws.proofs.Pages.{IfSubject, PartIs, SubjectIs, all_below, console_is, led_is, manual_below_is, manual_is, markdown_below_is, markdown_is, names_joined, page_named, title_is, usage_of_is}
+use Rattle.page_laws.proofs.Pages.{IfSubject, PartIs, SubjectIs, all_behind, console_is, led_is, manual_below_is, manual_is, markdown_below_is, markdown_is, names_joined, page_named, title_is, usage_of_is}
 use Rattle.page_laws.proofs.Tests.{all_pass, form_passes, text_known, text_passes, texts_known}
 use Rattle.page_laws.proofs.Usage.{FormIs, GivenIs, each_flat, fixed}
 use Rattle.description_laws.specs.Plain.{characters_of, choice_characters, command_characters, commands_characters, description_characters, group_characters, groups_characters, initial_characters, level_characters, name_characters, option_characters, positional_characters, spelling_characters, texts_characters, topic_characters}
@@ -262,8 +262,8 @@ module _ (d : DescriptionSaid) (t : TextsAre d) (s : SubjectSaid) (h : SubjectIs
   marked_parts : (depth : Depth) → Each PartIs (markdown_parts depth d.words s)
   marked_parts Alone = markdown_is d.words words_are s h Alone
   marked_parts Deep =
-      each_append PartIs (markdown_of d.words Deep s) (flat_map (markdown_below d.words) (subjects_below s)) (markdown_is d.words words_are s h Deep)
-      (each_flat SubjectIs PartIs (markdown_below d.words) (markdown_below_is d.words words_are) (subjects_below s) (all_below s h))
+      each_append PartIs (markdown_of d.words Deep s) (flat_map (markdown_below d.words) (subjects_behind s)) (markdown_is d.words words_are s h Deep)
+      (each_flat SubjectIs PartIs (markdown_below d.words) (markdown_below_is d.words words_are) (subjects_behind s) (all_behind s h))
 
   in_markdown : (depth : Depth) → markdown_page_fault depth d.words s ≡ None
   in_markdown depth = ap fault_unless (page_passes (title_of s) (markdown_parts depth d.words s) (title_is s.names h.names) (marked_parts depth))
@@ -271,8 +271,8 @@ module _ (d : DescriptionSaid) (t : TextsAre d) (s : SubjectSaid) (h : SubjectIs
   manual_parts_are : (depth : Depth) → Each PartIs (manual_parts depth d.words s)
   manual_parts_are Alone = manual_is d.words words_are s h
   manual_parts_are Deep =
-      each_append PartIs (manual_of d.words s) (flat_map (manual_below d.words) (subjects_below s)) (manual_is d.words words_are s h)
-      (each_flat SubjectIs PartIs (manual_below d.words) (manual_below_is d.words words_are) (subjects_below s) (all_below s h))
+      each_append PartIs (manual_of d.words s) (flat_map (manual_below d.words) (subjects_behind s)) (manual_is d.words words_are s h)
+      (each_flat SubjectIs PartIs (manual_below d.words) (manual_below_is d.words words_are) (subjects_behind s) (all_behind s h))
 
   module _ (given : TitleGiven) (date : GivenIs given.date) (vendor : GivenIs given.vendor) where
     title_passes : list_all are_permitted (title_words (title_line d given s)) ≡ true

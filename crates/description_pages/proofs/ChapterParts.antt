@@ -12,7 +12,7 @@ use Rattle.description.specs.View.{command_said, level_said}
 use Rattle.description.specs.declared.levels.Command.{Command, out-Command}
 use Rattle.description.proofs.Views.{open-Command}
 use Rattle.description_pages.specs.Levels.{PageSaid, SubjectSaid}
-use Rattle.description_pages.specs.Subjects.{below, below_commands, below_group, below_groups, below_level, from_command, is_shown}
+use Rattle.description_pages.specs.Subjects.{below, below_commands, below_group, below_groups, below_level, from_command, in_short, is_shown}
 
 -- ---- a chapter that is made
 
@@ -63,12 +63,16 @@ mutual
 
 pub each_level_has_its_chapter : EachLevelHasItsChapter
 unfolding at
-each_level_has_its_chapter fixed s = ap (λ x. at fixed s ∷ x) (on_level fixed s s.level)
+each_level_has_its_chapter fixed s = ap (λ x. at fixed s ∷ x) (on_level fixed (in_short s) s.level)
 
 -- ---- a chapter that is pushed
 
-shown_is : (fixed : WordsSaid) (s : SubjectSaid) (c : CommandSaid) → is_shown c ≡ true → chapter_if_shown fixed s c ≡ chapter_from fixed (below s c) ∷ []
-shown_is fixed s (command called help l) e = ap (λ b. if b then chapter_from fixed (below s (command called help l)) ∷ [] else []) e
+-- behind another
+abbrev behind : WordsSaid → SubjectSaid → ChapterSaid
+behind fixed s = chapter_with fixed s (chapters_on fixed s s.level)
+
+shown_is : (fixed : WordsSaid) (s : SubjectSaid) (c : CommandSaid) → is_shown c ≡ true → chapter_if_shown fixed s c ≡ behind fixed (below s c) ∷ []
+shown_is fixed s (command called help l) e = ap (λ b. if b then behind fixed (below s (command called help l)) ∷ [] else []) e
 
 said_shown : {A : Type 0} (c : Command A) → (out-Command A c).hidden ≡ false → is_shown (command_said c) ≡ true
 said_shown c h = ap is_shown (open-Command c) ∙ ap not h
@@ -84,17 +88,10 @@ chapter_put {A} see fixed s t c none own made old new h led empty lower is pushe
     lower ∙ ap (λ xs. map see xs ++ chapters_on fixed t (level_said (out-Command A c).level)) empty
     ∙ ap (λ x. chapters_on fixed x (level_said (out-Command A c).level)) led ∙ ap (chapters_on fixed (below s (command_said c))) (level_under s c)
     in
-    let own_is : see made ≡ chapter_from fixed (below s (command_said c)) =
+    let own_is : see made ≡ behind fixed (below s (command_said c)) =
     is ∙ ap (λ x. chapter_with fixed x (map see own)) led ∙ ap (chapter_with fixed (below s (command_said c))) whole
     in
     ap (map see) pushed ∙ map-append see old (made ∷ []) ∙ ap (λ x. map see old ++ x ∷ []) own_is ∙ sym (ap (λ x. map see old ++ x) (shown_is fixed s (command_said c) (said_shown c h)))
-
--- ---- the top
-
-pub top_with : {X : Type 0} (see : X → ChapterSaid) (fixed : WordsSaid) (s : SubjectSaid) (l : LevelSaid) (none own : List X) (made : ChapterSaid) → s.level ≡ l → none ≡ [] → map see own ≡ map see none ++ chapters_on fixed s l → made ≡ chapter_with fixed s (map see own)
-    → made ≡ chapter_from fixed s
-top_with see fixed s l none own made at empty lower is =
-    is ∙ ap (chapter_with fixed s) (lower ∙ ap (λ xs. map see xs ++ chapters_on fixed s l) empty ∙ ap (chapters_on fixed s) (sym at))
 
 -- a page whose `about` was taken
 pub emptied : (said : PageSaid) → said.about ≡ [] → record said { about = [] } ≡ said

@@ -7,7 +7,7 @@ use Rattle.description.specs.Content.{LevelSaid, level, GroupsSaid, no_groups, g
 use Rattle.description.specs.Words.{WordsSaid}
 use Rattle.description_pages.specs.Arranged.{in_order}
 use Rattle.description_pages.specs.Levels.{PageSaid, SubjectSaid, page_of}
-use Rattle.description_pages.specs.Subjects.{all_from, below, is_shown}
+use Rattle.description_pages.specs.Subjects.{below, in_short, is_shown, subjects_behind}
 use Rattle.description_pages.specs.declared.levels.Depth.TheVariants.{Deep}
 use Rattle.description_pages.specs.declared.sections.Detail.TheVariants.{Full}
 
@@ -47,8 +47,9 @@ abbrev mutual
       then chapter_with fixed (below s (command called help l)) (chapters_on fixed (below s (command called help l)) l) ∷ []
       else []
 
+-- those below the first say by their names alone which options ask for help
 abbrev pub chapter_from : WordsSaid → SubjectSaid → ChapterSaid
-chapter_from fixed s = chapter_with fixed s (chapters_on fixed s s.level)
+chapter_from fixed s = chapter_with fixed s (chapters_on fixed (in_short s) s.level)
 
 -- what stands behind `about`
 abbrev pub parts_of : ChapterSaid → List PartSaid
@@ -69,4 +70,4 @@ abbrev mutual
 abbrev pub EachLevelHasItsChapter : Type 0
 EachLevelHasItsChapter =
     (fixed : WordsSaid) (s : SubjectSaid)
-    → each_alone (chapter_from fixed s) ≡ map (λ t. chapter_with fixed t []) (all_from s)
+    → each_alone (chapter_from fixed s) ≡ map (λ t. chapter_with fixed t []) (s ∷ subjects_behind s)

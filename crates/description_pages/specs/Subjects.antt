@@ -1,8 +1,8 @@
 -- Which words lead from a level to one below it, and all levels below one.
-use Rattle.std.specs.Prelude.{◌≡◌, ℕ, List, [], ◌∷◌, ◌++◌, flat_map, Bool, not, if◌then◌else◌, Option, Some, option_map, option_and_then, option_to_list, bytes_eq}
+use Rattle.std.specs.Prelude.{◌≡◌, ℕ, List, [], ◌∷◌, ◌++◌, flat_map, map, Bool, not, if◌then◌else◌, Option, None, Some, option_map, option_and_then, option_to_list, bytes_eq}
 use Rattle.std.specs.List.{find, list_any}
 use Rattle.std.specs.Char.{encode_utf8}
-use Rattle.description.specs.Content.{LevelSaid, level, GroupsSaid, no_groups, groups, GroupSaid, group, CommandsSaid, no_commands, commands, CommandSaid, command}
+use Rattle.description.specs.Content.{OptSaid, LevelSaid, level, GroupsSaid, no_groups, groups, GroupSaid, group, CommandsSaid, no_commands, commands, CommandSaid, command}
 use Rattle.description_pages.specs.Levels.{SubjectSaid, commands_in, commands_of}
 use Rattle.description_pages.specs.Sections.{groups_of}
 
@@ -78,6 +78,20 @@ subjects_below s = below_level s s.level
 -- the level itself, and those below it
 abbrev pub all_from : SubjectSaid → List SubjectSaid
 all_from s = s ∷ subjects_below s
+
+-- ---- those on the page of the level
+
+-- an option by its names, with nothing said of it
+abbrev pub name_only : OptSaid → OptSaid
+name_only o = record o { help = None; default = None; values = None; env = None }
+
+-- a level whose page does not say once more what the options that ask for help do
+abbrev pub in_short : SubjectSaid → SubjectSaid
+in_short s = record s { help_options = map name_only s.help_options }
+
+-- the levels below one as they stand behind it on its page, which says at the first what these options do
+abbrev pub subjects_behind : SubjectSaid → List SubjectSaid
+subjects_behind s = subjects_below (in_short s)
 
 -- ---- law
 

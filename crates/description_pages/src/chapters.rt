@@ -11,7 +11,7 @@ ghost use Rattle.description_pages.specs.LevelsView.{level_page_of, subject_of};
 use crate::arranged::{ArenaParts, push_in_order};
 use crate::levels::{Depth, LevelPage, LevelSubject, level_page};
 use crate::sections::Detail;
-use crate::subjects::below;
+use crate::subjects::{below, in_short};
 use bumpalo::Bump;
 use description::{Command, FixedWords, Group, Level};
 use page_model::{Chapter, Rank};
@@ -156,6 +156,7 @@ fn push_command<'p, 'a: 'p, C: Allocator>(
 
 /// The level with all levels below it that are not hidden, in the order of `all_from`, as a tree. Each has what is
 /// said about it, and behind that its usage, its header, lists, topics and notes; entries of commands lead to headings.
+/// Of the options that ask for help those below have the names alone.
 /// An error comes only where an allocation failed.
 pub fn chapter<'p, 'a: 'p, C: Allocator>(
     arena: &'p Bump,
@@ -166,6 +167,12 @@ pub fn chapter<'p, 'a: 'p, C: Allocator>(
         ≡ chapter_from (words_said words.now) (subject_of subject.entry)) }
 {
     let mut lower: ArenaChapters<'p> = Vec::new(arena);
-    push_level(arena, words, &mut lower, subject, subject.level)?;
+    push_level(
+        arena,
+        words,
+        &mut lower,
+        in_short(arena, subject)?,
+        subject.level,
+    )?;
     chapter_with(arena, words, subject, lower)
 }

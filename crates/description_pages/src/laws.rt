@@ -10,7 +10,8 @@ pub fn each_command_is_there()
     ensures { EachCommandIsThere }
 {}
 
-/// Each level from one on that no page has to hide has its chapter, in the order of `all_from`, and there is no other.
+/// Each level from one on that no page has to hide has its chapter, in the order of `all_from`, and there is no other. What
+/// the options do that ask for help is said in the first alone.
 pub fn each_level_has_its_chapter()
     ensures { EachLevelHasItsChapter }
 {}

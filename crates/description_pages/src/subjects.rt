@@ -2,18 +2,18 @@
 ghost use Rattle.std.specs.Prelude.{◌≡◌, ◌++◌, ◌∷◌, [], codes, map, IfOk, OnOk, bytes_eq};
 ghost use Rattle.std.specs.List.{find, list_any};
 ghost use Rattle.std.specs.Option.{option_map};
-ghost use Rattle.description.specs.View.{command_said, commands_said, group_said, groups_said, level_said};
+ghost use Rattle.description.specs.View.{command_said, commands_said, group_said, groups_said, level_said, opt_said};
 ghost use Rattle.description_pages.specs.LevelsView.{subject_of};
 ghost use Rattle.description_pages.specs.Sections.{joined_names, page_name};
 ghost use Rattle.description_pages.specs.Subjects.{all_from, below, below_commands, below_group, below_groups};
 ghost use Rattle.description_pages.specs.Subjects.{below_level, command_named, from_command, grouped, is_named};
-ghost use Rattle.description_pages.specs.Subjects.{subjects_below};
+ghost use Rattle.description_pages.specs.Subjects.{in_short, name_only, subjects_behind, subjects_below};
 
 use crate::levels::LevelSubject;
 use crate::neighbours::joined_names;
 use bumpalo::Bump;
 use bumpalo::collections::into_bump_slice;
-use description::{Command, Group, Level};
+use description::{Command, Group, Level, Opt};
 use std::alloc::{AllocError, Allocator};
 
 /// Levels in an arena.
@@ -175,8 +175,8 @@ pub fn all_from<'p, 'a: 'p, C: Allocator>(
     Ok(found)
 }
 
-/// The same without the level itself.
-pub fn all_below<'p, 'a: 'p, C: Allocator>(
+// The same without the level itself.
+fn all_below<'p, 'a: 'p, C: Allocator>(
     arena: &'p Bump,
     subject: LevelSubject<'p, 'a, C>,
 ) -> Result<ArenaSubjects<'p, 'a, C>, AllocError>
@@ -185,6 +185,54 @@ pub fn all_below<'p, 'a: 'p, C: Allocator>(
     let mut lower: ArenaSubjects<'p, 'a, C> = Vec::new(arena);
     push_level(arena, &mut lower, subject, subject.level)?;
     Ok(lower)
+}
+
+/// The levels below one as they stand behind it on its page: of the options that ask for help they have the names alone,
+/// since the page says at the first level what these do. An error comes only where an allocation failed.
+pub fn all_behind<'p, 'a: 'p, C: Allocator>(
+    arena: &'p Bump,
+    subject: LevelSubject<'p, 'a, C>,
+) -> Result<ArenaSubjects<'p, 'a, C>, AllocError>
+    ensures { IfOk result (λ found. map subject_of found.items ≡ subjects_behind (subject_of subject.entry)) }
+{
+    all_below(arena, in_short(arena, subject)?)
+}
+
+/// A level whose page does not say what the options do that ask for help. An error comes only where an allocation failed.
+pub(crate) fn in_short<'p, 'a: 'p, C: Allocator>(
+    arena: &'p Bump,
+    subject: LevelSubject<'p, 'a, C>,
+) -> Result<LevelSubject<'p, 'a, C>, AllocError>
+    ensures { IfOk result (λ short. subject_of short ≡ in_short (subject_of subject.entry)) }
+{
+    Ok(LevelSubject {
+        names: subject.names,
+        help: subject.help,
+        help_options: names_only(arena, subject.help_options)?,
+        level: subject.level,
+    })
+}
+
+fn names_only<'p>(arena: &'p Bump, options: &'p [Opt<'p>]) -> Result<&'p [Opt<'p>], AllocError>
+    ensures { IfOk result (λ names. map opt_said names.now ≡ map name_only (map opt_said options.now)) }
+{
+    let mut names: Vec<Opt<'p>, &'p Bump> = Vec::new(arena);
+    for option in options {
+        names.push(name_only(*option))?;
+    }
+    Ok(into_bump_slice(names))
+}
+
+fn name_only(option: Opt<'_>) -> Opt<'_>
+    ensures { opt_said result ≡ name_only (opt_said option.entry) }
+{
+    Opt {
+        help: None,
+        default: None,
+        values: None,
+        env: None,
+        ..option
+    }
 }
 
 #[cycle(levels)]

@@ -9,7 +9,7 @@ use Rattle.description.specs.Words.{WordsSaid}
 use Rattle.description_usage.specs.Usage.{group_list}
 use Rattle.description_pages.specs.Chapters.{chapter_from, chapter_if_shown, chapter_with, chapters_in_group, chapters_on, command_chapters, group_chapters, last_name, parts_behind}
 use Rattle.description_pages.specs.Levels.{PageSaid, SubjectSaid, page_of}
-use Rattle.description_pages.specs.Subjects.{below, is_shown}
+use Rattle.description_pages.specs.Subjects.{below, in_short, is_shown}
 use Rattle.description_pages.specs.declared.levels.Depth.TheVariants.{Deep}
 use Rattle.description_pages.specs.declared.sections.Detail.TheVariants.{Full}
 use Rattle.page_laws.specs.Texts.{command_texts, commands_texts, level_texts}
@@ -18,7 +18,7 @@ use Rattle.page_laws.proofs.Clean as clean
 use Rattle.page_laws.proofs.Blocks.{BlockIs, LineIs, Permitted, PieceIs}
 use Rattle.page_laws.proofs.Usage.{FormIs, GroupIs, each_flat, level_known}
 use Rattle.page_laws.proofs.Entries.{CommandIs, EntryIs, TargetIs, WordsAre, command_known}
-use Rattle.page_laws.proofs.Pages.{PartIs, SubjectIs, about_left, below_is, in_order_is, page_is}
+use Rattle.page_laws.proofs.Pages.{PartIs, SubjectIs, about_left, below_is, in_order_is, page_is, short_is}
 
 -- ---- a level with those below it
 
@@ -77,7 +77,7 @@ module _ (w : WordsSaid) (k : WordsAre w) where
         each_if ChapterIs (is_shown (command called help l)) _ (with_lower (below s (command called help l)) inner lower (on_level (below s (command called help l)) inner l j.level), tt)
 
   pub chapter_is : (s : SubjectSaid) → SubjectIs s → ChapterIs (chapter_from w s)
-  chapter_is s h = with_lower s h (chapters_on w s s.level) (on_level s h s.level h.level)
+  chapter_is s h = with_lower s h (chapters_on w (in_short s) s.level) (on_level (in_short s) (short_is s h) s.level h.level)
 
 -- ---- its texts
 

@@ -23,7 +23,7 @@ use Rattle.description_pages.specs.Markdowns.{markdown_below, markdown_of}
 use Rattle.description_pages.specs.Once.{if_new, new_behind}
 use Rattle.description_pages.specs.References.{reference_blocks, with_references}
 use Rattle.description_pages.specs.Sections.{BodySaid, listed, told, SectionSaid, argument_section, choice_rows, command_rows, command_rows_of, command_target, given_blocks, group_rows, group_section, group_sections, joined_names, list_section, list_sections, option_rows, option_rows_of, option_section, page_name, row_if, shown_blocks, text_section, value_rows, value_rows_of, without_colon, without_last}
-use Rattle.description_pages.specs.Subjects.{below, below_commands, below_group, below_groups, below_level, commands_on, from_command, grouped, is_named, is_shown, led_to, listed as commands_listed, subjects_below}
+use Rattle.description_pages.specs.Subjects.{below, below_commands, below_group, below_groups, below_level, commands_on, from_command, grouped, is_named, is_shown, led_to, listed as commands_listed, in_short, name_only, subjects_behind, subjects_below}
 use Rattle.description_pages.specs.Summaries.{is_summary, summary, summary_of, without_full_stop, without_stop}
 use Rattle.description_pages.specs.Topics.{and_block, is_place, merged, own_section, own_sections, place_of, placed_blocks, placed_of, together, topic_blocks}
 use Rattle.description_pages.specs.declared.arranged.Case.{Case}
@@ -492,3 +492,14 @@ mutual
 
 pub all_below : (s : SubjectSaid) → SubjectIs s → Each SubjectIs (subjects_below s)
 all_below s h = levels_below s h s.level h.level
+
+-- those behind it on its page
+names_are : (os : List OptSaid) → Each OptIs os → Each OptIs (map name_only os)
+names_are [] h = tt
+names_are (o ∷ os) h = (record { spelling = h.0.spelling; value = h.0.value; default = tt; values = tt; help = tt; env = tt }, names_are os h.1)
+
+pub short_is : (s : SubjectSaid) → SubjectIs s → SubjectIs (in_short s)
+short_is s h = record { names = h.names; help = h.help; help_options = names_are s.help_options h.help_options; level = h.level }
+
+pub all_behind : (s : SubjectSaid) → SubjectIs s → Each SubjectIs (subjects_behind s)
+all_behind s h = all_below (in_short s) (short_is s h)

@@ -89,7 +89,6 @@ Says goodbye.
 .SS OPTIONS
 .TP
 \fB\-h\fP, \fB\-\-help\fP
-Print this page
 "#,
     ),
     (
@@ -124,7 +123,7 @@ greet bye
 
 ### Options
 
-- `-h`, `--help` — Print this page
+- `-h`, `--help`
 "#,
     ),
 ];

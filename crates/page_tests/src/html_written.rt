@@ -44,7 +44,7 @@ COUNT</var></a></dt><dd><p>Keep so many snapshots, and drop older ones</p></dd><
 <a href=\"#tide:save::fast\"><code>--fast</code></a></dt><dd><p>Read only files whose time or size has changed</\
 p></dd><dt id=\"tide:save::thorough\"><a href=\"#tide:save::thorough\"><code>--thorough</code></a>\
 </dt><dd><p>Read each file</p></dd><dt id=\"tide:save::help\"><a href=\"#tide:save::help\"><code>\
--h</code>, <code>--help</code></a></dt><dd><p>Print this page</p></dd></dl><h3 id=\"tide:save:::Examples\">\
+-h</code>, <code>--help</code></a></dt><dd></dd></dl><h3 id=\"tide:save:::Examples\">\
 Examples</h3><p>Save two folders, without objects:</p><pre>\n\
 <code>$ tide save -x '*.o' src doc\n\
 saved 1,204 files</code></pre><p>Each night at three, by <code>crontab(5)</code>:</p><pre>\n\
@@ -52,17 +52,17 @@ saved 1,204 files</code></pre><p>Each night at three, by <code>crontab(5)</code>
 <ul><li><code>0</code>: all was saved.</li><li><code>1</code>: some files could not be read.</li>\
 </ul></section><section id=\"tide:list\"><h2>tide list</h2><h3>Usage</h3><pre>\n\
 <code><strong>tide list</strong></code></pre><h3 id=\"tide:list:::Options\">Options</h3><dl><dt id=\"tide:list::\
-help\"><a href=\"#tide:list::help\"><code>-h</code>, <code>--help</code></a></dt><dd><p>Print this page</p>\
+help\"><a href=\"#tide:list::help\"><code>-h</code>, <code>--help</code></a></dt><dd>\
 </dd></dl></section><section id=\"tide:store\"><h2>tide store</h2><p>Makes and drops stores.</p>\
 <h3>Usage</h3><pre>\n\
 <code><strong>tide store</strong></code> <code><var>COMMAND</var> ...</code></pre><h3 id=\"tide:store:::Options\"\
 >Options</h3><dl><dt id=\"tide:store::help\"><a href=\"#tide:store::help\"><code>-h</code>, <code>\
---help</code></a></dt><dd><p>Print this page</p></dd></dl><h3 id=\"tide:store:::Commands\">Commands</h3>\
+--help</code></a></dt><dd></dd></dl><h3 id=\"tide:store:::Commands\">Commands</h3>\
 <dl><dt><a href=\"#tide:store:make\"><code>make</code></a></dt><dd><p>Make an empty store</p></dd>\
 </dl></section><section id=\"tide:store:make\"><h2>tide store make</h2><h3>Usage</h3><pre>\n\
 <code><strong>tide store make</strong></code></pre><h3 id=\"tide:store:make:::Options\">Options</h3>\
 <dl><dt id=\"tide:store:make::help\"><a href=\"#tide:store:make::help\"><code>-h</code>, <code>\
---help</code></a></dt><dd><p>Print this page</p></dd></dl></section></main><footer><p>tide 2.1, 2026-11-28</p>\
+--help</code></a></dt><dd></dd></dl></section></main><footer><p>tide 2.1, 2026-11-28</p>\
 </footer>";
 
 /// The complete page of `greet`.

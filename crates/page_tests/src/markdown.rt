@@ -46,7 +46,7 @@ const ROWS: &[(Inline<'static>, &str)] = &[
     (Inline::Words("1.5"), "1\\.5"),
     (Inline::Words("12"), "12"),
     (Inline::Words("a_b _c"), "a_b \\_c"),
-    (Inline::Words("*`[]<{\\"), "\\*\\`\\[\\]\\<\\{\\\\"),
+    (Inline::Words("*`[]<{\\"), "\\*\\`\\[\\]\\<&#123;\\\\"),
     (Inline::Words("a & b &c &"), "a & b \\&c \\&"),
     (Inline::Words("a! b!"), "a! b\\!"),
     (Inline::Words(" a\tb\n"), "&#32;a b&#32;"),
@@ -65,7 +65,10 @@ const ROWS: &[(Inline<'static>, &str)] = &[
     (Inline::Literal(""), "&#32;"),
     (Inline::Link("https://a.b/?c&d"), "<https://a.b/?c&amp;d>"),
     (Inline::Link("http://a b"), "http://a b"),
-    (Inline::Link("https://a.b/{{c}}"), "https://a.b/\\{\\{c}}"),
+    (
+        Inline::Link("https://a.b/{{c}}"),
+        "https://a.b/&#123;&#123;c}}",
+    ),
     (Inline::Page("a b_é"), "[a b\\_é](a%20b_%C3%A9.md)"),
 ];
 

@@ -86,12 +86,17 @@ def alternatives(table):
     return shown(table.get("option", []) + members)
 
 
-def lists(level, top, words):
+def name_only(option):
+    """An option with nothing said of it."""
+    return {key: said for key, said in option.items() if key in ("syntax", "short", "long", "value")}
+
+
+def lists(level, help_options, words):
     """The title of each list of a level, and what may stand in it: options, positional values, commands."""
     yield words["arguments"], [], level.get("positional", []), []
     for group in level.get("group", []):
         yield title(group["title"]), alternatives(group), group.get("positional", []), group.get("command", [])
-    yield words["options"], alternatives(level) + top.get("help_option", []), [], []
+    yield words["options"], alternatives(level) + help_options, [], []
     yield words["commands"], [], [], level.get("command", [])
 
 

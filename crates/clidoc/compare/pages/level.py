@@ -64,8 +64,13 @@ class LevelPage:
     def section(self, name, inside):
         return [element("section", element("heading", name, id=self.ids.of_heading(name)), *inside)] if inside else []
 
+    def help_options(self):
+        """The options that ask for help, of which only the first level of a page says what they do."""
+        options = self.top.get("help_option", [])
+        return options if self.is_first else list(map(entries.name_only, options))
+
     def lists(self):
-        for name, *members in entries.lists(self.level, self.top, self.words):
+        for name, *members in entries.lists(self.level, self.help_options(), self.words):
             found = [self.entry(row) for row in entries.once(entries.rows(members, self.words, self.brief))]
             yield from self.section(name, [element("entries", *found)] if found else [])
 

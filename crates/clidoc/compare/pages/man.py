@@ -112,8 +112,8 @@ def title_line(words):
 
 
 def guarded(line, is_code=False):
-    """A line that is no request, and keeps its blanks. An apostrophe is written as a glyph, but some readers look no further."""
-    front = "\\&" if line.startswith((".", GLYPHS["'"])) or not is_code and line[:1] in ("", " ") else ""
+    """A line that is no request, and keeps its blanks. Some readers of names drop most glyphs at the front of a line."""
+    front = "\\&" if line.startswith((".", "\\(")) or not is_code and line[:1] in ("", " ") else ""
     return front + line + ("\\&" if line.endswith(" ") else "")
 
 

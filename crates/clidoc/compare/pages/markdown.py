@@ -9,7 +9,9 @@ import urllib.parse
 
 from pages.tree import element, is_a, joined, merged, plain
 
-ALWAYS = set("\\`*[]<{")
+ALWAYS = set("\\`*[]<")
+# What programs that make pages of a site look for before they read markdown.
+BY_NUMBER = {"{": "&#123;"}
 AT_FRONT = re.compile(r"[#+>=~-]|[0-9]+(?=[.)])")
 
 
@@ -138,7 +140,8 @@ def escapes(text, place, in_heading):
 
 
 def escaped(text, in_heading=False):
-    return "".join("\\" + letter if escapes(text, place, in_heading) else letter for place, letter in enumerate(text))
+    marks = ("\\" if escapes(text, place, in_heading) else "" for place in range(len(text)))
+    return "".join(mark + BY_NUMBER.get(letter, letter) for mark, letter in zip(marks, text))
 
 
 def guarded(line):
