@@ -1,3 +1,4 @@
+pub mod Bare
 pub mod Margins
 pub mod Stretches
 pub mod Dashes

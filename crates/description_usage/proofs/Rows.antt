@@ -14,6 +14,7 @@ use Rattle.description_usage.specs.Entries.{command_entry, option_entry, positio
 use Rattle.description_usage.specs.Syntax.{syntax_terms, syntax_word}
 use Rattle.description_usage.specs.Usage.{usage_items}
 use Rattle.description.specs.Words.{WordsSaid, english}
+use Rattle.description.specs.declared.hints.ValueHint.TheVariants.{File}
 
 -- words that are neighbours, as one
 abbrev onto_pieces : Piece → Line → Line
@@ -71,21 +72,21 @@ syntax_words = (refl, refl, refl, refl, refl, refl, refl, refl, refl, refl)
 
 -- entries of options
 pub options :
-    (shown_entry (option_entry english (record { spelling = named (both 115 (codes "store")); value = (Some (codes "FOLDER")); default = (Some (codes "~/.tide")); values = None; help = None; env = (Some (codes "TIDE_STORE")); required = false; repeated = false; hidden = false }) (paragraph ((words (codes "Where snapshots are kept") ∷ []) ∷ []) ∷ [])) ≡ record { word = codes "store"; target = None; terms = ((literal (codes "-s") ∷ []) ∷ (literal (codes "--store") ∷ words (codes "=") ∷ value (codes "FOLDER") ∷ []) ∷ []); body = (paragraph ((words (codes "Where snapshots are kept [env: TIDE_STORE] [default: ~/.tide]") ∷ []) ∷ []) ∷ []) })
-    × (shown_entry (option_entry english (record { spelling = named (short 110); value = (Some (codes "COUNT")); default = None; values = None; help = None; env = None; required = false; repeated = false; hidden = false }) (paragraph ((words (codes "a") ∷ []) ∷ (words (codes "b") ∷ []) ∷ []) ∷ [])) ≡ record { word = (110 ∷ []); target = None; terms = ((literal (codes "-n") ∷ words (codes " ") ∷ value (codes "COUNT") ∷ []) ∷ []); body = (paragraph ((words (codes "a") ∷ []) ∷ (words (codes "b") ∷ []) ∷ []) ∷ []) })
-    × (shown_entry (option_entry english (record { spelling = named (long (codes "who")); value = (Some (codes "a b")); default = None; values = (Some (codes "never, auto")); help = None; env = None; required = false; repeated = false; hidden = false }) []) ≡ record { word = codes "who"; target = None; terms = ((literal (codes "--who") ∷ words (codes "=") ∷ value (codes "<a b>") ∷ []) ∷ []); body = (paragraph ((words (codes "[possible values: never, auto]") ∷ []) ∷ []) ∷ []) })
-    × (shown_entry (option_entry english (record { spelling = named (short 233); value = None; default = (Some (codes "x")); values = None; help = None; env = None; required = false; repeated = false; hidden = false }) (bullets (((words (codes "a") ∷ []) ∷ []) ∷ ((words (codes "b") ∷ []) ∷ []) ∷ []) ∷ [])) ≡ record { word = (195 ∷ 169 ∷ []); target = None; terms = ((literal ((45 ∷ 195 ∷ 169 ∷ [])) ∷ []) ∷ []); body = (bullets (((words (codes "a") ∷ []) ∷ []) ∷ ((words (codes "b") ∷ []) ∷ []) ∷ []) ∷ paragraph ((words (codes "[default: x]") ∷ []) ∷ []) ∷ []) })
-    × (shown_entry (option_entry english (record { spelling = named (long (codes "x")); value = None; default = None; values = None; help = None; env = (Some (codes "E")); required = false; repeated = false; hidden = false }) (paragraph ((words (codes "one") ∷ []) ∷ []) ∷ paragraph ((words (codes "two") ∷ []) ∷ []) ∷ [])) ≡ record { word = codes "x"; target = None; terms = ((literal (codes "--x") ∷ []) ∷ []); body = (paragraph ((words (codes "one") ∷ []) ∷ []) ∷ paragraph ((words (codes "two") ∷ []) ∷ []) ∷ paragraph ((words (codes "[env: E]") ∷ []) ∷ []) ∷ []) })
-    × (shown_entry (option_entry english (record { spelling = syntax (codes "-a, --all[=N]"); value = None; default = None; values = None; help = None; env = (Some (codes "E")); required = false; repeated = false; hidden = false }) (code (codes "code" ∷ []) ∷ [])) ≡ record { word = codes "a"; target = None; terms = ((literal (codes "-a") ∷ []) ∷ (literal (codes "--all") ∷ words (codes "[=") ∷ value (codes "N") ∷ words (codes "]") ∷ []) ∷ []); body = (code (codes "code" ∷ []) ∷ paragraph ((words (codes "[env: E]") ∷ []) ∷ []) ∷ []) })
-    × (shown_entry (option_entry english (record { spelling = named (both 118 (codes "verbose")); value = None; default = None; values = None; help = None; env = None; required = false; repeated = false; hidden = false }) []) ≡ record { word = codes "verbose"; target = None; terms = ((literal (codes "-v") ∷ []) ∷ (literal (codes "--verbose") ∷ []) ∷ []); body = [] })
+    (shown_entry (option_entry english (record { spelling = named (both 115 (codes "store")); value = (Some (codes "FOLDER")); default = (Some (codes "~/.tide")); values = None; hint = File; help = None; env = (Some (codes "TIDE_STORE")); required = false; repeated = false; hidden = false }) (paragraph ((words (codes "Where snapshots are kept") ∷ []) ∷ []) ∷ [])) ≡ record { word = codes "store"; target = None; terms = ((literal (codes "-s") ∷ []) ∷ (literal (codes "--store") ∷ words (codes "=") ∷ value (codes "FOLDER") ∷ []) ∷ []); body = (paragraph ((words (codes "Where snapshots are kept [env: TIDE_STORE] [default: ~/.tide]") ∷ []) ∷ []) ∷ []) })
+    × (shown_entry (option_entry english (record { spelling = named (short 110); value = (Some (codes "COUNT")); default = None; values = None; hint = File; help = None; env = None; required = false; repeated = false; hidden = false }) (paragraph ((words (codes "a") ∷ []) ∷ (words (codes "b") ∷ []) ∷ []) ∷ [])) ≡ record { word = (110 ∷ []); target = None; terms = ((literal (codes "-n") ∷ words (codes " ") ∷ value (codes "COUNT") ∷ []) ∷ []); body = (paragraph ((words (codes "a") ∷ []) ∷ (words (codes "b") ∷ []) ∷ []) ∷ []) })
+    × (shown_entry (option_entry english (record { spelling = named (long (codes "who")); value = (Some (codes "a b")); default = None; values = (Some (codes "never, auto")); hint = File; help = None; env = None; required = false; repeated = false; hidden = false }) []) ≡ record { word = codes "who"; target = None; terms = ((literal (codes "--who") ∷ words (codes "=") ∷ value (codes "<a b>") ∷ []) ∷ []); body = (paragraph ((words (codes "[possible values: never, auto]") ∷ []) ∷ []) ∷ []) })
+    × (shown_entry (option_entry english (record { spelling = named (short 233); value = None; default = (Some (codes "x")); values = None; hint = File; help = None; env = None; required = false; repeated = false; hidden = false }) (bullets (((words (codes "a") ∷ []) ∷ []) ∷ ((words (codes "b") ∷ []) ∷ []) ∷ []) ∷ [])) ≡ record { word = (195 ∷ 169 ∷ []); target = None; terms = ((literal ((45 ∷ 195 ∷ 169 ∷ [])) ∷ []) ∷ []); body = (bullets (((words (codes "a") ∷ []) ∷ []) ∷ ((words (codes "b") ∷ []) ∷ []) ∷ []) ∷ paragraph ((words (codes "[default: x]") ∷ []) ∷ []) ∷ []) })
+    × (shown_entry (option_entry english (record { spelling = named (long (codes "x")); value = None; default = None; values = None; hint = File; help = None; env = (Some (codes "E")); required = false; repeated = false; hidden = false }) (paragraph ((words (codes "one") ∷ []) ∷ []) ∷ paragraph ((words (codes "two") ∷ []) ∷ []) ∷ [])) ≡ record { word = codes "x"; target = None; terms = ((literal (codes "--x") ∷ []) ∷ []); body = (paragraph ((words (codes "one") ∷ []) ∷ []) ∷ paragraph ((words (codes "two") ∷ []) ∷ []) ∷ paragraph ((words (codes "[env: E]") ∷ []) ∷ []) ∷ []) })
+    × (shown_entry (option_entry english (record { spelling = syntax (codes "-a, --all[=N]"); value = None; default = None; values = None; hint = File; help = None; env = (Some (codes "E")); required = false; repeated = false; hidden = false }) (code (codes "code" ∷ []) ∷ [])) ≡ record { word = codes "a"; target = None; terms = ((literal (codes "-a") ∷ []) ∷ (literal (codes "--all") ∷ words (codes "[=") ∷ value (codes "N") ∷ words (codes "]") ∷ []) ∷ []); body = (code (codes "code" ∷ []) ∷ paragraph ((words (codes "[env: E]") ∷ []) ∷ []) ∷ []) })
+    × (shown_entry (option_entry english (record { spelling = named (both 118 (codes "verbose")); value = None; default = None; values = None; hint = File; help = None; env = None; required = false; repeated = false; hidden = false }) []) ≡ record { word = codes "verbose"; target = None; terms = ((literal (codes "-v") ∷ []) ∷ (literal (codes "--verbose") ∷ []) ∷ []); body = [] })
 unfolding is_uppercase chars in_ranges uppercase_ranges encode
 options = (refl, refl, refl, refl, refl, refl, refl)
 
 -- entries of positional values
 pub positionals :
-    (option_map shown_entry (positional_entry english (record { value = codes "FILE"; default = None; values = None; help = None; required = true; repeated = false; strict = false; hidden = false }) []) ≡ None)
-    × (option_map shown_entry (positional_entry english (record { value = codes "file"; default = None; values = None; help = None; required = true; repeated = false; strict = false; hidden = false }) (paragraph ((words (codes "a") ∷ []) ∷ []) ∷ [])) ≡ Some (record { word = codes "<file>"; target = None; terms = ((value (codes "<file>") ∷ []) ∷ []); body = (paragraph ((words (codes "a") ∷ []) ∷ []) ∷ []) }))
-    × (option_map shown_entry (positional_entry english (record { value = codes "N"; default = (Some (codes "1")); values = None; help = None; required = false; repeated = false; strict = false; hidden = false }) []) ≡ Some (record { word = codes "N"; target = None; terms = ((value (codes "N") ∷ []) ∷ []); body = (paragraph ((words (codes "[default: 1]") ∷ []) ∷ []) ∷ []) }))
+    (option_map shown_entry (positional_entry english (record { value = codes "FILE"; default = None; values = None; hint = File; help = None; required = true; repeated = false; strict = false; hidden = false }) []) ≡ None)
+    × (option_map shown_entry (positional_entry english (record { value = codes "file"; default = None; values = None; hint = File; help = None; required = true; repeated = false; strict = false; hidden = false }) (paragraph ((words (codes "a") ∷ []) ∷ []) ∷ [])) ≡ Some (record { word = codes "<file>"; target = None; terms = ((value (codes "<file>") ∷ []) ∷ []); body = (paragraph ((words (codes "a") ∷ []) ∷ []) ∷ []) }))
+    × (option_map shown_entry (positional_entry english (record { value = codes "N"; default = (Some (codes "1")); values = None; hint = File; help = None; required = false; repeated = false; strict = false; hidden = false }) []) ≡ Some (record { word = codes "N"; target = None; terms = ((value (codes "N") ∷ []) ∷ []); body = (paragraph ((words (codes "[default: 1]") ∷ []) ∷ []) ∷ []) }))
 unfolding is_uppercase chars in_ranges uppercase_ranges encode
 positionals = (refl, refl, refl)
 
@@ -99,9 +100,9 @@ command_rows = (refl, refl)
 -- the items of usages
 pub usages :
     (map shown_pieces (usage_items english (level no_texts true [] [] no_groups [] no_commands)) ≡ [])
-    × (map shown_pieces (usage_items english (level no_texts true ((record { spelling = named (both 115 (codes "store")); value = (Some (codes "FOLDER")); default = None; values = None; help = None; env = None; required = false; repeated = false; hidden = false }) ∷ (record { spelling = named (both 118 (codes "verbose")); value = None; default = None; values = None; help = None; env = None; required = false; repeated = true; hidden = false }) ∷ (record { spelling = syntax (codes "--color[=WHEN]"); value = None; default = (Some (codes "auto")); values = None; help = None; env = None; required = false; repeated = false; hidden = false }) ∷ (record { spelling = named (long (codes "hid")); value = None; default = None; values = None; help = None; env = None; required = false; repeated = false; hidden = true }) ∷ (record { spelling = named (short 110); value = (Some (codes "num")); default = None; values = None; help = None; env = None; required = true; repeated = true; hidden = false }) ∷ (record { spelling = syntax (codes "-a|-b"); value = None; default = None; values = None; help = None; env = None; required = true; repeated = false; hidden = false }) ∷ (record { spelling = named (long (codes "in")); value = (Some (codes "FILE")); default = None; values = None; help = None; env = None; required = true; repeated = false; hidden = false }) ∷ []) [] no_groups [] (commands (command (record { name = codes "save"; initial = None; aliases = []; hidden = false }) None (level no_texts true [] [] no_groups [] no_commands)) no_commands))) ≡ ((words (codes "[") ∷ literal (codes "-s") ∷ words (codes " ") ∷ value (codes "FOLDER") ∷ words (codes "]") ∷ []) ∷ (words (codes "[") ∷ literal (codes "-v") ∷ words (codes "]...") ∷ []) ∷ (words (codes "[") ∷ literal (codes "--color") ∷ words (codes "[=") ∷ value (codes "WHEN") ∷ words (codes "]]") ∷ []) ∷ (words (codes "(") ∷ literal (codes "-n") ∷ words (codes " ") ∷ value (codes "<num>") ∷ words (codes ")...") ∷ []) ∷ (words (codes "(") ∷ literal (codes "-a") ∷ words (codes "|") ∷ literal (codes "-b") ∷ words (codes ")") ∷ []) ∷ (literal (codes "--in") ∷ words (codes "=") ∷ value (codes "FILE") ∷ []) ∷ (value (codes "COMMAND") ∷ words (codes " ...") ∷ []) ∷ []))
-    × (map shown_pieces (usage_items english (level no_texts true [] ((record { options = ((record { spelling = named (long (codes "fast")); value = None; default = None; values = None; help = None; env = None; required = false; repeated = false; hidden = false }) ∷ (record { spelling = named (long (codes "thorough")); value = None; default = None; values = None; help = None; env = None; required = false; repeated = false; hidden = false }) ∷ []); required = false }) ∷ (record { options = ((record { spelling = named (both 113 (codes "quiet")); value = None; default = None; values = None; help = None; env = None; required = false; repeated = false; hidden = false }) ∷ (record { spelling = named (long (codes "loud")); value = None; default = None; values = None; help = None; env = None; required = false; repeated = false; hidden = true }) ∷ []); required = true }) ∷ (record { options = ((record { spelling = named (short 120); value = None; default = None; values = None; help = None; env = None; required = false; repeated = false; hidden = false }) ∷ (record { spelling = named (short 121); value = (Some (codes "N")); default = None; values = None; help = None; env = None; required = false; repeated = false; hidden = false }) ∷ []); required = true }) ∷ (record { options = ((record { spelling = named (long (codes "z")); value = None; default = None; values = None; help = None; env = None; required = false; repeated = false; hidden = true }) ∷ []); required = false }) ∷ []) no_groups ((record { value = codes "FOLDER"; default = None; values = None; help = None; required = true; repeated = true; strict = false; hidden = false }) ∷ (record { value = codes "hid"; default = None; values = None; help = None; required = true; repeated = false; strict = true; hidden = true }) ∷ (record { value = codes "REST"; default = None; values = None; help = None; required = false; repeated = true; strict = true; hidden = false }) ∷ (record { value = codes "more"; default = None; values = None; help = None; required = true; repeated = true; strict = true; hidden = false }) ∷ []) no_commands)) ≡ ((words (codes "[") ∷ literal (codes "--fast") ∷ words (codes " | ") ∷ literal (codes "--thorough") ∷ words (codes "]") ∷ []) ∷ (literal (codes "-q") ∷ []) ∷ (words (codes "(") ∷ literal (codes "-x") ∷ words (codes " | ") ∷ literal (codes "-y") ∷ words (codes " ") ∷ value (codes "N") ∷ words (codes ")") ∷ []) ∷ (value (codes "FOLDER") ∷ words (codes "...") ∷ []) ∷ (words (codes "[") ∷ literal (codes "--") ∷ words (codes " ") ∷ value (codes "REST") ∷ words (codes "...]") ∷ []) ∷ (value (codes "<more>") ∷ words (codes "...") ∷ []) ∷ []))
-    × (map shown_pieces (usage_items english (level no_texts false ((record { spelling = named (long (codes "own")); value = None; default = None; values = None; help = None; env = None; required = false; repeated = false; hidden = false }) ∷ []) [] (groups (group (codes "A") ((record { spelling = named (short 97); value = None; default = None; values = None; help = None; env = None; required = false; repeated = false; hidden = false }) ∷ []) [] ((record { value = codes "P"; default = None; values = None; help = None; required = true; repeated = false; strict = true; hidden = false }) ∷ []) (commands (command (record { name = codes "c"; initial = None; aliases = []; hidden = true }) None (level no_texts true [] [] no_groups [] no_commands)) no_commands)) (groups (group (codes "B") [] ((record { options = ((record { spelling = named (short 98); value = None; default = None; values = None; help = None; env = None; required = false; repeated = false; hidden = false }) ∷ []); required = false }) ∷ []) ((record { value = codes "Q"; default = (Some (codes "1")); values = None; help = None; required = false; repeated = true; strict = false; hidden = false }) ∷ []) (commands (command (record { name = codes "d"; initial = None; aliases = []; hidden = false }) None (level no_texts true [] [] no_groups [] no_commands)) no_commands)) no_groups)) ((record { value = codes "OWN"; default = None; values = None; help = None; required = false; repeated = false; strict = false; hidden = false }) ∷ []) no_commands)) ≡ ((words (codes "[") ∷ literal (codes "--own") ∷ words (codes "]") ∷ []) ∷ (words (codes "[") ∷ literal (codes "-a") ∷ words (codes "]") ∷ []) ∷ (words (codes "[") ∷ literal (codes "-b") ∷ words (codes "]") ∷ []) ∷ (literal (codes "--") ∷ words (codes " ") ∷ value (codes "P") ∷ []) ∷ (words (codes "[") ∷ value (codes "Q") ∷ words (codes "]...") ∷ []) ∷ (words (codes "[") ∷ value (codes "OWN") ∷ words (codes "]") ∷ []) ∷ (words (codes "[") ∷ value (codes "COMMAND") ∷ words (codes " ...]") ∷ []) ∷ []))
+    × (map shown_pieces (usage_items english (level no_texts true ((record { spelling = named (both 115 (codes "store")); value = (Some (codes "FOLDER")); default = None; values = None; hint = File; help = None; env = None; required = false; repeated = false; hidden = false }) ∷ (record { spelling = named (both 118 (codes "verbose")); value = None; default = None; values = None; hint = File; help = None; env = None; required = false; repeated = true; hidden = false }) ∷ (record { spelling = syntax (codes "--color[=WHEN]"); value = None; default = (Some (codes "auto")); values = None; hint = File; help = None; env = None; required = false; repeated = false; hidden = false }) ∷ (record { spelling = named (long (codes "hid")); value = None; default = None; values = None; hint = File; help = None; env = None; required = false; repeated = false; hidden = true }) ∷ (record { spelling = named (short 110); value = (Some (codes "num")); default = None; values = None; hint = File; help = None; env = None; required = true; repeated = true; hidden = false }) ∷ (record { spelling = syntax (codes "-a|-b"); value = None; default = None; values = None; hint = File; help = None; env = None; required = true; repeated = false; hidden = false }) ∷ (record { spelling = named (long (codes "in")); value = (Some (codes "FILE")); default = None; values = None; hint = File; help = None; env = None; required = true; repeated = false; hidden = false }) ∷ []) [] no_groups [] (commands (command (record { name = codes "save"; initial = None; aliases = []; hidden = false }) None (level no_texts true [] [] no_groups [] no_commands)) no_commands))) ≡ ((words (codes "[") ∷ literal (codes "-s") ∷ words (codes " ") ∷ value (codes "FOLDER") ∷ words (codes "]") ∷ []) ∷ (words (codes "[") ∷ literal (codes "-v") ∷ words (codes "]...") ∷ []) ∷ (words (codes "[") ∷ literal (codes "--color") ∷ words (codes "[=") ∷ value (codes "WHEN") ∷ words (codes "]]") ∷ []) ∷ (words (codes "(") ∷ literal (codes "-n") ∷ words (codes " ") ∷ value (codes "<num>") ∷ words (codes ")...") ∷ []) ∷ (words (codes "(") ∷ literal (codes "-a") ∷ words (codes "|") ∷ literal (codes "-b") ∷ words (codes ")") ∷ []) ∷ (literal (codes "--in") ∷ words (codes "=") ∷ value (codes "FILE") ∷ []) ∷ (value (codes "COMMAND") ∷ words (codes " ...") ∷ []) ∷ []))
+    × (map shown_pieces (usage_items english (level no_texts true [] ((record { options = ((record { spelling = named (long (codes "fast")); value = None; default = None; values = None; hint = File; help = None; env = None; required = false; repeated = false; hidden = false }) ∷ (record { spelling = named (long (codes "thorough")); value = None; default = None; values = None; hint = File; help = None; env = None; required = false; repeated = false; hidden = false }) ∷ []); required = false }) ∷ (record { options = ((record { spelling = named (both 113 (codes "quiet")); value = None; default = None; values = None; hint = File; help = None; env = None; required = false; repeated = false; hidden = false }) ∷ (record { spelling = named (long (codes "loud")); value = None; default = None; values = None; hint = File; help = None; env = None; required = false; repeated = false; hidden = true }) ∷ []); required = true }) ∷ (record { options = ((record { spelling = named (short 120); value = None; default = None; values = None; hint = File; help = None; env = None; required = false; repeated = false; hidden = false }) ∷ (record { spelling = named (short 121); value = (Some (codes "N")); default = None; values = None; hint = File; help = None; env = None; required = false; repeated = false; hidden = false }) ∷ []); required = true }) ∷ (record { options = ((record { spelling = named (long (codes "z")); value = None; default = None; values = None; hint = File; help = None; env = None; required = false; repeated = false; hidden = true }) ∷ []); required = false }) ∷ []) no_groups ((record { value = codes "FOLDER"; default = None; values = None; hint = File; help = None; required = true; repeated = true; strict = false; hidden = false }) ∷ (record { value = codes "hid"; default = None; values = None; hint = File; help = None; required = true; repeated = false; strict = true; hidden = true }) ∷ (record { value = codes "REST"; default = None; values = None; hint = File; help = None; required = false; repeated = true; strict = true; hidden = false }) ∷ (record { value = codes "more"; default = None; values = None; hint = File; help = None; required = true; repeated = true; strict = true; hidden = false }) ∷ []) no_commands)) ≡ ((words (codes "[") ∷ literal (codes "--fast") ∷ words (codes " | ") ∷ literal (codes "--thorough") ∷ words (codes "]") ∷ []) ∷ (literal (codes "-q") ∷ []) ∷ (words (codes "(") ∷ literal (codes "-x") ∷ words (codes " | ") ∷ literal (codes "-y") ∷ words (codes " ") ∷ value (codes "N") ∷ words (codes ")") ∷ []) ∷ (value (codes "FOLDER") ∷ words (codes "...") ∷ []) ∷ (words (codes "[") ∷ literal (codes "--") ∷ words (codes " ") ∷ value (codes "REST") ∷ words (codes "...]") ∷ []) ∷ (value (codes "<more>") ∷ words (codes "...") ∷ []) ∷ []))
+    × (map shown_pieces (usage_items english (level no_texts false ((record { spelling = named (long (codes "own")); value = None; default = None; values = None; hint = File; help = None; env = None; required = false; repeated = false; hidden = false }) ∷ []) [] (groups (group (codes "A") ((record { spelling = named (short 97); value = None; default = None; values = None; hint = File; help = None; env = None; required = false; repeated = false; hidden = false }) ∷ []) [] ((record { value = codes "P"; default = None; values = None; hint = File; help = None; required = true; repeated = false; strict = true; hidden = false }) ∷ []) (commands (command (record { name = codes "c"; initial = None; aliases = []; hidden = true }) None (level no_texts true [] [] no_groups [] no_commands)) no_commands)) (groups (group (codes "B") [] ((record { options = ((record { spelling = named (short 98); value = None; default = None; values = None; hint = File; help = None; env = None; required = false; repeated = false; hidden = false }) ∷ []); required = false }) ∷ []) ((record { value = codes "Q"; default = (Some (codes "1")); values = None; hint = File; help = None; required = false; repeated = true; strict = false; hidden = false }) ∷ []) (commands (command (record { name = codes "d"; initial = None; aliases = []; hidden = false }) None (level no_texts true [] [] no_groups [] no_commands)) no_commands)) no_groups)) ((record { value = codes "OWN"; default = None; values = None; hint = File; help = None; required = false; repeated = false; strict = false; hidden = false }) ∷ []) no_commands)) ≡ ((words (codes "[") ∷ literal (codes "--own") ∷ words (codes "]") ∷ []) ∷ (words (codes "[") ∷ literal (codes "-a") ∷ words (codes "]") ∷ []) ∷ (words (codes "[") ∷ literal (codes "-b") ∷ words (codes "]") ∷ []) ∷ (literal (codes "--") ∷ words (codes " ") ∷ value (codes "P") ∷ []) ∷ (words (codes "[") ∷ value (codes "Q") ∷ words (codes "]...") ∷ []) ∷ (words (codes "[") ∷ value (codes "OWN") ∷ words (codes "]") ∷ []) ∷ (words (codes "[") ∷ value (codes "COMMAND") ∷ words (codes " ...]") ∷ []) ∷ []))
 unfolding is_uppercase chars in_ranges uppercase_ranges encode
 usages = (refl, refl, refl, refl)
 

@@ -1,5 +1,5 @@
 -- Names of options, and words for values, as a page writes them.
-use Rattle.std.specs.Prelude.{ℕ, List, [], ◌∷◌, ◌++◌, ◌==◌, chars, codes, encode_utf8, Bool, ◌||◌, if◌then◌else◌, Option, Some, None}
+use Rattle.std.specs.Prelude.{ℕ, List, [], ◌∷◌, ◌++◌, ◌==◌, chars, codes, encode_utf8, Bool, ◌&&◌, ◌||◌, nat_le, if◌then◌else◌, Option, Some, None}
 use Rattle.std.specs.Char.{is_ascii_digit}
 use Rattle.std.specs.List.{list_all}
 use Rattle.unicode.specs.Binary.{is_uppercase}
@@ -8,6 +8,10 @@ use Rattle.page_model.specs.Content.{Piece, words, literal, value, Line}
 -- an Uppercase character, an ASCII digit, `-` or `_`
 abbrev pub is_bare_character : ℕ → Bool
 is_bare_character c = (is_uppercase c || is_ascii_digit c) || (c == 45 || c == 95)
+
+-- those of ASCII, as bytes
+abbrev pub is_bare_byte : ℕ → Bool
+is_bare_byte b = ((nat_le 65 b && nat_le b 90) || (nat_le 48 b && nat_le b 57)) || (b == 45 || b == 95)
 
 abbrev pub is_bare : List ℕ → Bool
 is_bare word = list_all is_bare_character (chars word)

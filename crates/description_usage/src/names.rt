@@ -3,8 +3,8 @@ ghost use Rattle.std.specs.Prelude.{◌≡◌, ◌++◌, ◌∷◌, chars, codes
 ghost use Rattle.std.specs.List.{list_all};
 ghost use Rattle.std.specs.Option.{option_map};
 ghost use Rattle.page_model.specs.View.{line_of, piece_of};
-ghost use Rattle.description_usage.specs.Names.{is_bare, is_bare_character, long_line, long_piece, short_line};
-ghost use Rattle.description_usage.specs.Names.{short_piece, shown_value, value_behind, value_piece};
+ghost use Rattle.description_usage.specs.Names.{is_bare, is_bare_byte, is_bare_character, long_line, long_piece};
+ghost use Rattle.description_usage.specs.Names.{short_line, short_piece, shown_value, value_behind, value_piece};
 
 use bumpalo::Bump;
 use page_model::{Inline, Line};
@@ -23,9 +23,26 @@ fn is_bare_character(character: char) -> bool
     is_uppercase(character) || character.is_ascii_digit() || character == '-' || character == '_'
 }
 
+fn is_bare_byte(byte: u8) -> bool
+    ensures { result ≡ is_bare_byte byte }
+{
+    matches!(byte, b'A'..=b'Z' | b'0'..=b'9' | b'-' | b'_')
+}
+
+fn are_bare_bytes(word: &str) -> bool
+    ensures { result ≡ list_all is_bare_byte word.now }
+{
+    word.as_bytes().iter().all(|byte| is_bare_byte(*byte))
+}
+
+// Most words that stand bare are of ASCII, and then no table of Unicode is asked.
+#[tactic(auto, using(crate::proofs::Bare::bare_bytes))]
 fn is_bare(word: &str) -> bool
     ensures { result ≡ is_bare word.now }
 {
+    if are_bare_bytes(word) {
+        return true;
+    }
     word.chars().all(is_bare_character)
 }
 

@@ -6,7 +6,7 @@ use Rattle.std.proofs.lemmas.Bool.{and_parts, and_from}
 use Rattle.std.proofs.lemmas.List.Folds.{list_all-append}
 use Rattle.std.proofs.lemmas.List.Sums.{fold-append}
 use Rattle.man_page.specs.Sheet.{Roman, Glyph}
-use Rattle.man_page.specs.Exact.{code_front, input_line, is_quote_first, line_back, line_front}
+use Rattle.man_page.specs.Exact.{code_front, input_line, is_glyph_first, line_back, line_front}
 use Rattle.man_page.specs.Reader
 use Rattle.man_page.specs.Reader.{Input, Reading, Request, Stand, done_if, ends_in_blank, glyphs, is_in_example, is_plain_input, last_of, line_of, next_line, placed, placed_if, with_input}
 use Rattle.man_page.proofs.Glyphs.{in_text, is_solid, is_text_byte, run, run_if, run_then}
@@ -206,7 +206,7 @@ leads_signed read front back text shown bytes f b may e =
 
 abbrev wants_front : List ℕ → Bool
 wants_front [] = true
-wants_front (b ∷ line) = (b == 46 || b == 32) || is_quote_first (b ∷ line)
+wants_front (b ∷ line) = (b == 46 || b == 32) || is_glyph_first (b ∷ line)
 
 front_is : (text : List ℕ) → line_front text ≡ sign_if (wants_front text)
 front_is [] = refl
@@ -214,11 +214,11 @@ front_is (b ∷ text) = refl
 
 front_no_dot : (text : List ℕ) → wants_front text ≡ false → no_dot text ≡ true
 front_no_dot [] h = cc
-front_no_dot (b ∷ text) h = not_false (b == 46) (or_false (b == 46) (b == 32) (or_false (b == 46 || b == 32) (is_quote_first (b ∷ text)) h).0).0
+front_no_dot (b ∷ text) h = not_false (b == 46) (or_false (b == 46) (b == 32) (or_false (b == 46 || b == 32) (is_glyph_first (b ∷ text)) h).0).0
 
 front_no_blank : (text : List ℕ) → wants_front text ≡ false → no_blank text ≡ true
 front_no_blank [] h = cc
-front_no_blank (b ∷ text) h = not_false (b == 32) (or_false (b == 46) (b == 32) (or_false (b == 46 || b == 32) (is_quote_first (b ∷ text)) h).0).1
+front_no_blank (b ∷ text) h = not_false (b == 32) (or_false (b == 46) (b == 32) (or_false (b == 46 || b == 32) (is_glyph_first (b ∷ text)) h).0).1
 
 -- a line of text that does not end with a blank, unless there is a sign behind it
 plain_leads : (read : Reading) (back : Bool) (text : List ℕ) (shown : List Glyph) → list_all is_text_byte text ≡ true → (back ≡ false → (last_of 0 text == 32) ≡ false)
@@ -247,7 +247,7 @@ item_leads read back text shown bytes solid e = plain_leads read back text shown
 
 abbrev wants_code_front : List ℕ → Bool
 wants_code_front [] = false
-wants_code_front (b ∷ line) = b == 46 || is_quote_first (b ∷ line)
+wants_code_front (b ∷ line) = b == 46 || is_glyph_first (b ∷ line)
 
 code_front_is : (text : List ℕ) → code_front text ≡ sign_if (wants_code_front text)
 code_front_is [] = refl
@@ -255,7 +255,7 @@ code_front_is (b ∷ text) = refl
 
 code_no_dot : (text : List ℕ) → wants_code_front text ≡ false → no_dot text ≡ true
 code_no_dot [] h = refl
-code_no_dot (b ∷ text) h = not_false (b == 46) (or_false (b == 46) (is_quote_first (b ∷ text)) h).0
+code_no_dot (b ∷ text) h = not_false (b == 46) (or_false (b == 46) (is_glyph_first (b ∷ text)) h).0
 
 pub code_leads : (read : Reading) (text : List ℕ) (shown : List Glyph) → is_in_example read.stand ≡ true → list_all is_text_byte text ≡ true → run false (in_text Roman []) text ≡ in_text Roman shown
     → Leads (code_front text ++ (text ++ (line_back text ++ codes "\n"))) (Some read) (placed read read.stand shown)

@@ -21,7 +21,7 @@ use Rattle.man_page.proofs.Blocks.{Comes, block_comes, comes_front, comes_nothin
 module _ (title : List (List Glyph)) (section : List ℕ) (permitted : list_all is_permitted_byte section ≡ true) where
   -- a part is read, and behind a heading the next text begins a paragraph
   abbrev PartComes : Bool → PartSaid → List Said → Stand → Type 0
-  PartComes behind part said stand = (p : Comes (part_text section behind part) (here title said 0 stand) title (said ++ part_kept section part) 0) × (is_heading part ≡ true → p.after ≡ Fresh Plain)
+  PartComes behind part said stand = (p : Comes (part_text section behind part) (here title said [] stand) title (said ++ part_kept section part) []) × (is_heading part ≡ true → p.after ≡ Fresh Plain)
 
   part_comes : (behind : Bool) (part : PartSaid) (said : List Said) (stand : Stand) → is_permitted_part part ≡ true → is_open stand ≡ true → (behind ≡ true → stand ≡ Fresh Plain) → PartComes behind part said stand
   part_comes behind (heading rank text) said stand h o fresh = (record { after = Fresh Plain; opens = refl; leads = heading_leads title rank text said stand (bytes_of text h) o }, λ _. refl)
@@ -30,8 +30,8 @@ module _ (title : List (List Glyph)) (section : List ℕ) (permitted : list_all 
   part_comes behind (entries list) said stand h o fresh = (entries_come title section permitted list said stand h o, λ e. absurd cc)
 
   parts_come : (behind : Bool) (parts : List PartSaid) (said : List Said) (stand : Stand) → list_all is_permitted_part parts ≡ true → is_open stand ≡ true → (behind ≡ true → stand ≡ Fresh Plain)
-      → Comes (parts_text section behind parts) (here title said 0 stand) title (said ++ flat_map (part_kept section) parts) 0
-  parts_come behind [] said stand h o fresh = comes_to (sym (append-nil said)) (comes_nothing title said 0 stand o)
+      → Comes (parts_text section behind parts) (here title said [] stand) title (said ++ flat_map (part_kept section) parts) []
+  parts_come behind [] said stand h o fresh = comes_to (sym (append-nil said)) (comes_nothing title said [] stand o)
   parts_come behind (part ∷ parts) said stand h o fresh =
       let both = and_parts (is_permitted_part part) (list_all is_permitted_part parts) h in
       let first = part_comes behind part said stand both.0 o fresh in
@@ -49,9 +49,9 @@ title_permitted title h =
     let five = and_parts (are_permitted title.title) true four.1 in
     record { name = bytes_of title.name one.0; section = bytes_of title.section two.0; date = bytes_of title.date three.0; vendor = bytes_of title.vendor four.0; title = bytes_of title.title five.0 }
 
-title_leads : (title : TitleSaid) → TitleIsPermitted title → Leads (title_line title) (Some nothing_read) (here (map (in_font Roman) (title_words title)) [] 0 (Fresh Plain))
+title_leads : (title : TitleSaid) → TitleIsPermitted title → Leads (title_line title) (Some nothing_read) (here (map (in_font Roman) (title_words title)) [] [] (Fresh Plain))
 title_leads title p =
-    let next : Option Reading = here (map (in_font Roman) (title_words title)) [] 0 (Fresh Plain) in
+    let next : Option Reading = here (map (in_font Roman) (title_words title)) [] [] (Fresh Plain) in
     subst (λ x. Leads x (Some nothing_read) next) (title_line_is title)
     (leads_line (codes ".TH " ++ title_words_text title) (Some nothing_read) next (title_inside title p)
     (ap (done_if nothing_read) (title_asks (title_words_text title))
@@ -59,13 +59,13 @@ title_leads title p =
     ∙ ap (with_title nothing_read Reader.Front) (title_shown title p)))
 
 page_comes : (title : TitleSaid) (parts : List PartSaid) → TitleIsPermitted title → list_all is_permitted_part parts ≡ true
-    → Comes (page_text title parts) (Some nothing_read) (map (in_font Roman) (title_words title)) (page_kept title parts).said 0
+    → Comes (page_text title parts) (Some nothing_read) (map (in_font Roman) (title_words title)) (page_kept title parts).said []
 page_comes title parts p h = comes_front (title_leads title p) (parts_come (map (in_font Roman) (title_words title)) title.section p.section false parts [] (Fresh Plain) h refl (λ e. absurd cc))
 
-whole_is : (title : List (List Glyph)) (said : List Said) (after : Stand) → is_open after ≡ true → whole_page (here title said 0 after) ≡ Some (record { title = title; said = said })
+whole_is : (title : List (List Glyph)) (said : List Said) (after : Stand) → is_open after ≡ true → whole_page (here title said [] after) ≡ Some (record { title = title; said = said })
 whole_is title said after o = rw o refl
 
-comes_whole : (bytes : List ℕ) (title : List (List Glyph)) (said : List Said) → Comes bytes (Some nothing_read) title said 0 → ReadsAs bytes (record { title = title; said = said })
+comes_whole : (bytes : List ℕ) (title : List (List Glyph)) (said : List Said) → Comes bytes (Some nothing_read) title said [] → ReadsAs bytes (record { title = title; said = said })
 comes_whole bytes title said p =
     ap page_of_lines (p.leads.splits []) ∙ ap whole_page p.leads.reads ∙ whole_is title said p.after p.opens
 

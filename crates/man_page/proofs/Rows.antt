@@ -3,7 +3,7 @@ use Rattle.std.specs.Prelude.{◌≡◌, ℕ, List, [], ◌∷◌, ◌++◌, Opt
 use Rattle.std.proofs.Common.{refl}
 use Rattle.page_model.specs.Content.{words, literal, value, link, page, paragraph, code, bullets, heading, usage, block, entries, PartSaid}
 use Rattle.page_model.specs.declared.parts.Rank.TheVariants.{Section, Subsection}
-use Rattle.man_page.specs.Sheet.{Plain, Tagged, Roman, Bold, Italic, Said, Paragraph, Example, Sheet}
+use Rattle.man_page.specs.Sheet.{Plain, Tagged, Bulleted, Roman, Bold, Italic, Usual, Columns, Said, Paragraph, Example, Sheet}
 use Rattle.man_page.specs.Kept.{TitleSaid, page_kept, in_font}
 use Rattle.man_page.specs.Exact.{page_text}
 use Rattle.man_page.specs.Reader.{read}
@@ -33,9 +33,9 @@ pub writes :
     -- literals at the front of a word and within one, of other letters, and without a letter
     × IsWrittenAs (block (paragraph ((words (codes "a (") ∷ literal (codes "--b") ∷ words (codes "), ") ∷ literal (codes "c ") ∷ literal (195 ∷ 169 ∷ []) ∷ literal (codes "d") ∷ words (codes "\n") ∷ literal (codes "-1") ∷ []) ∷ (words [] ∷ literal (codes "e") ∷ page (codes "f") ∷ []) ∷ [])) ∷ [])
     (codes ".PP\na (\\fB\\-\\-b\\fP), \\fB\\%c \\fP\\fB\\%" ++ (195 ∷ 169 ∷ codes "\\fP\\fBd\\fP \\fB\\-1\\fP\n.br\n\\fB\\%e\\fP\\fBf\\fP(1)\n"))
-    -- items, of which one has two lines and one has none; and code
-    × IsWrittenAs (block (bullets (((words (codes "'i") ∷ []) ∷ (words (codes "k ") ∷ []) ∷ []) ∷ [] ∷ ((literal (codes "j") ∷ []) ∷ []) ∷ [])) ∷ block (code (codes "\t.%" ∷ [])) ∷ [])
-    (codes ".IP \\(bu 2\n\\&\\(aqi\n.br\nk \\&\n.IP \\(bu 2\n.IP \\(bu 2\n\\fB\\%j\\fP\n.PP\n.RS 4\n.EX\n\t.%\n.EE\n.RE\n")
+    -- items, of which one has lines that begin with a glyph and one has none; and code
+    × IsWrittenAs (block (bullets (((words (codes "'i") ∷ []) ∷ (words (codes "^k ") ∷ []) ∷ (words (codes "~l") ∷ []) ∷ []) ∷ [] ∷ ((literal (codes "j") ∷ []) ∷ []) ∷ [])) ∷ block (code (codes "\t.%" ∷ codes "\"" ∷ [])) ∷ [])
+    (codes ".IP \\(bu 2\n\\&\\(aqi\n.br\n\\&\\(hak \\&\n.br\n\\&\\(til\n.IP \\(bu 2\n.IP \\(bu 2\n\\fB\\%j\\fP\n.PP\n.RS 4\n.EX\n\t.%\n\\&\\(dq\n.EE\n.RE\n")
     -- usages, of which one has no name, with items that would end a sentence
     × IsWrittenAs (usage (record { name = codes "a b"; items = (words (codes "[") ∷ literal (codes "-a") ∷ words (codes " B]") ∷ []) ∷ (words (codes ".") ∷ []) ∷ [] ∷ (words (codes "[") ∷ value (codes "X...") ∷ words (codes "]") ∷ []) ∷ (literal (codes "a?'") ∷ []) ∷ (words (codes "!") ∷ page (codes "p") ∷ []) ∷ (words (codes ".x") ∷ []) ∷ [] } ∷ record { name = []; items = [] } ∷ []) ∷ [])
     (codes ".SY \"a b\"\n[\\fB\\-a\\fP\\~B]\n\\&.\\&\n\\&\n[\\fIX...\\fP]\\&\n\\fBa?\\(aq\\fP\\&\n!\\fBp\\fP(1)\n\\&.x\n.YS\n.SY \"\"\n.YS\n")
@@ -50,7 +50,7 @@ abbrev says : List Said → Option Sheet
 says said = Some (record { title = in_font Roman (codes "a") ∷ in_font Roman (codes "1") ∷ []; said = said })
 
 abbrev plain : List ℕ → List Said
-plain bytes = Paragraph 0 Plain (in_font Roman bytes ∷ []) ∷ []
+plain bytes = Paragraph [] Plain (in_font Roman bytes ∷ []) ∷ []
 
 pub reads :
     -- lines that follow one another are one, with a blank between two
@@ -62,14 +62,17 @@ pub reads :
     -- escapes
     × (behind (codes "\\%\\-\\e\\~\\%\\(aq\\(ga\\(ha\\(ti\\(dq\\N'37'\n") ≡ says (plain (codes "-\\ '`^~\"%")))
     -- fonts
-    × (behind (codes "a\\fBb\\fP\\fIc\\fP\n") ≡ says (Paragraph 0 Plain ((in_font Roman (codes "a") ++ (in_font Bold (codes "b") ++ in_font Italic (codes "c"))) ∷ []) ∷ []))
+    × (behind (codes "a\\fBb\\fP\\fIc\\fP\n") ≡ says (Paragraph [] Plain ((in_font Roman (codes "a") ++ (in_font Bold (codes "b") ++ in_font Italic (codes "c"))) ∷ []) ∷ []))
     -- a tag and its paragraph
-    × (behind (codes ".TP\nt\na\n.br\nb\n") ≡ says (Paragraph 0 (Tagged (in_font Roman (codes "t"))) (in_font Roman (codes "a") ∷ in_font Roman (codes "b") ∷ []) ∷ []))
-    -- an indent
-    × (behind (codes ".RS\na\n.RE\n") ≡ says (Paragraph 1 Plain (in_font Roman (codes "a") ∷ []) ∷ []))
+    × (behind (codes ".TP\nt\na\n.br\nb\n") ≡ says (Paragraph [] (Tagged (in_font Roman (codes "t"))) (in_font Roman (codes "a") ∷ in_font Roman (codes "b") ∷ []) ∷ []))
+    -- an item, also one without text
+    × (behind (codes ".IP \\(bu 2\na\n.IP \\(bu 2\n") ≡ says (Paragraph [] Bulleted (in_font Roman (codes "a") ∷ []) ∷ Paragraph [] Bulleted [] ∷ []))
+    -- an indent, and one of so many columns in it
+    × (behind (codes ".RS\na\n.RE\n") ≡ says (Paragraph (Usual ∷ []) Plain (in_font Roman (codes "a") ∷ []) ∷ []))
+    × (behind (codes ".RS\n.RS 12\na\n.RE\nb\n.RE\n") ≡ says (Paragraph (Columns 12 ∷ Usual ∷ []) Plain (in_font Roman (codes "a") ∷ []) ∷ Paragraph (Usual ∷ []) Plain (in_font Roman (codes "b") ∷ []) ∷ []))
     -- lines of an example, with their blanks
-    × (behind (codes ".EX\n  a\n\n.EE\n") ≡ says (Example 0 (in_font Roman (codes "  a") ∷ [] ∷ []) ∷ []))
-reads = (refl, refl, refl, refl, refl, refl, refl, refl)
+    × (behind (codes ".EX\n  a\n\n.EE\n") ≡ says (Example [] (in_font Roman (codes "  a") ∷ [] ∷ []) ∷ []))
+reads = (refl, refl, refl, refl, refl, refl, refl, refl, refl, refl)
 
 pub refuses :
     -- a page without a title line, with two, and with one whose quotes have no end
@@ -102,8 +105,15 @@ pub refuses :
     -- indents and examples that do not pair
     × (behind (codes ".RE\n") ≡ None)
     × (behind (codes ".RS\na\n") ≡ None)
+    -- an example behind a tag, and a synopsis in an indent
+    × (behind (codes ".TP\nt\n.EX\na\n.EE\n") ≡ None)
+    × (behind (codes ".IP\n.EX\na\n.EE\n") ≡ None)
+    × (behind (codes ".RS\n.SY a\n.YS\n.RE\n") ≡ None)
+    -- an indent of no number
+    × (behind (codes ".RS 4x\na\n.RE\n") ≡ None)
+    × (behind (codes ".RS \na\n.RE\n") ≡ None)
     × (behind (codes ".EX\na\n.PP\n.EE\n") ≡ None)
     × (behind (codes ".EX\na\n") ≡ None)
     -- a line break where no line is
     × (behind (codes ".br\na\n") ≡ None)
-refuses = (refl, refl, refl, refl, refl, refl, refl, refl, refl, refl, refl, refl, refl, refl, refl, refl, refl, refl, refl, refl, refl, refl, refl, refl)
+refuses = (refl, refl, refl, refl, refl, refl, refl, refl, refl, refl, refl, refl, refl, refl, refl, refl, refl, refl, refl, refl, refl, refl, refl, refl, refl, refl, refl, refl, refl)

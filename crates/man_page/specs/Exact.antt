@@ -58,16 +58,16 @@ escaped role text = flat_map (escaped_byte role) text
 
 -- ---- lines
 
--- whether a text begins with the glyph of an apostrophe, which some programs that read the name of a page drop at the
--- front of a line
-abbrev pub is_quote_first : List ℕ → Bool
-is_quote_first (a ∷ b ∷ c ∷ d ∷ text) = a == 92 && (b == 40 && (c == 97 && d == 113))
-is_quote_first _ = false
+-- whether a text begins with a glyph by its name, of which some programs that read the name of a page drop the most at
+-- the front of a line
+abbrev pub is_glyph_first : List ℕ → Bool
+is_glyph_first (a ∷ b ∷ text) = a == 92 && b == 40
+is_glyph_first _ = false
 
 -- A line that begins with a dot is a request, one that begins with a blank begins a new line, and an empty one is one.
 abbrev pub line_front : List ℕ → List ℕ
 line_front [] = codes "\\&"
-line_front (b ∷ line) = if (b == 46 || b == 32) || is_quote_first (b ∷ line) then codes "\\&" else []
+line_front (b ∷ line) = if (b == 46 || b == 32) || is_glyph_first (b ∷ line) then codes "\\&" else []
 
 -- blanks at the end of a line are dropped
 abbrev pub line_back : List ℕ → List ℕ
@@ -80,7 +80,7 @@ input_line line = line_front line ++ (line ++ (line_back line ++ codes "\n"))
 -- a line of code: it may be empty, and begin with blanks
 abbrev pub code_front : List ℕ → List ℕ
 code_front [] = []
-code_front (b ∷ line) = if b == 46 || is_quote_first (b ∷ line) then codes "\\&" else []
+code_front (b ∷ line) = if b == 46 || is_glyph_first (b ∷ line) then codes "\\&" else []
 
 abbrev pub code_line : List ℕ → List ℕ
 code_line line = let text : List ℕ = escaped Code line in code_front text ++ (text ++ (line_back text ++ codes "\n"))

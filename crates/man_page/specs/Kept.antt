@@ -3,7 +3,7 @@ use Rattle.std.specs.Prelude.{ℕ, ◌||◌, ◌==◌, List, [], ◌∷◌, ◌+
 use Rattle.page_model.specs.Content.{Piece, words, literal, value, link, page, Line, BlockSaid, paragraph, code, bullets, EntrySaid, FormSaid, PartSaid, heading, usage, block, entries}
 use Rattle.page_model.specs.declared.parts.Rank.{Rank}
 use Rattle.page_model.specs.declared.parts.Rank.TheVariants.{Page, Section, Subsection}
-use Rattle.man_page.specs.Sheet.{Font, Roman, Bold, Italic, Glyph, Kind, Plain, Tagged, Bulleted, Continued, Said, Heading, Paragraph, Example, Synopsis, Sheet}
+use Rattle.man_page.specs.Sheet.{Font, Roman, Bold, Italic, Glyph, Kind, Plain, Tagged, Bulleted, Continued, Indent, Usual, Columns, Said, Heading, Paragraph, Example, Synopsis, Sheet}
 
 -- a newline and a tab are a blank; in code a tab stays
 abbrev pub shown_byte : ℕ → ℕ
@@ -30,7 +30,7 @@ abbrev pub lines_shown : List ℕ → List Line → List (List Glyph)
 lines_shown section lines = map (line_shown section) lines
 
 -- a paragraph without lines is none
-abbrev pub paragraph_kept : List ℕ → ℕ → Kind → List Line → List Said
+abbrev pub paragraph_kept : List ℕ → List Indent → Kind → List Line → List Said
 paragraph_kept section indents kind [] = []
 paragraph_kept section indents kind (line ∷ lines) = Paragraph indents kind (lines_shown section (line ∷ lines)) ∷ []
 
@@ -44,26 +44,31 @@ terms_shown section (term ∷ next ∷ terms) =
 abbrev pub code_shown : List ℕ → List Glyph
 code_shown line = map (λ b. record { byte = code_byte b; font = Roman }) line
 
+-- an item has its bullet, without lines too
+abbrev pub item_kept : List ℕ → List Indent → List Line → Said
+item_kept section indents item = Paragraph indents Bulleted (lines_shown section item)
+
+-- code is indented by four columns
 abbrev pub block_kept : List ℕ → BlockSaid → List Said
-block_kept section (paragraph lines) = paragraph_kept section 0 Plain lines
-block_kept section (code lines) = Example 1 (map code_shown lines) ∷ []
-block_kept section (bullets items) = flat_map (paragraph_kept section 0 Bulleted) items
+block_kept section (paragraph lines) = paragraph_kept section [] Plain lines
+block_kept section (code lines) = Example (Columns 4 ∷ []) (map code_shown lines) ∷ []
+block_kept section (bullets items) = map (item_kept section []) items
 
 -- a block in the body of an entry
 abbrev pub inner_kept : List ℕ → BlockSaid → List Said
-inner_kept section (paragraph lines) = paragraph_kept section 0 Continued lines
-inner_kept section (code lines) = Example 2 (map code_shown lines) ∷ []
-inner_kept section (bullets items) = flat_map (paragraph_kept section 1 Bulleted) items
+inner_kept section (paragraph lines) = paragraph_kept section [] Continued lines
+inner_kept section (code lines) = Example (Columns 4 ∷ Usual ∷ []) (map code_shown lines) ∷ []
+inner_kept section (bullets items) = map (item_kept section (Usual ∷ [])) items
 
 -- an entry is a paragraph with its terms as the tag; the first paragraph of its body stands in it
 abbrev pub body_kept : List ℕ → List Glyph → List BlockSaid → List Said
-body_kept section tag [] = Paragraph 0 (Tagged tag) [] ∷ []
+body_kept section tag [] = Paragraph [] (Tagged tag) [] ∷ []
 body_kept section tag (paragraph lines ∷ blocks) =
-    Paragraph 0 (Tagged tag) (lines_shown section lines) ∷ flat_map (inner_kept section) blocks
+    Paragraph [] (Tagged tag) (lines_shown section lines) ∷ flat_map (inner_kept section) blocks
 body_kept section tag (code lines ∷ blocks) =
-    Paragraph 0 (Tagged tag) [] ∷ flat_map (inner_kept section) (code lines ∷ blocks)
+    Paragraph [] (Tagged tag) [] ∷ flat_map (inner_kept section) (code lines ∷ blocks)
 body_kept section tag (bullets items ∷ blocks) =
-    Paragraph 0 (Tagged tag) [] ∷ flat_map (inner_kept section) (bullets items ∷ blocks)
+    Paragraph [] (Tagged tag) [] ∷ flat_map (inner_kept section) (bullets items ∷ blocks)
 
 abbrev pub entry_kept : List ℕ → EntrySaid → List Said
 entry_kept section entry = body_kept section (terms_shown section entry.terms) entry.body

@@ -2,7 +2,7 @@
 -- request, and what each request does. What is not of this part is refused.
 use Rattle.std.specs.Prelude.{ℕ, ◌+◌, ◌-◌, ◌*◌, Bool, true, false, not, ◌&&◌, ◌||◌, ◌==◌, nat_lt, nat_le, List, [], ◌∷◌, ◌++◌, Option, Some, None, fold, codes, if◌then◌else◌}
 use Rattle.std.specs.Str.{bytes_eq}
-use Rattle.man_page.specs.Sheet.{Font, Roman, Bold, Italic, Glyph, Kind, Plain, Tagged, Bulleted, Continued, Said, Heading, Paragraph, Example, Synopsis, Sheet}
+use Rattle.man_page.specs.Sheet.{Font, Roman, Bold, Italic, Glyph, Kind, Plain, Tagged, Bulleted, Continued, Indent, Usual, Columns, Said, Heading, Paragraph, Example, Synopsis, Sheet}
 use Rattle.page_model.specs.declared.parts.Rank.{Rank}
 use Rattle.page_model.specs.declared.parts.Rank.TheVariants.{Section, Subsection}
 
@@ -249,8 +249,8 @@ pub data Request : Type 0 where
   NewBulleted : Request
   NewContinued : Request
   LineBreak : Request
-  Indent : Request
-  Outdent : Request
+  StartIndent : Indent → Request
+  EndIndent : Request
   StartExample : Request
   EndExample : Request
   StartSynopsis : List ℕ → Request
@@ -269,6 +269,24 @@ abbrev pub request_with : (List ℕ → Request) → Option (List ℕ) → Optio
 request_with request None otherwise = otherwise
 request_with request (Some words) otherwise = Some (request words)
 
+-- a number in decimal digits, of which there is one
+abbrev pub next_digit : Option ℕ → ℕ → Option ℕ
+next_digit None b = None
+next_digit (Some n) b = if nat_le 48 b && nat_le b 57 then Some (n * 10 + (b - 48)) else None
+
+abbrev pub number : List ℕ → Option ℕ
+number [] = None
+number (b ∷ bytes) = fold next_digit (Some 0) (b ∷ bytes)
+
+-- an indent of so many columns
+abbrev pub wide_indent : Option ℕ → Option Request
+wide_indent None = None
+wide_indent (Some n) = Some (StartIndent (Columns n))
+
+abbrev pub indent_with : Option (List ℕ) → Option Request → Option Request
+indent_with None otherwise = otherwise
+indent_with (Some word) otherwise = wide_indent (number word)
+
 abbrev pub request_of : List ℕ → Option Request
 request_of line =
     if bytes_eq line (codes ".PP") then Some NewParagraph
@@ -276,16 +294,16 @@ request_of line =
     else if bytes_eq line (codes ".IP \\(bu 2") then Some NewBulleted
     else if bytes_eq line (codes ".IP") then Some NewContinued
     else if bytes_eq line (codes ".br") then Some LineBreak
-    else if bytes_eq line (codes ".RS") then Some Indent
-    else if bytes_eq line (codes ".RS 4") then Some Indent
-    else if bytes_eq line (codes ".RE") then Some Outdent
+    else if bytes_eq line (codes ".RS") then Some (StartIndent Usual)
+    else if bytes_eq line (codes ".RE") then Some EndIndent
     else if bytes_eq line (codes ".EX") then Some StartExample
     else if bytes_eq line (codes ".EE") then Some EndExample
     else if bytes_eq line (codes ".YS") then Some EndSynopsis
-    else request_with SectionHeading (behind (codes ".SH ") line)
+    else indent_with (behind (codes ".RS ") line)
+    (request_with SectionHeading (behind (codes ".SH ") line)
     (request_with SubsectionHeading (behind (codes ".SS ") line)
     (request_with StartSynopsis (behind (codes ".SY ") line)
-    (request_with TitleLine (behind (codes ".TH ") line) None)))
+    (request_with TitleLine (behind (codes ".TH ") line) None))))
 
 -- a line that begins with a dot is a request, and one that begins with a quote is one of another kind
 abbrev pub line_of : List ℕ → Option Request
@@ -315,11 +333,11 @@ pub data Stand : Type 0 where
 pub record Reading : Type 0 where
   pub title : List (List Glyph)
   pub said : List Said
-  pub indents : ℕ
+  pub indents : List Indent
   pub stand : Stand
 
 abbrev pub nothing_read : Reading
-nothing_read = record { title = []; said = []; indents = 0; stand = Front }
+nothing_read = record { title = []; said = []; indents = []; stand = Front }
 
 abbrev pub standing : Reading → Stand → Option Reading
 standing read stand = Some (record read { stand = stand })
@@ -327,7 +345,7 @@ standing read stand = Some (record read { stand = stand })
 abbrev pub saying : Reading → Said → Stand → Option Reading
 saying read more stand = Some (record read { said = read.said ++ more ∷ []; stand = stand })
 
--- a line behind those of the last paragraph, and one that goes on with its last line behind a blank
+-- a line behind those of the last paragraph
 abbrev pub with_line : Said → List Glyph → Said
 with_line (Heading rank shown) line = Heading rank shown
 with_line (Paragraph indents kind lines) line = Paragraph indents kind (lines ++ line ∷ [])
@@ -339,6 +357,7 @@ on_last change [] = []
 on_last change (x ∷ []) = change x ∷ []
 on_last change (x ∷ y ∷ xs) = x ∷ on_last change (y ∷ xs)
 
+-- a line that goes on with the last one of the last paragraph, behind a blank
 abbrev pub with_more : Said → List Glyph → Said
 with_more (Heading rank shown) more = Heading rank shown
 with_more (Paragraph indents kind lines) more =
@@ -349,7 +368,6 @@ with_more (Synopsis name items) more = Synopsis name items
 abbrev pub changing_last : Reading → (Said → Said) → Option Reading
 changing_last read change = Some (record read { said = on_last change read.said; stand = Filled })
 
--- whether a line of text is none that roff takes for more than its glyphs: it is not empty, and no blank is at its ends
 abbrev pub last_of : ℕ → List ℕ → ℕ
 last_of b [] = b
 last_of b (c ∷ bytes) = last_of c bytes
@@ -357,6 +375,7 @@ last_of b (c ∷ bytes) = last_of c bytes
 abbrev pub ends_in_blank : List ℕ → Bool
 ends_in_blank line = last_of 0 line == blank
 
+-- whether a line of text is none that roff takes for more than its glyphs: it is not empty, and no blank is at its ends
 abbrev pub is_plain_input : List ℕ → Bool
 is_plain_input [] = false
 is_plain_input (b ∷ bytes) = not (b == blank) && not (last_of b bytes == blank)
@@ -416,23 +435,33 @@ is_spaced behind_blank (b ∷ bytes) =
 abbrev pub heading_glyphs : List ℕ → Option (List Glyph)
 heading_glyphs words = if is_spaced true words then glyphs false words else None
 
--- a heading ends no indent
+-- a heading may not stand within an indent
+abbrev pub in_no_indent : List Indent → Bool
+in_no_indent [] = true
+in_no_indent (indent ∷ indents) = false
+
 abbrev pub with_heading : Reading → Rank → Option (List Glyph) → Option Reading
 with_heading read rank None = None
 with_heading read rank (Some shown) =
-    if read.indents == 0 then saying read (Heading rank shown) (Fresh Plain) else None
+    if in_no_indent read.indents then saying read (Heading rank shown) (Fresh Plain) else None
 
 abbrev pub with_title : Reading → Stand → Option (List (List Glyph)) → Option Reading
 with_title read Front (Some words) = Some (record read { title = words; stand = Fresh Plain })
 with_title read _ _ = None
 
 abbrev pub with_synopsis : Reading → Option (List (List Glyph)) → Option Reading
-with_synopsis read (Some (name ∷ [])) = if_open read (standing read (InSynopsis name []))
+with_synopsis read (Some (name ∷ [])) =
+    if_open read (if in_no_indent read.indents then standing read (InSynopsis name []) else None)
 with_synopsis read _ = None
 
 abbrev pub with_break : Reading → Stand → Option Reading
 with_break read Filled = standing read Broken
 with_break read _ = None
+
+-- Behind a tag or a bullet an example would stand in that paragraph, and not in its indents alone.
+abbrev pub with_example_start : Reading → Stand → Option Reading
+with_example_start read (Fresh Plain) = standing read (InExample [])
+with_example_start read _ = None
 
 abbrev pub with_example : Reading → Stand → Option Reading
 with_example read (InExample lines) = saying read (Example read.indents lines) (Fresh Plain)
@@ -442,13 +471,12 @@ abbrev pub with_synopsis_end : Reading → Stand → Option Reading
 with_synopsis_end read (InSynopsis name items) = saying read (Synopsis name items) (Fresh Plain)
 with_synopsis_end read _ = None
 
-abbrev pub indented : Reading → Option Reading
-indented read = if_open read (Some (record read { indents = read.indents + 1; stand = Fresh Plain }))
+abbrev pub indented : Reading → Indent → Option Reading
+indented read indent = Some (record read { indents = indent ∷ read.indents; stand = Fresh Plain })
 
-abbrev pub outdented : Reading → Option Reading
-outdented read =
-    if_open read (if read.indents == 0 then None
-    else Some (record read { indents = read.indents - 1; stand = Fresh Plain }))
+abbrev pub outdented : Reading → List Indent → Option Reading
+outdented read [] = None
+outdented read (indent ∷ indents) = Some (record read { indents = indents; stand = Fresh Plain })
 
 abbrev pub done : Reading → Request → Option Reading
 done read (TitleLine words) = with_title read read.stand (shown_if true (words_of words))
@@ -456,12 +484,12 @@ done read (SectionHeading words) = if_open read (with_heading read Section (head
 done read (SubsectionHeading words) = if_open read (with_heading read Subsection (heading_glyphs words))
 done read NewParagraph = if_open read (standing read (Fresh Plain))
 done read NewTagged = if_open read (standing read Tag)
-done read NewBulleted = if_open read (standing read (Fresh Bulleted))
+done read NewBulleted = if_open read (saying read (Paragraph read.indents Bulleted []) Bodied)
 done read NewContinued = if_open read (standing read (Fresh Continued))
 done read LineBreak = with_break read read.stand
-done read Indent = indented read
-done read Outdent = outdented read
-done read StartExample = if_open read (standing read (InExample []))
+done read (StartIndent indent) = if_open read (indented read indent)
+done read EndIndent = if_open read (outdented read read.indents)
+done read StartExample = with_example_start read read.stand
 done read EndExample = with_example read read.stand
 done read (StartSynopsis words) = with_synopsis read (shown_if false (words_of words))
 done read EndSynopsis = with_synopsis_end read read.stand
@@ -494,7 +522,7 @@ lines bytes = fold line_end (record { whole = []; rest = [] }) bytes
 abbrev pub whole_page : Option Reading → Option Sheet
 whole_page None = None
 whole_page (Some read) =
-    if is_open read.stand && read.indents == 0 then Some (record { title = read.title; said = read.said }) else None
+    if is_open read.stand && in_no_indent read.indents then Some (record { title = read.title; said = read.said }) else None
 
 abbrev pub page_of_lines : Lines → Option Sheet
 page_of_lines read = elim read.rest as (λ _. Option Sheet) [

@@ -19,12 +19,17 @@ pub data Kind : Type 0 where
   Bulleted : Kind
   Continued : Kind
 
--- A paragraph and an example have how many indents they stand in; a paragraph the lines between its line breaks, and an
--- example its lines as they stand.
+-- how far an indent goes: as far as the paragraph of a tag, or so many columns
+pub data Indent : Type 0 where
+  Usual : Indent
+  Columns : ℕ → Indent
+
+-- A paragraph and an example have the indents that they stand in, the innermost first; a paragraph the lines between its
+-- line breaks, and an example its lines as they stand.
 pub data Said : Type 0 where
   Heading : Rank → List Glyph → Said
-  Paragraph : ℕ → Kind → List (List Glyph) → Said
-  Example : ℕ → List (List Glyph) → Said
+  Paragraph : List Indent → Kind → List (List Glyph) → Said
+  Example : List Indent → List (List Glyph) → Said
   Synopsis : List Glyph → List (List Glyph) → Said
 
 -- a page: the words of its title line, and what it says

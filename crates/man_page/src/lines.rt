@@ -6,7 +6,7 @@ ghost use Rattle.std.specs.List.{list_any};
 ghost use Rattle.page_model.specs.Content.{page};
 ghost use Rattle.page_model.specs.View.{line_of, piece_of};
 ghost use Rattle.man_page.specs.Exact.{begins_behind, begins_word, code_front, code_line, ends_sentence, escaped};
-ghost use Rattle.man_page.specs.Exact.{input_line, is_blank, is_closing, is_letter, is_quote_first, is_stop};
+ghost use Rattle.man_page.specs.Exact.{input_line, is_blank, is_closing, is_glyph_first, is_letter, is_stop};
 ghost use Rattle.man_page.specs.Exact.{item_back, line_back, line_front, piece_bytes, piece_text, pieces_from};
 ghost use Rattle.man_page.specs.Exact.{pieces_text, unhyphenated};
 ghost use Rattle.man_page.specs.Reader.{last_of};
@@ -157,16 +157,16 @@ pub fn push_pieces<A: Allocator>(
     Ok(())
 }
 
-fn is_quote_first(line: &str) -> bool
-    ensures { result ≡ is_quote_first line.now }
+fn is_glyph_first(line: &str) -> bool
+    ensures { result ≡ is_glyph_first line.now }
 {
-    matches!(line.as_bytes(), [b'\\', b'(', b'a', b'q', ..])
+    matches!(line.as_bytes(), [b'\\', b'(', ..])
 }
 
-fn apostrophe_front(line: &str) -> &'static str
-    ensures { result.now ≡ (if is_quote_first line.now then codes "\\&" else []) }
+fn glyph_front(line: &str) -> &'static str
+    ensures { result.now ≡ (if is_glyph_first line.now then codes "\\&" else []) }
 {
-    if is_quote_first(line) { "\\&" } else { "" }
+    if is_glyph_first(line) { "\\&" } else { "" }
 }
 
 // What stands before a line, so that it is read as text.
@@ -175,7 +175,7 @@ fn line_front(line: &str) -> &'static str
 {
     match line.as_bytes() {
         [] | [b'.' | b' ', ..] => "\\&",
-        _ => apostrophe_front(line),
+        _ => glyph_front(line),
     }
 }
 
@@ -184,7 +184,7 @@ fn code_front(line: &str) -> &'static str
 {
     match line.as_bytes() {
         [b'.', ..] => "\\&",
-        _ => apostrophe_front(line),
+        _ => glyph_front(line),
     }
 }
 

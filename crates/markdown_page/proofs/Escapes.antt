@@ -4,30 +4,26 @@ use Rattle.std.specs.Prelude.{◌==◌, codes}
 use Rattle.std.proofs.lemmas.Bool.{eqb-true}
 use Rattle.std.proofs.lemmas.List.{get_or-drop, take_all, take_more}
 use Rattle.markdown_page.specs.Bytes.{is_word}
-use Rattle.markdown_page.specs.Kept.{shown_byte}
-use Rattle.markdown_page.specs.Exact.{begins_in_word, escaped, is_end, is_escaped, is_sign, mark_if, may_refer}
-use Rattle.markdown_page.proofs.Bools.{or_cases}
+use Rattle.markdown_page.specs.Exact.{begins_in_word, escaped, is_end, is_escaped, is_sign, mark_if, may_refer, stand_for}
+use Rattle.markdown_page.proofs.Bools.{or_cases, or_false}
 use Rattle.markdown_page.proofs.Loops.{drop_next}
 
 abbrev pub IsMark : ℕ → Type 0
-IsMark b = (b < 128) × (shown_byte b ≡ b)
+IsMark b = (b < 128) × (stand_for b ≡ b ∷ [])
 
 mark_at : (b c : ℕ) → IsMark c → (b == c) ≡ true → IsMark b
 mark_at b c known e = subst IsMark (sym (eqb-true b c e)) known
 
 sign_is : (b : ℕ) → is_sign b ≡ true → IsMark b
-sign_is b h = elim (or_cases (b == 92 || b == 96 || b == 42 || b == 91 || b == 93 || b == 60) (b == 123) h) [
-  | inr e ↦ mark_at b 123 (omega arith, refl) e
-  | inl h1 ↦ elim (or_cases (b == 92 || b == 96 || b == 42 || b == 91 || b == 93) (b == 60) h1) [
-    | inr e ↦ mark_at b 60 (omega arith, refl) e
-    | inl h2 ↦ elim (or_cases (b == 92 || b == 96 || b == 42 || b == 91) (b == 93) h2) [
-      | inr e ↦ mark_at b 93 (omega arith, refl) e
-      | inl h3 ↦ elim (or_cases (b == 92 || b == 96 || b == 42) (b == 91) h3) [
-        | inr e ↦ mark_at b 91 (omega arith, refl) e
-        | inl h4 ↦ elim (or_cases (b == 92 || b == 96) (b == 42) h4) [
-          | inr e ↦ mark_at b 42 (omega arith, refl) e
-          | inl h5 ↦ elim (or_cases (b == 92) (b == 96) h5) [ inl e ↦ mark_at b 92 (omega arith, refl) e | inr e ↦ mark_at b 96 (omega arith, refl) e ]
-        ]
+sign_is b h = elim (or_cases (b == 92 || b == 96 || b == 42 || b == 91 || b == 93) (b == 60) h) [
+  | inr e ↦ mark_at b 60 (omega arith, refl) e
+  | inl h1 ↦ elim (or_cases (b == 92 || b == 96 || b == 42 || b == 91) (b == 93) h1) [
+    | inr e ↦ mark_at b 93 (omega arith, refl) e
+    | inl h2 ↦ elim (or_cases (b == 92 || b == 96 || b == 42) (b == 91) h2) [
+      | inr e ↦ mark_at b 91 (omega arith, refl) e
+      | inl h3 ↦ elim (or_cases (b == 92 || b == 96) (b == 42) h3) [
+        | inr e ↦ mark_at b 42 (omega arith, refl) e
+        | inl h4 ↦ elim (or_cases (b == 92) (b == 96) h4) [ inl e ↦ mark_at b 92 (omega arith, refl) e | inr e ↦ mark_at b 96 (omega arith, refl) e ]
       ]
     ]
   ]
@@ -67,39 +63,39 @@ module _ (heading : Bool) (text first out : List ℕ) (start at : ℕ) (behind :
   abbrev so_far : List ℕ
   so_far = take (at - start) (drop start text)
 
-  next_is : Written heading text first out start at behind → out ++ (so_far ++ (mark_if (is_escaped heading behind byte rest) ++ (shown_byte byte ∷ escaped heading (is_word byte) rest))) ≡ first ++ escaped heading false text
+  next_is : Written heading text first out start at behind → out ++ (so_far ++ (mark_if (is_escaped heading behind byte rest) ++ (stand_for byte ++ escaped heading (is_word byte) rest))) ≡ first ++ escaped heading false text
   next_is w = ap (λ x. out ++ (so_far ++ escaped heading behind x)) (sym (drop_next text at 0 h)) ∙ w
 
-  pub bare_step : is_escaped heading behind byte rest ≡ false → shown_byte byte ≡ byte → Written heading text first out start at behind → Written heading text first out start (at + 1) (is_word byte)
+  pub bare_step : is_escaped heading behind byte rest ≡ false → stand_for byte ≡ byte ∷ [] → Written heading text first out start at behind → Written heading text first out start (at + 1) (is_word byte)
   bare_step e s w =
       ap (λ x. out ++ (x ++ escaped heading (is_word byte) rest)) (run_more text start at le h)
       ∙ ap (λ x. out ++ x) (append_assoc so_far (byte ∷ []) (escaped heading (is_word byte) rest))
-      ∙ ap (λ x. out ++ (so_far ++ (mark_if false ++ (x ∷ escaped heading (is_word byte) rest)))) (sym s)
-      ∙ ap (λ x. out ++ (so_far ++ (mark_if x ++ (shown_byte byte ∷ escaped heading (is_word byte) rest)))) (sym e)
+      ∙ ap (λ x. out ++ (so_far ++ (mark_if false ++ (x ++ escaped heading (is_word byte) rest)))) (sym s)
+      ∙ ap (λ x. out ++ (so_far ++ (mark_if x ++ (stand_for byte ++ escaped heading (is_word byte) rest)))) (sym e)
       ∙ next_is w
 
   take_one : take (at + 1 - at) (drop at text) ≡ byte ∷ []
   take_one = ap (λ n. take n (drop at text)) (let e : at + 1 - at ≡ 1 = omega arith in e) ∙ ap (take 1) (drop_next text at 0 h)
 
-  pub marked_step : (mid new : List ℕ) → mid ≡ out ++ so_far → new ≡ mid ++ codes "\\" → is_escaped heading behind byte rest ≡ true → shown_byte byte ≡ byte → Written heading text first out start at behind → Written heading text first new at (at + 1) (is_word byte)
+  pub marked_step : (mid new : List ℕ) → mid ≡ out ++ so_far → new ≡ mid ++ codes "\\" → is_escaped heading behind byte rest ≡ true → stand_for byte ≡ byte ∷ [] → Written heading text first out start at behind → Written heading text first new at (at + 1) (is_word byte)
   marked_step mid new m n e s w =
       ap (λ x. new ++ (x ++ escaped heading (is_word byte) rest)) take_one
       ∙ ap (λ x. x ++ (byte ∷ escaped heading (is_word byte) rest)) (n ∙ ap (λ x. x ++ codes "\\") m)
       ∙ (let regroup : ((out ++ so_far) ++ codes "\\") ++ (byte ∷ escaped heading (is_word byte) rest) ≡ out ++ (so_far ++ (codes "\\" ++ (byte ∷ escaped heading (is_word byte) rest))) = simp append_assoc in regroup)
-      ∙ ap (λ x. out ++ (so_far ++ (mark_if true ++ (x ∷ escaped heading (is_word byte) rest)))) (sym s)
-      ∙ ap (λ x. out ++ (so_far ++ (mark_if x ++ (shown_byte byte ∷ escaped heading (is_word byte) rest)))) (sym e)
+      ∙ ap (λ x. out ++ (so_far ++ (mark_if true ++ (x ++ escaped heading (is_word byte) rest)))) (sym s)
+      ∙ ap (λ x. out ++ (so_far ++ (mark_if x ++ (stand_for byte ++ escaped heading (is_word byte) rest)))) (sym e)
       ∙ next_is w
 
   take_none : take (at + 1 - (at + 1)) (drop (at + 1) text) ≡ []
   take_none = ap (λ n. take n (drop (at + 1) text)) (let e : at + 1 - (at + 1) ≡ 0 = omega arith in e)
 
-  pub blank_step : (mid new : List ℕ) → mid ≡ out ++ so_far → new ≡ mid ++ codes " " → is_escaped heading behind byte rest ≡ false → shown_byte byte ≡ 32 → Written heading text first out start at behind → Written heading text first new (at + 1) (at + 1) (is_word byte)
-  blank_step mid new m n e s w =
+  pub replaced_step : (mid new put : List ℕ) → mid ≡ out ++ so_far → new ≡ mid ++ put → is_escaped heading behind byte rest ≡ false → stand_for byte ≡ put → Written heading text first out start at behind → Written heading text first new (at + 1) (at + 1) (is_word byte)
+  replaced_step mid new put m n e s w =
       ap (λ x. new ++ (x ++ escaped heading (is_word byte) rest)) take_none
-      ∙ ap (λ x. x ++ escaped heading (is_word byte) rest) (n ∙ ap (λ x. x ++ codes " ") m)
-      ∙ (let regroup : ((out ++ so_far) ++ codes " ") ++ escaped heading (is_word byte) rest ≡ out ++ (so_far ++ (codes " " ++ escaped heading (is_word byte) rest)) = simp append_assoc in regroup)
-      ∙ ap (λ x. out ++ (so_far ++ (mark_if false ++ (x ∷ escaped heading (is_word byte) rest)))) (sym s)
-      ∙ ap (λ x. out ++ (so_far ++ (mark_if x ++ (shown_byte byte ∷ escaped heading (is_word byte) rest)))) (sym e)
+      ∙ ap (λ x. x ++ escaped heading (is_word byte) rest) (n ∙ ap (λ x. x ++ put) m)
+      ∙ (let regroup : ((out ++ so_far) ++ put) ++ escaped heading (is_word byte) rest ≡ out ++ (so_far ++ (put ++ escaped heading (is_word byte) rest)) = simp append_assoc in regroup)
+      ∙ ap (λ x. out ++ (so_far ++ (mark_if false ++ (x ++ escaped heading (is_word byte) rest)))) (sym s)
+      ∙ ap (λ x. out ++ (so_far ++ (mark_if x ++ (stand_for byte ++ escaped heading (is_word byte) rest)))) (sym e)
       ∙ next_is w
 
 -- what the loop sees of the text
@@ -108,11 +104,14 @@ seen_escaped heading behind bytes text at test e t =
     let fits : length (drop (at + 1) bytes) ≤ length bytes - (at + 1) = let l = length-drop (at + 1) bytes in omega arith in
     sym (t ∙ ap (is_escaped heading behind (get_or bytes at 0)) (take_all (length bytes - (at + 1)) (drop (at + 1) bytes) fits) ∙ ap (λ x. is_escaped heading behind (get_or x at 0) (drop (at + 1) x)) e)
 
-pub space_shown : (b : ℕ) → (b == 9 || b == 10) ≡ true → shown_byte b ≡ 32
-space_shown b h = rw h refl
+pub replaced_small : (b : ℕ) → (b == 9 || b == 10 || b == 123) ≡ true → b < 128
+replaced_small b h = elim (or_cases (b == 9 || b == 10) (b == 123) h) [
+  | inr e ↦ let is : b ≡ 123 = eqb-true b 123 e in omega arith
+  | inl space ↦ elim (or_cases (b == 9) (b == 10) space) [ inl e ↦ let is : b ≡ 9 = eqb-true b 9 e in omega arith | inr e ↦ let is : b ≡ 10 = eqb-true b 10 e in omega arith ]
+]
 
-pub space_small : (b : ℕ) → (b == 9 || b == 10) ≡ true → b < 128
-space_small b h = elim (or_cases (b == 9) (b == 10) h) [ inl e ↦ let is : b ≡ 9 = eqb-true b 9 e in omega arith | inr e ↦ let is : b ≡ 10 = eqb-true b 10 e in omega arith ]
+pub itself : (b : ℕ) → (b == 9 || b == 10 || b == 123) ≡ false → stand_for b ≡ b ∷ []
+itself b h = let none = or_false (b == 9 || b == 10) (b == 123) h in rw (none.1, none.0) refl
 
-pub none_shown : (b : ℕ) → (b == 9 || b == 10) ≡ false → shown_byte b ≡ b
-none_shown b h = rw h refl
+pub space_stands : (b : ℕ) → (b == 9 || b == 10 || b == 123) ≡ true → (b == 123) ≡ false → stand_for b ≡ codes " "
+space_stands b h n = elim (or_cases (b == 9 || b == 10) (b == 123) h) [ inl space ↦ rw (n, space) refl | inr brace ↦ absurd cc ]

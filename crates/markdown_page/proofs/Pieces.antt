@@ -65,13 +65,14 @@ unescaped heading behind b text h = elim (bool_cases (b == 96)) [
   | inr e ↦ e
 ]
 
-mark_free : (marked : Bool) (b : ℕ) (more : List ℕ) → (marked ≡ false → (b == 96) ≡ false) → begins_free (mark_if marked ++ b ∷ more) ≡ true
-mark_free true b more h = refl
-mark_free false b more h = not_false (b == 96) (h refl)
+mark_free : (marked braced : Bool) (b : ℕ) (more : List ℕ) → (marked ≡ false → (b == 96) ≡ false) → begins_free (mark_if marked ++ ((if braced then codes "&#123;" else b ∷ []) ++ more)) ≡ true
+mark_free true braced b more h = refl
+mark_free false true b more h = refl
+mark_free false false b more h = not_false (b == 96) (h refl)
 
 pub escaped_free : (heading behind : Bool) (b : ℕ) (text : List ℕ) → begins_free (escaped heading behind (b ∷ text)) ≡ true
 escaped_free heading behind b text =
-    mark_free (is_escaped heading behind b text) (shown_byte b) (escaped heading (is_word b) text)
+    mark_free (is_escaped heading behind b text) (b == 123) (shown_byte b) (escaped heading (is_word b) text)
     (λ h. no_grave_shown (b == 9 || b == 10) b (unescaped heading behind b text h))
 
 -- ---- autolinks

@@ -17,7 +17,7 @@ pub writes :
     IsWrittenAs [] []
     -- headings: with a number sign, signs, blanks at its ends, and an empty one
     × IsWrittenAs (heading Section (codes "C# 1.") ∷ heading Subsection (codes "- *a* `b` [c] <d> {e} \\") ∷ heading Section (codes " a\n") ∷ heading Section [] ∷ [])
-    (codes "\n## C\\# 1.\n\n### - \\*a\\* \\`b\\` \\[c\\] \\<d> \\{e} \\\\\n\n## &#32;a&#32;\n\n## &#32;\n")
+    (codes "\n## C\\# 1.\n\n### - \\*a\\* \\`b\\` \\[c\\] \\<d> &#123;e} \\\\\n\n## &#32;a&#32;\n\n## &#32;\n")
     -- a paragraph with line breaks, one with an empty line, and one with none, which is nothing
     × IsWrittenAs (block (paragraph ((words (codes "a_b _c_ d_") ∷ value (codes "e") ∷ []) ∷ (words (codes " f ") ∷ []) ∷ [] ∷ (words (codes "1. g") ∷ []) ∷ [])) ∷ block (paragraph ([] ∷ [])) ∷ block (paragraph []) ∷ [])
     (codes "\na_b \\_c\\_ d\\_e\\\n&#32;f&#32;\\\n&#32;\\\n1\\. g\n\n&#32;\n")
@@ -57,8 +57,9 @@ pub reads :
     (read (codes "a\\\nb\n\nc\n") ≡ says (Paragraph 0 (plain (codes "a") ∷ plain (codes "b") ∷ []) ∷ line (codes "c")))
     -- a line break in an empty line
     × (read (codes "a\\\n\\\nb\n") ≡ says (Paragraph 0 (plain (codes "a") ∷ [] ∷ plain (codes "b") ∷ []) ∷ []))
-    -- escapes, and a blank by its number
+    -- escapes, and a blank and a brace by their numbers
     × (read (codes "\\#\\*\\`\\&amp;&#32;\n") ≡ says (line (codes "#*`&amp; ")))
+    × (read (codes "&#123;&#123;a}} &#123;% b\n") ≡ says (line (codes "{{a}} {% b")))
     -- what is no mark where it stands
     × (read (codes "a_b & c! d# ~ >\n") ≡ says (line (codes "a_b & c! d# ~ >")))
     -- code spans, with a blank more at their ends than they show or not
@@ -71,7 +72,7 @@ pub reads :
     × (read (codes "- a\n\n  ````\n    b\n\n  ```\n  `````\n") ≡ says (Item 0 ∷ Paragraph 1 (plain (codes "a") ∷ []) ∷ Code 1 (codes "  b" ∷ [] ∷ codes "```" ∷ []) ∷ []))
     -- what begins like code or a number
     × (read (codes "``` a```\n\n12\n") ≡ says (Paragraph 0 (spanned (codes " a") ∷ []) ∷ line (codes "12")))
-reads = (refl, refl, refl, refl, refl, refl, refl, refl, refl)
+reads = (refl, refl, refl, refl, refl, refl, refl, refl, refl, refl)
 
 pub refuses :
     -- a text that does not end with a newline

@@ -1,6 +1,6 @@
 -- How what is written of a text is read, byte by byte.
 use Rattle.std.proofs.Common.{◌≡◌, ◌≢◌, ◌≤◌, arith, ℕ, Bool, true, false, not, ◌&&◌, ◌||◌, List, [], ◌∷◌, ◌++◌, refl, sym, ap, ◌∙◌, subst, inl, inr, append-nil, append_assoc}
-use Rattle.std.specs.Prelude.{Option, Some, None, fold, ◌==◌, nat_lt, if◌then◌else◌}
+use Rattle.std.specs.Prelude.{codes, Option, Some, None, fold, ◌==◌, nat_lt, if◌then◌else◌}
 use Rattle.std.specs.List.{list_all}
 use Rattle.std.proofs.lemmas.Bool.{and_parts, ne_eqb, cases_eq, le-ltb}
 use Rattle.std.proofs.Math.Bool.{and-true}
@@ -9,7 +9,7 @@ use Rattle.page_model.specs.Permitted.{is_permitted_byte}
 use Rattle.markdown_page.specs.Bytes.{is_letter, is_word}
 use Rattle.markdown_page.specs.Sheet.{Glyph}
 use Rattle.markdown_page.specs.Kept.{plain, shown_byte}
-use Rattle.markdown_page.specs.Exact.{escaped, is_end, is_escaped, mark_if}
+use Rattle.markdown_page.specs.Exact.{escaped, is_end, is_escaped, mark_if, stand_for}
 use Rattle.markdown_page.specs.Reader.{Ampersand, Bang, Before, Line, Mode, Other, Text, Underscore, Word, before_of, end_of_line, Inlines, is_control, next_byte, plain_glyph, text_byte}
 use Rattle.markdown_page.proofs.Bools.{bool_cases, not_true, or_false, or_from, word_range}
 
@@ -94,10 +94,13 @@ module _ (heading : Bool) where
     -- ---- one byte
 
     plain_escaped : (b : ℕ) → IsPlain b → (behind : Bool) (text : List ℕ) → is_escaped heading behind b text ≡ false
-    plain_escaped b p behind text = rw (ne_eqb b 92 p.no_backslash, ne_eqb b 96 p.no_grave, ne_eqb b 42 p.no_asterisk, ne_eqb b 91 p.no_open, ne_eqb b 93 p.no_close, ne_eqb b 60 p.no_less, ne_eqb b 123 p.no_brace, ne_eqb b 35 p.no_number_sign, ne_eqb b 95 p.no_underscore, ne_eqb b 38 p.no_ampersand, ne_eqb b 33 p.no_bang) refl
+    plain_escaped b p behind text = rw (ne_eqb b 92 p.no_backslash, ne_eqb b 96 p.no_grave, ne_eqb b 42 p.no_asterisk, ne_eqb b 91 p.no_open, ne_eqb b 93 p.no_close, ne_eqb b 60 p.no_less, ne_eqb b 35 p.no_number_sign, ne_eqb b 95 p.no_underscore, ne_eqb b 38 p.no_ampersand, ne_eqb b 33 p.no_bang) refl
 
     plain_shown : (b : ℕ) → IsPlain b → shown_byte b ≡ b
     plain_shown b p = rw (ne_eqb b 9 p.no_tab, ne_eqb b 10 p.no_newline) refl
+
+    plain_stands : (b : ℕ) → IsPlain b → stand_for b ≡ b ∷ []
+    plain_stands b p = rw (ne_eqb b 123 p.no_brace, ne_eqb b 9 p.no_tab, ne_eqb b 10 p.no_newline) refl
 
     no_control : (b : ℕ) → IsPlain b → is_permitted_byte b ≡ true → is_control b ≡ false
     no_control b p h =
@@ -156,7 +159,7 @@ module _ (heading : Bool) where
         or_from (nat_lt c 32) (c == 127) (le-ltb c 32 (omega arith)) (ne_eqb c 127 (λ e. absurd (omega arith)))
 
     word_escaped : (c : ℕ) (text : List ℕ) → IsPlain c → escaped heading false (c ∷ text) ≡ c ∷ escaped heading (is_word c) text
-    word_escaped c text p = ap (λ x. mark_if x ++ (shown_byte c ∷ escaped heading (is_word c) text)) (plain_escaped c p false text) ∙ ap (λ x. x ∷ escaped heading (is_word c) text) (plain_shown c p)
+    word_escaped c text p = ap (λ x. mark_if x ++ (stand_for c ++ escaped heading (is_word c) text)) (plain_escaped c p false text) ∙ ap (λ x. x ++ escaped heading (is_word c) text) (plain_stands c p)
 
     -- an underscore between letters
     bare_underscore : (c : ℕ) (text : List ℕ) (shown : List Glyph) → is_word c ≡ true → TextReads (c ∷ text)
@@ -184,11 +187,15 @@ module _ (heading : Bool) where
         ]
 
     -- an ampersand that begins no reference
-    behind_ampersand : (marked spaced : Bool) (shown : List Glyph) (c : ℕ) (more : List ℕ) → (c == 35) ≡ false → is_letter c ≡ false
-        → run heading (at outside shown Ampersand) (mark_if marked ++ ((if spaced then 32 else c) ∷ more)) ≡ run heading (at outside (shown ++ plain (38 ∷ [])) (Text Other)) (mark_if marked ++ ((if spaced then 32 else c) ∷ more))
-    behind_ampersand true spaced shown c more h g = refl
-    behind_ampersand false true shown c more h g = refl
-    behind_ampersand false false shown c more h g =
+    abbrev standing : (braced spaced : Bool) (c : ℕ) → List ℕ
+    standing braced spaced c = if braced then codes "&#123;" else (if spaced then 32 else c) ∷ []
+
+    behind_ampersand : (marked braced spaced : Bool) (shown : List Glyph) (c : ℕ) (more : List ℕ) → (c == 35) ≡ false → is_letter c ≡ false
+        → run heading (at outside shown Ampersand) (mark_if marked ++ (standing braced spaced c ++ more)) ≡ run heading (at outside (shown ++ plain (38 ∷ [])) (Text Other)) (mark_if marked ++ (standing braced spaced c ++ more))
+    behind_ampersand true braced spaced shown c more h g = refl
+    behind_ampersand false true spaced shown c more h g = refl
+    behind_ampersand false false true shown c more h g = refl
+    behind_ampersand false false false shown c more h g =
         let same : next_byte heading (at outside shown Ampersand) c ≡ next_byte heading (at outside (shown ++ plain (38 ∷ [])) (Text Other)) c = rw (h, g) refl in
         ap (λ x. run heading x more) same
 
@@ -205,7 +212,7 @@ module _ (heading : Bool) where
           | inr none ↦
               let both = or_false (c == 35) (is_letter c) none in
               subst (λ x. Shows (mark_ampersand x (c ∷ text)) (at outside shown (Text before)) (shown ++ plain (38 ∷ c ∷ text))) (sym none)
-              (shows_from (behind_ampersand (is_escaped heading false c text) (c == 9 || c == 10) shown c (escaped heading (is_word c) text) both.0 both.1)
+              (shows_from (behind_ampersand (is_escaped heading false c text) (c == 123) (c == 9 || c == 10) shown c (escaped heading (is_word c) text) both.0 both.1)
               (shows_to (append_assoc shown (plain (38 ∷ [])) (plain (c ∷ text))) (reads Other false (shown ++ plain (38 ∷ [])) (λ e. absurd cc) (λ e. refl))))
         ]
 
@@ -217,9 +224,9 @@ module _ (heading : Bool) where
     plain_byte_reads text before behind shown b p h reads w =
         let is = plain_escaped b p behind text in
         let same = plain_shown b p in
-        subst (λ x. Shows (mark_if x ++ (shown_byte b ∷ escaped heading (is_word b) text)) (at outside shown (Text before)) (shown ++ plain (b ∷ text))) (sym is)
-        (then_text text b (shown_byte b ∷ []) before (is_word b) (before_of b) shown reads
-        (λ more. ap (λ x. run heading (next_byte heading (at outside shown (Text before)) x) more) same ∙ ap (λ x. run heading x more) (plain_next shown before b p (no_control b p h)) ∙ ap (λ x. run heading (at outside (shown ++ plain_glyph x ∷ []) (Text (before_of b))) more) (sym same))
+        subst (λ x. Shows (mark_if x ++ (stand_for b ++ escaped heading (is_word b) text)) (at outside shown (Text before)) (shown ++ plain (b ∷ text))) (sym is)
+        (then_text text b (stand_for b) before (is_word b) (before_of b) shown reads
+        (λ more. ap (λ x. run heading (at outside shown (Text before)) (x ++ more)) (plain_stands b p) ∙ ap (λ x. run heading x more) (plain_next shown before b p (no_control b p h)) ∙ ap (λ x. run heading (at outside (shown ++ plain_glyph x ∷ []) (Text (before_of b))) more) (sym same))
         (word_before b) (λ _. before_calm b p))
 
 -- the number sign, in a heading and in other lines
@@ -236,7 +243,7 @@ module _ (heading : Bool) (outside : Option (List Glyph)) where
     λ h reads w. then_text heading outside text 91 (92 ∷ 91 ∷ []) before false Other shown reads (λ more. refl) (λ e. absurd cc) (λ e. refl),
     λ h reads w. then_text heading outside text 93 (92 ∷ 93 ∷ []) before false Other shown reads (λ more. refl) (λ e. absurd cc) (λ e. refl),
     λ h reads w. then_text heading outside text 60 (92 ∷ 60 ∷ []) before false Other shown reads (λ more. refl) (λ e. absurd cc) (λ e. refl),
-    λ h reads w. then_text heading outside text 123 (92 ∷ 123 ∷ []) before false Other shown reads (λ more. refl) (λ e. absurd cc) (λ e. refl),
+    λ h reads w. then_text heading outside text 123 (codes "&#123;") before false Other shown reads (λ more. refl) (λ e. absurd cc) (λ e. refl),
     number_sign_reads heading outside text before behind shown,
     underscore_reads heading outside text before behind shown,
     ampersand_reads heading outside text before behind shown,

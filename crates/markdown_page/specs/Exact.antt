@@ -10,9 +10,9 @@ use Rattle.markdown_page.specs.Reader.{last_or, longest_run}
 
 -- ---- texts
 
--- Always escaped: these and what a program that makes pages of a site takes for its own.
+-- Always escaped.
 abbrev pub is_sign : ℕ → Bool
-is_sign b = b == 92 || b == 96 || b == 42 || b == 91 || b == 93 || b == 60 || b == 123
+is_sign b = b == 92 || b == 96 || b == 42 || b == 91 || b == 93 || b == 60
 
 abbrev pub begins_in_word : List ℕ → Bool
 begins_in_word [] = false
@@ -41,10 +41,15 @@ abbrev pub mark_if : Bool → List ℕ
 mark_if true = codes "\\"
 mark_if false = []
 
+-- What stands for a byte. An opening brace is written by its number: programs that make pages of a site look for `{{`,
+-- `{%` and `{` before they read markdown, and a backslash would not keep these from them.
+abbrev pub stand_for : ℕ → List ℕ
+stand_for b = if b == 123 then codes "&#123;" else shown_byte b ∷ []
+
 abbrev pub escaped : Bool → Bool → List ℕ → List ℕ
 escaped in_heading behind_word [] = []
 escaped in_heading behind_word (b ∷ text) =
-    mark_if (is_escaped in_heading behind_word b text) ++ (shown_byte b ∷ escaped in_heading (is_word b) text)
+    mark_if (is_escaped in_heading behind_word b text) ++ (stand_for b ++ escaped in_heading (is_word b) text)
 
 -- ---- code spans
 

@@ -134,11 +134,11 @@ ampersand_byte heading line b =
     else if is_letter b then None
     else text_byte heading (with_text line Other (38 ∷ [])) Other b
 
--- a blank by its number
+-- a blank or an opening brace by its number
 abbrev pub number_byte : Line → ℕ → ℕ → Option Line
 number_byte line n b =
     if is_digit b then with_mode line (Number (n * 10 + (b - 48)))
-    else if b == 59 && n == blank then Some (with_text line Other (blank ∷ []))
+    else if b == 59 && (n == blank || n == 123) then Some (with_text line Other (n ∷ []))
     else None
 
 -- A span that begins and ends with a blank has one more at each end than it shows, unless it is of blanks.

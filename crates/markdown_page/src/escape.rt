@@ -2,7 +2,7 @@
 
 ghost use Rattle.std.specs.Prelude.{◌≡◌, ◌<◌, ◌++◌, ◌||◌, ◌==◌, false, true, IsTrue, OnOk, string_bytes};
 ghost use Rattle.markdown_page.specs.Bytes.{is_digit, is_letter, is_word};
-ghost use Rattle.markdown_page.specs.Exact.{begins_in_word, escaped, is_escaped, is_sign, may_refer};
+ghost use Rattle.markdown_page.specs.Exact.{begins_in_word, escaped, is_escaped, is_sign, may_refer, stand_for};
 
 use std::alloc::{AllocError, Allocator};
 
@@ -29,7 +29,7 @@ pub fn is_word(byte: u8) -> bool
 fn is_sign(byte: u8) -> bool
     ensures { result ≡ is_sign byte }
 {
-    matches!(byte, b'\\' | b'`' | b'*' | b'[' | b']' | b'<' | b'{')
+    matches!(byte, b'\\' | b'`' | b'*' | b'[' | b']' | b'<')
 }
 
 fn begins_in_word(text: &[u8]) -> bool
@@ -62,10 +62,19 @@ fn is_escaped(in_heading: bool, is_behind_word: bool, byte: u8, text: &[u8]) -> 
         || (byte == b'!' && text.is_empty())
 }
 
-fn is_space(byte: u8) -> bool
-    ensures { result ≡ (byte == 9 || byte == 10) }
+// Whether something else stands for a byte: for white space a blank, and for an opening brace its number.
+fn is_replaced(byte: u8) -> bool
+    ensures { result ≡ (byte == 9 || byte == 10 || byte == 123) }
 {
-    matches!(byte, b'\t' | b'\n')
+    matches!(byte, b'\t' | b'\n' | b'{')
+}
+
+#[tactic(auto, using(crate::proofs::Escapes::space_stands))]
+fn stand_in(byte: u8) -> &'static str
+    requires { (byte == 9 || byte == 10 || byte == 123) ≡ true }
+    ensures { result.now ≡ stand_for byte }
+{
+    if byte == b'{' { "&#123;" } else { " " }
 }
 
 /// Writes a text, each white space in it as a blank.
@@ -86,9 +95,9 @@ pub fn push_escaped<A: Allocator>(
             out.push_str(&text[start..at])?;
             out.push_str("\\")?;
             start = at;
-        } else if is_space(byte) {
+        } else if is_replaced(byte) {
             out.push_str(&text[start..at])?;
-            out.push_str(" ")?;
+            out.push_str(stand_in(byte))?;
             start = at + 1;
         }
         is_behind_word = is_word(byte);

@@ -1,13 +1,15 @@
 -- What characters are written as.
-use Rattle.std.proofs.Common.{◌≡◌, ◌≢◌, ℕ, ◌+◌, ◌-◌, ◌<◌, ◌≤◌, Bool, true, false, suc, List, [], ◌∷◌, ◌++◌, ◌&&◌, length, refl, sym, ap, ◌∙◌, append_assoc, append-nil, get_or, arith, take, drop, length-append, length-drop}
+use Rattle.std.proofs.Common.{◌≡◌, ◌≢◌, ℕ, ◌+◌, ◌-◌, ◌<◌, ◌≤◌, Bool, true, false, suc, List, [], ◌∷◌, ◌++◌, ◌&&◌, length, refl, sym, ap, ◌∙◌, append_assoc, append-nil, get_or, arith, take, drop, length-append, length-drop, subst}
 use Rattle.std.specs.Prelude.{encode_utf8, ◌==◌, if◌then◌else◌}
-use Rattle.std.proofs.lemmas.Bool.{ne_eqb}
+use Rattle.std.specs.List.{list_all}
+use Rattle.std.proofs.lemmas.Bool.{and_parts, ne_eqb}
 use Rattle.std.proofs.lemmas.List.{get_or-drop, take_more}
 use Rattle.std.proofs.lemmas.List.Concat.{flat_map-append}
 use Rattle.std.proofs.Math.Seq.{take-append_seam}
 use Rattle.std.specs.Str.{IsUtf8, IsCharBoundary}
 use Rattle.std.proofs.lemmas.Str.{encode_ascii, inside_one, IsCharBoundary-from_take}
 use Rattle.web_page.specs.Exact.{escaped, escaped_byte}
+use Rattle.web_page.specs.Steps.Bytes.{is_no_sign}
 use Rattle.web_page.specs.Steps.Pieces.{Extends}
 
 -- a byte that stands for itself
@@ -25,6 +27,17 @@ plain_bytes v [] p = refl
 plain_bytes v (b ∷ bs) p =
     let first : escaped_byte v b ≡ b ∷ [] = plain_byte v b (p 0 (omega arith)) in
     ap (λ x. x ++ escaped v bs) first ∙ ap (λ xs. b ∷ xs) (plain_bytes v bs (λ k l. p (suc k) (omega arith)))
+
+-- a text without signs
+no_sign : (b c : ℕ) → is_no_sign b ≡ true → is_no_sign c ≡ false → b ≢ c
+no_sign b c plain sign e = let same : is_no_sign c ≡ true = subst (λ x. is_no_sign x ≡ true) e plain in cc
+
+pub alone : (v : Bool) (bytes : List ℕ) → list_all is_no_sign bytes ≡ true → escaped v bytes ≡ bytes
+alone v [] h = refl
+alone v (b ∷ bytes) h =
+    let parts = and_parts (is_no_sign b) (list_all is_no_sign bytes) h in
+    let plain : IsPlain v b = (no_sign b 38 parts.0 refl, no_sign b 60 parts.0 refl, no_sign b 62 parts.0 refl, λ _. no_sign b 34 parts.0 refl) in
+    ap (λ x. x ++ escaped v bytes) (plain_byte v b plain) ∙ ap (λ xs. b ∷ xs) (alone v bytes parts.1)
 
 -- no byte of a character is another character's only byte
 pub other_byte : (c d k : ℕ) → d < 128 → c ≢ d → k < length (encode_utf8 c) → get_or (encode_utf8 c) k 0 ≢ d

@@ -2,6 +2,8 @@
 
 ghost use Rattle.std.specs.Prelude.{◌≡◌, ◌<◌, ◌++◌, [], ◌∷◌, MatchOption, OnErr, OnOk, string_bytes};
 ghost use Rattle.web_page.specs.Exact.{end_text, escaped, escaped_byte, start_text, tag_end};
+ghost use Rattle.std.specs.List.{list_all};
+ghost use Rattle.web_page.specs.Steps.Bytes.{is_no_sign};
 ghost use Rattle.web_page.specs.Steps.Open.{attributes_of};
 ghost use Rattle.web_page.specs.Steps.Pieces.{Extends, piece_text, pieces_text};
 
@@ -51,6 +53,41 @@ fn push_escaped<A: Allocator>(
     out.push_str(&text[start..])
 }
 
+// By `&` and without branches, so that many bytes are compared at once.
+fn is_no_sign(byte: u8) -> bool
+    ensures { result ≡ is_no_sign byte }
+{
+    (byte != b'&') & (byte != b'<') & (byte != b'>') & (byte != b'"')
+}
+
+// Whether each byte stands for itself, whatever it is in. It looks at each, whatever came before, so that it looks at
+// many at once.
+fn stand_alone(bytes: &[u8]) -> bool
+    ensures { result ≡ list_all is_no_sign bytes.now }
+{
+    let mut stand = true;
+    for byte in bytes {
+        stand &= is_no_sign(*byte);
+    }
+    stand
+}
+
+#[tactic(auto, using(crate::proofs::Escapes::alone))]
+fn push_shown<A: Allocator>(
+    out: &mut String<A>,
+    text: &str,
+    in_value: bool,
+) -> Result<(), AllocError>
+    ensures ok { OnOk result (string_bytes out.new ≡ string_bytes out.old ++ escaped in_value text.now) }
+    ensures kept { Extends (string_bytes out.old) (string_bytes out.new) }
+{
+    // Most texts have no sign.
+    if stand_alone(text.as_bytes()) {
+        return out.push_str(text);
+    }
+    push_escaped(out, text, in_value)
+}
+
 #[inline(always)]
 fn push_piece<A: Allocator>(out: &mut String<A>, piece: Piece<'_>) -> Result<(), AllocError>
     ensures ok { OnOk result (string_bytes out.new ≡ string_bytes out.old ++ piece_text piece.entry) }
@@ -58,8 +95,8 @@ fn push_piece<A: Allocator>(out: &mut String<A>, piece: Piece<'_>) -> Result<(),
 {
     match piece {
         Piece::Plain(text) => out.push_str(text),
-        Piece::Text(text) => push_escaped(out, text, false),
-        Piece::Value(text) => push_escaped(out, text, true),
+        Piece::Text(text) => push_shown(out, text, false),
+        Piece::Value(text) => push_shown(out, text, true),
     }
 }
 

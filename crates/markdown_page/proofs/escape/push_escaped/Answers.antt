@@ -2,10 +2,10 @@ use Rattle.std.proofs.Common.{◌≡◌, ◌-◌, ◌+◌, ◌++◌, ◌<◌, �
 use Rattle.std.specs.Prelude.{◌==◌}
 use Rattle.std.proofs.lemmas.Str.{IsCharBoundary-start, IsCharBoundary-after_ascii, IsCharBoundary-before_ascii}
 use Rattle.markdown_page.specs.Bytes.{is_word}
-use Rattle.markdown_page.specs.Exact.{is_escaped}
-use Rattle.markdown_page.proofs.Escapes.{bare_step, blank_step, marked_is, marked_step, none_shown, seen_escaped, space_shown, space_small}
+use Rattle.markdown_page.specs.Exact.{is_escaped, stand_for}
+use Rattle.markdown_page.proofs.Escapes.{bare_step, itself, marked_is, marked_step, replaced_small, replaced_step, seen_escaped}
 use Rattle.markdown_page.proofs.escape.push_escaped.Goals as goal
-use Rattle.markdown_page.proofs.escape.push_escaped.Goals.{then-is_escaped+in_ok-push_str+in_ok-push_str-2, else-is_escaped+then-is_space+in_ok-push_str-3+in_ok-push_str-4, else-is_escaped+else-is_space}
+use Rattle.markdown_page.proofs.escape.push_escaped.Goals.{then-is_escaped+in_ok-push_str+in_ok-push_str-2, else-is_escaped+then-is_replaced+in_ok-push_str-3+in_ok-push_str-4, else-is_escaped+else-is_replaced}
 
 pub loop-at-init : goal.loop-at-init
 loop-at-init g c = record {
@@ -38,21 +38,22 @@ loop-at-preserved g c =
             boundary = IsCharBoundary-before_ascii text at within mark.0;
             written = marked_step heading text first out start at behind c.loop-at.invariant.in_order within (string_bytes w.push_str.new.self) (string_bytes w.push_str-then-is_escaped.new.self) run w.in_ok-push_str-2.ensures.bytes marked mark.1 c.loop-at.invariant.written;
           })
-      | else-is_escaped+then-is_space+in_ok-push_str-3+in_ok-push_str-4 w ↦
+      | else-is_escaped+then-is_replaced+in_ok-push_str-3+in_ok-push_str-4 w ↦
           let bare : is_escaped heading behind (get_or text at 0) (drop (at + 1) text) ≡ false = test ∙ w.if-is_escaped.false in
-          let space : (get_or text at 0 == 9 || get_or text at 0 == 10) ≡ true = ap (λ b. b == 9 || b == 10) (sym byte) ∙ sym w.is_space.ensures ∙ w.if-is_space.true in
-          let run : string_bytes w.push_str-then-is_space.new.self ≡ out ++ take (at - start) (drop start text) = w.in_ok-push_str-3.ensures.bytes ∙ ap (λ more. out ++ more) w.range-then-is_space.ensures.value in
+          let other : (get_or text at 0 == 9 || get_or text at 0 == 10 || get_or text at 0 == 123) ≡ true = ap (λ b. b == 9 || b == 10 || b == 123) (sym byte) ∙ sym w.is_replaced.ensures ∙ w.if-is_replaced.true in
+          let stands : stand_for (get_or text at 0) ≡ w.stand_in.result.now = ap stand_for (sym byte) ∙ sym w.stand_in.ensures in
+          let run : string_bytes w.push_str-then-is_replaced.new.self ≡ out ++ take (at - start) (drop start text) = w.in_ok-push_str-3.ensures.bytes ∙ ap (λ more. out ++ more) w.range-then-is_replaced.ensures.value in
           rw (w.out-is, w.start-is, word) (record {
             in_order = omega arith;
-            boundary = IsCharBoundary-after_ascii text at c.utf8.text within (space_small (get_or text at 0) space);
-            written = blank_step heading text first out start at behind c.loop-at.invariant.in_order within (string_bytes w.push_str-then-is_space.new.self) (string_bytes w.push_str-then-is_space-2.new.self) run w.in_ok-push_str-4.ensures.bytes bare (space_shown (get_or text at 0) space) c.loop-at.invariant.written;
+            boundary = IsCharBoundary-after_ascii text at c.utf8.text within (replaced_small (get_or text at 0) other);
+            written = replaced_step heading text first out start at behind c.loop-at.invariant.in_order within (string_bytes w.push_str-then-is_replaced.new.self) (string_bytes w.push_str-then-is_replaced-2.new.self) w.stand_in.result.now run w.in_ok-push_str-4.ensures.bytes bare stands c.loop-at.invariant.written;
           })
-      | else-is_escaped+else-is_space w ↦
+      | else-is_escaped+else-is_replaced w ↦
           let bare : is_escaped heading behind (get_or text at 0) (drop (at + 1) text) ≡ false = test ∙ w.if-is_escaped.false in
-          let none : (get_or text at 0 == 9 || get_or text at 0 == 10) ≡ false = ap (λ b. b == 9 || b == 10) (sym byte) ∙ sym w.is_space.ensures ∙ w.if-is_space.false in
+          let none : (get_or text at 0 == 9 || get_or text at 0 == 10 || get_or text at 0 == 123) ≡ false = ap (λ b. b == 9 || b == 10 || b == 123) (sym byte) ∙ sym w.is_replaced.ensures ∙ w.if-is_replaced.false in
           rw (w.out-is, w.start-is, word) (record {
             in_order = omega arith;
             boundary = c.loop-at.invariant.boundary;
-            written = bare_step heading text first out start at behind c.loop-at.invariant.in_order within bare (none_shown (get_or text at 0) none) c.loop-at.invariant.written;
+            written = bare_step heading text first out start at behind c.loop-at.invariant.in_order within bare (itself (get_or text at 0) none) c.loop-at.invariant.written;
           })
     ]
