@@ -55,6 +55,9 @@ pub mod ends;
 // shown_words
 pub mod line_about;
 
+// shown_letters
+pub mod letters_of;
+
 // web_page
 pub mod note;
 

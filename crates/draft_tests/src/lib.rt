@@ -1,0 +1,5 @@
+//! Tests of what a draft is made with: rows with ample memory, and each growth refused in turn.
+#![tactic(auto)]
+
+#[cfg(test)]
+mod letters;
