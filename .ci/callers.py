@@ -16,14 +16,20 @@ WRITES = sys.argv[1:] == ["write"]
 TOP = common.TOP if WRITES else common.top_of("callers")
 CRATES, EXAMPLES = TOP / "crates", TOP / "examples"
 FIRST = "#![tactic(auto)]\n\n"
+# The column of README.md at which the page of a description begins beside it.
+BESIDE = 32
 
 
 def unlike_their_files():
     """What is said of the descriptions of README.md that are not those of their files."""
     readme = (TOP / "README.md").read_text(encoding="utf-8")
-    shown = re.search(r"(?m)^The description is `examples/greet\.toml`,\n\n((?: {4}.*\n)+)", readme)
-    if not shown or re.sub(r"(?m)^ {4}", "", shown[1]) != (EXAMPLES / "greet.toml").read_text(encoding="utf-8"):
+    block = re.search(r"(?m)^The description is `examples/greet\.toml`.*\n\n((?:(?: {4}.*)?\n)+?)\n(?=\S)", readme)
+    lines = [line[4:] for line in block[1].splitlines()] if block else []
+    if [line[:BESIDE].rstrip() for line in lines] != (EXAMPLES / "greet.toml").read_text(encoding="utf-8").splitlines():
         yield "README.md does not show examples/greet.toml"
+    page = re.search(r"(?s)\$ clidoc full greet\.toml\n(.*?)\n```", (TOP / "docs" / "guide.md").read_text(encoding="utf-8"))[1]
+    if "\n".join(line[BESIDE:] for line in lines).rstrip() != page:
+        yield "README.md does not show the page of greet.toml in docs/guide.md"
     if (EXAMPLES / "fetch.toml").read_bytes() != (CRATES / "clidoc" / "data" / "fetch.toml").read_bytes():
         yield "crates/clidoc/data/fetch.toml is not examples/fetch.toml"
     own = (CRATES / "clidoc_engine" / "src" / "own.rt").read_text(encoding="utf-8")

@@ -90,6 +90,8 @@ class Callers(InFolder):
             shutil.copytree(TOP / "crates" / name, self.folder / "crates" / name, ignore=shutil.ignore_patterns("out"))
         shutil.copytree(TOP / "examples", self.folder / "examples")
         shutil.copy(TOP / "README.md", self.folder)
+        (self.folder / "docs").mkdir()
+        shutil.copy(TOP / "docs" / "guide.md", self.folder / "docs")
 
     def told(self):
         asked = subprocess.run([sys.executable, TOP / ".ci" / "callers.py", self.folder], capture_output=True, text=True)
@@ -99,8 +101,11 @@ class Callers(InFolder):
         self.assertEqual(self.told()[0], 0, self.told())
         self.change("examples/greet.toml", "Whom to greet", "Whom")
         self.assertEqual(self.told(), (1, "README.md does not show examples/greet.toml\n"))
-        self.change("README.md", "Whom to greet\"\n", "Whom\"\n")
+        self.change("README.md", "Whom to greet\"", "Whom\"         ")
         self.assertEqual(self.told()[0], 0, self.told())
+        self.change("README.md", "-l, --loud  In", "-l, --loud  in")
+        self.assertEqual(self.told(), (1, "README.md does not show the page of greet.toml in docs/guide.md\n"))
+        self.change("README.md", "-l, --loud  in", "-l, --loud  In")
         self.change("examples/fetch.toml", "Say nothing", "Say little")
         self.assertEqual(self.told(), (1, "crates/clidoc/data/fetch.toml is not examples/fetch.toml\n"))
 
@@ -152,6 +157,29 @@ class Keys(InFolder):
         source = self.folder / "crates/description_toml/src/decode/fresh.rt"
         source.write_text('const FRESH_KEYS: [&str; 1] = ["age"];\n\nfn fresh() {\n    check_keys(teller, table, &FRESH_KEYS);\n}\n')
         self.assertEqual(self.told(), (1, "FRESH_KEYS is of no table of the page\n"))
+
+
+class Examples(InFolder):
+    def setUp(self):
+        super().setUp()
+        copy_to(self.folder, ["bpaf_roff", "bpaf_doc", "bpaf_meta", "rows"])
+
+    def told(self):
+        asked = subprocess.run([sys.executable, TOP / ".ci" / "examples.py", self.folder], capture_output=True, text=True)
+        return asked.returncode, asked.stdout
+
+    def test_finds_an_example_that_no_row_has(self):
+        self.assertEqual(self.told()[0], 0, self.told())
+        path = "crates/bpaf_doc/specs/Console/Margin.antt"
+        self.change(path, "≡ 3\n", "≡ 4\n")
+        status, told = self.told()
+        self.assertEqual(status, 1)
+        self.assertRegex(told, path + r":\d+: no row has term_length \(.*\) ≡ 4\n")
+
+    def test_finds_one_of_several_lines_and_a_row_that_goes_on(self):
+        self.change("crates/bpaf_doc/specs/Console/Layout.antt", 'codes "a\\nbc"\n-- e.g. column', 'codes "a\\nbc" ++ []\n-- e.g. column')
+        self.change("crates/rows/proofs/Roff.antt", 'codes "a b"\n', 'codes "a b" ++ []\n')
+        self.assertEqual((self.told()[0], self.told()[1].count("no row has")), (1, 2))
 
 
 class InCopy(InFolder):
@@ -359,6 +387,7 @@ class WrongWords(InFolder):
         (".ci/proved.py", "x"),
         (".ci/crates.py", "x"),
         (".ci/keys.py", "no_folder"),
+        (".ci/examples.py", "no_folder"),
         (".ci/callers.py", "no_folder"),
         (".ci/refusals.py", ".", "x"),
         (".ci/mutants", "no_crate"),
@@ -408,7 +437,7 @@ class Run(OverStandIn):
         for path in ("test", ".ci/mutants"):
             (self.folder / path).write_text(f"#!/bin/sh\n{self.JOBS}\n")
             (self.folder / path).chmod(0o755)
-        for path in ("callers", "refusals", "keys", "proved", "crates", "prose", "scripts_test"):
+        for path in ("callers", "refusals", "keys", "examples", "proved", "crates", "prose", "scripts_test"):
             (self.folder / ".ci" / f"{path}.py").write_text("")
         self.stand_in("rt", "echo '9 passed, 0 failed'")
         # What tells the memory that is free.
