@@ -50,25 +50,36 @@ fn check_faults(rt: &impl Abort, out: Global, name: &str, head: &str, rows: &str
     }
 }
 
-const FAULTS: &[Faults] = &[
+// There are two tables, since the check of one function can hold no more text.
+const FAULTS_OF_TEXTS: &[Faults] = &[
     ("texts hold lines alone", "", faults::TEXTS),
     ("words stand on one line", "", faults::LINES),
     ("topics say what they lack", "", faults::TOPICS),
     ("sections of the manual", NAME, faults::SECTIONS),
-    ("keys that are near are named", NAME, faults::KEYS),
     ("names say why they are none", "", faults::NAMES),
     ("words of commands are taken once", "", faults::TAKEN),
-    ("what is said stands where it may", NAME, faults::SAID),
     ("names of a syntax are taken once", NAME, syntaxes::TAKEN),
     ("what is no syntax is told", NAME, syntaxes::FAULTS),
     ("fixed words are titles", NAME, faults::WORDS),
+];
+
+const FAULTS_OF_KEYS: &[Faults] = &[
+    ("keys that are near are named", NAME, faults::KEYS),
+    ("what is said stands where it may", NAME, faults::SAID),
     ("what is meant is said", NAME, faults::MEANT),
     ("each fault is told", "", faults::SEVERAL),
 ];
 
 #[test]
-fn faults_are_told(rt: HostRuntime) {
-    for &(name, head, rows) in FAULTS {
+fn faults_of_texts_are_told(rt: HostRuntime) {
+    for &(name, head, rows) in FAULTS_OF_TEXTS {
+        check_faults(&rt, rt.alloc(), name, head, rows);
+    }
+}
+
+#[test]
+fn faults_of_keys_are_told(rt: HostRuntime) {
+    for &(name, head, rows) in FAULTS_OF_KEYS {
         check_faults(&rt, rt.alloc(), name, head, rows);
     }
 }
