@@ -17,6 +17,8 @@ LINES = {"value", "default", "syntax"}
 # What a macro of roff may read twice.
 TITLES = {"title", "vendor", "date"}
 NAMES = {"name", "long", "env"}
+# In bytes.
+LONGEST_NAME = 200
 LANGUAGES = ["en", "de", "pt-BR", "zh-Hans-CN"]
 
 
@@ -41,7 +43,8 @@ def fitting(key, text):
     if key in TITLES or key in NAMES - {"long", "env"}:
         text = text.replace("\\", "").replace('"', "")
     if key in NAMES:
-        return "".join(letter for letter in text if not letter.isspace() and letter not in "=\u200c\u200d\u200e\u200f").lstrip("-") or "x"
+        text = "".join(letter for letter in text if not letter.isspace() and letter not in "=\u200c\u200d\u200e\u200f").lstrip("-")
+        return text.encode()[:LONGEST_NAME].decode(errors="ignore") or "x"
     return text
 
 

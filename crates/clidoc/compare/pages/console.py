@@ -100,11 +100,11 @@ def section_lines(section, column, width):
 
 
 def at_bars(piece):
-    """A part cut behind its outermost bars."""
+    """A part cut behind its outermost bars, without white space at the ends."""
     depths = list(itertools.accumulate((letter in "[({<") - (letter in "])}>") for letter in piece))
     bars = [(depth, place) for place, depth in enumerate(depths) if piece.startswith("| ", place)]
     cuts = [place + 1 for depth, place in bars if depth == min(bars)[0]]
-    return [piece[start:end].strip(" ") for start, end in zip([0, *cuts], [*cuts, len(piece)])]
+    return [piece[start:end].strip() for start, end in zip([0, *cuts], [*cuts, len(piece)])]
 
 
 def pieces(part, width):

@@ -14,8 +14,8 @@ An entry of a list is an item: its terms are the code spans at its front, with a
 behind them stands ` \u2014 ` and the first paragraph of what is said of it. A usage is code.
 
 Not read, since none is written: indented code, setext headings, thematic breaks, quotes, numbered lists, HTML,
-emphasis, images, link references, entities but `&amp;` in an autolink, and paragraphs that go on in a second line
-without a hard break.
+emphasis, images, link references, entities but `&#32;`, `&#123;`, and `&amp;` in an autolink, and paragraphs that go
+on in a second line without a hard break.
 """
 import re
 
@@ -24,7 +24,7 @@ from pages.tree import element
 PUNCTUATION = r"!-/:-@\[-`{-~"
 INLINE = re.compile(
     rf"\\(?P<escaped>[{PUNCTUATION}])|(?P<ticks>`+)|<(?P<auto>https?:[^\x00-\x20<>]*)>|"
-    r"(?P<open>\[)|(?P<letter>[^\\`<\[])",
+    r"&#(?P<number>32|123);|(?P<open>\[)|(?P<letter>[^\\`<\[])",
     re.DOTALL,
 )
 ADDRESS = re.compile(r"\]\(([^\s()]*)\)")
@@ -162,7 +162,9 @@ def unpadded(text):
 
 
 def bare(match, text):
-    """A letter that stands for itself."""
+    """A letter that stands for itself, or its number."""
+    if match["number"]:
+        return chr(int(match["number"]))
     letter, before, behind = match["letter"], text[: match.start()][-1:], text[match.end() :][:1]
     is_intraword = before.isalnum() and behind.isalnum()
     is_entity = letter == "&" and re.match(r"[#A-Za-z]", behind)
