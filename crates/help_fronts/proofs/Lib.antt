@@ -1,0 +1,3 @@
+mod Boundaries
+mod Cuts
+mod Ends

@@ -1,0 +1,75 @@
+-- What a word of a line is: a name, a word that joins two names, or what says a value.
+use Rattle.std.specs.Prelude.{ℕ, ◌+◌, ◌==◌, ◌||◌, ◌&&◌, Bool, false, not, List, [], bytes_eq, codes, drop, find, length, map, nat_le, take, if◌then◌else◌, Option, None, Some}
+use Rattle.std.specs.Char.{is_ascii_lowercase, is_ascii_uppercase}
+use Rattle.std.specs.List.{count_by, list_any, prefix_len, slice_index}
+use Rattle.help_fronts.specs.declared.bytes.Class.TheVariants as class
+use Rattle.help_fronts.specs.Bytes.{first, is_bracket, is_dash, is_divider, is_letter, is_opening, is_separator, last, second, without_end, without_front}
+
+-- ---- names: a dash or two, a letter, and all up to a separator, but for dots at the end
+
+abbrev pub dashes : List ℕ → ℕ
+dashes w = if is_dash (second w) then 2 else 1
+
+abbrev pub is_name : List ℕ → Bool
+is_name w = is_dash (first w) && is_letter (slice_index w (dashes w))
+
+abbrev pub is_long : List ℕ → Bool
+is_long w = is_name w && is_dash (second w)
+
+-- a dash and one byte
+abbrev pub is_short : List ℕ → Bool
+is_short w = is_name w && length w == 2
+
+abbrev pub letters_len : List ℕ → ℕ
+letters_len = prefix_len (λ b. not (is_separator b))
+
+abbrev pub name_len : List ℕ → ℕ
+name_len w = (dashes w + 1) + letters_len (drop (dashes w + 1) w)
+
+abbrev pub name : List ℕ → List ℕ
+name w = without_end class.Dot (take (name_len w) w)
+
+-- what directly follows a name
+abbrev pub attached : List ℕ → List ℕ
+attached w = drop (name_len w) w
+
+-- ---- between two names
+
+-- `|`, `or`, `...`
+abbrev pub is_joiner : List ℕ → Bool
+is_joiner w = bytes_eq w (codes "|") || (bytes_eq w (codes "or") || bytes_eq w (codes "..."))
+
+-- another name has to follow
+abbrev pub leads_on : List ℕ → Bool
+leads_on w = is_joiner w || is_divider (last w)
+
+-- ---- values
+
+-- what a word says of a value, without joints at its ends
+abbrev pub without_joints : List ℕ → List ℕ
+without_joints text = without_end class.Joint (without_front class.Joint text)
+
+abbrev pub value_text : List ℕ → List ℕ
+value_text w = if is_joiner w then [] else without_joints (if is_name w then attached w else w)
+
+-- without brackets at its ends, where none are left then
+abbrev pub bare_word : (text : List ℕ) → List ℕ
+bare_word text = without_end class.Tail (without_front class.Lead text)
+
+abbrev pub value_word : (text : List ℕ) → List ℕ
+value_word text = if list_any is_bracket (bare_word text) then text else bare_word text
+
+-- between `[` and the one `]`
+abbrev pub is_optional : (text : List ℕ) → Bool
+is_optional text = (first text == 91 && last text == 93) && count_by (λ b. b == 93) text == 1
+
+-- a name without a value
+abbrev pub is_bare_name : List ℕ → Bool
+is_bare_name w = is_name w && length (without_joints (attached w)) == 0
+
+abbrev pub has_small_letter : List ℕ → Bool
+has_small_letter = list_any is_ascii_lowercase
+
+-- it begins with a bracket, or with a capital, and then has no small letter
+abbrev pub has_form_of_value : List ℕ → Bool
+has_form_of_value w = is_opening (first w) || (is_ascii_uppercase (first w) && not (has_small_letter w))

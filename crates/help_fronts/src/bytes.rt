@@ -1,0 +1,136 @@
+//! What bytes of a line are, and what is left out at the ends of a text.
+ghost use Rattle.std.specs.Prelude.{◌≡◌, ◌++◌, ◌-◌, ◌<◌, ◌≤◌, drop, length, take, true};
+ghost use Rattle.std.specs.List.{prefix_len, slice_index, suffix_len};
+ghost use Rattle.help_fronts.specs.Bytes as spec;
+
+// Which bytes are left out.
+#[derive(Clone, Copy)]
+pub enum Class {
+    Blank,
+    Joint,
+    Lead,
+    Tail,
+    Dot,
+}
+
+impl Class {
+    pub fn holds(self, byte: u8) -> bool
+        ensures { result ≡ spec.is_in self byte }
+    {
+        match self {
+            Class::Blank => is_blank(byte),
+            Class::Joint => is_joint(byte),
+            Class::Lead => is_joint(byte) || is_opening(byte),
+            Class::Tail => is_joint(byte) || is_closing(byte) || byte == b'.',
+            Class::Dot => byte == b'.',
+        }
+    }
+}
+
+pub fn is_blank(byte: u8) -> bool
+    ensures { result ≡ spec.is_blank byte }
+{
+    byte == b' ' || byte == b'\t'
+}
+
+pub fn is_opening(byte: u8) -> bool
+    ensures { result ≡ spec.is_opening byte }
+{
+    byte == b'[' || byte == b'(' || byte == b'<' || byte == b'{'
+}
+
+pub fn is_closing(byte: u8) -> bool
+    ensures { result ≡ spec.is_closing byte }
+{
+    byte == b']' || byte == b')' || byte == b'>' || byte == b'}'
+}
+
+pub fn is_divider(byte: u8) -> bool
+    ensures { result ≡ spec.is_divider byte }
+{
+    byte == b',' || byte == b'|' || byte == b'/'
+}
+
+fn is_joint(byte: u8) -> bool
+    ensures { result ≡ spec.is_joint byte }
+{
+    is_divider(byte) || byte == b'=' || byte == b':'
+}
+
+fn is_quote(byte: u8) -> bool
+    ensures { result ≡ spec.is_quote byte }
+{
+    byte == b'"' || byte == b'\'' || byte == b'`'
+}
+
+fn is_no_letter(byte: u8) -> bool
+    ensures { result ≡ spec.is_no_letter byte }
+{
+    is_closing(byte) || is_divider(byte) || is_quote(byte) || byte == b'-' || byte == b'='
+}
+
+pub fn is_letter(byte: u8) -> bool
+    ensures { result ≡ spec.is_letter byte }
+{
+    byte > b' ' && !is_no_letter(byte)
+}
+
+pub fn is_separator(byte: u8) -> bool
+    ensures { result ≡ spec.is_separator byte }
+{
+    is_joint(byte) || is_opening(byte)
+}
+
+/// The byte at a place; 0 behind the end.
+pub fn byte_at(text: &str, index: usize) -> u8
+    ensures { result ≡ slice_index text.now index }
+{
+    match text.as_bytes().get(index) {
+        None => 0,
+        Some(byte) => *byte,
+    }
+}
+
+pub fn last_byte(text: &str) -> u8
+    ensures { result ≡ spec.last text.now }
+{
+    byte_at(text, text.len().saturating_sub(1))
+}
+
+fn front_len(bytes: &[u8], class: Class) -> usize
+    ensures { result ≡ prefix_len (spec.is_in class) bytes.now }
+{
+    for (index, byte) in bytes.iter().enumerate() {
+        if !class.holds(*byte) {
+            return index;
+        }
+    }
+    bytes.len()
+}
+
+// How many bytes stand before those of the class at the end.
+fn end_at(bytes: &[u8], class: Class) -> usize
+    ensures exact { result ≡ length bytes.now - suffix_len (spec.is_in class) bytes.now }
+    ensures within { result ≤ length bytes.now }
+    ensures passed { result < length bytes.now → spec.is_in class (slice_index bytes.now result) ≡ true }
+{
+    let mut end = bytes.len();
+    while end > 0 && class.holds(bytes[end - 1]) {
+        end -= 1;
+    }
+    end
+}
+
+/// The text without the bytes of the class at its front.
+pub fn without_front(text: &str, class: Class) -> &str
+    ensures { result.now ≡ spec.without_front class text.now }
+{
+    &text[front_len(text.as_bytes(), class)..]
+}
+
+/// The text without those at its end.
+pub fn without_end(text: &str, class: Class) -> &str
+    ensures { result.now ≡ spec.without_end class text.now }
+{
+    &text[..end_at(text.as_bytes(), class)]
+}

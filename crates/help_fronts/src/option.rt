@@ -1,0 +1,138 @@
+//! What the front of an option says.
+ghost use Rattle.std.specs.Prelude.{◌≡◌, ◌++◌, [], map, IfOk, IfSome, MatchOption, OnOk};
+ghost use Rattle.std.specs.Option.{option_map};
+ghost use Rattle.help_fronts.specs.Pieces.{pieces};
+ghost use Rattle.help_fronts.specs.Words as words;
+ghost use Rattle.help_fronts.specs.Fronts as spec;
+ghost use Rattle.help_fronts.specs.View.{said};
+
+use crate::bytes::{Class, without_front};
+use crate::front::{gap_len, push_words};
+use crate::pieces::{first_piece, word};
+use crate::words::{is_name, is_optional, name, value_text, value_word};
+use std::alloc::{AllocError, Allocator, Global};
+
+/// The front of a line that begins with an option.
+#[derive(Drop)]
+pub struct OptionFront<'a, A: Allocator = Global> {
+    /// With their dashes, in the order of the line.
+    pub names: Vec<&'a str, A>,
+    /// The word for the value, mostly without brackets.
+    pub value: Option<&'a str>,
+    /// Whether the value stands in square brackets.
+    pub is_optional: bool,
+    /// The front as it stands in the line.
+    pub written: &'a str,
+    /// What stands between the front and its help: blanks, and sometimes `:` or `-`.
+    pub gap: &'a str,
+    /// What stands behind, to the end of the line.
+    pub help: &'a str,
+}
+
+fn push_names<'a, A: Allocator>(
+    names: &mut Vec<&'a str, A>,
+    words: &[&'a str],
+) -> Result<(), AllocError>
+    ensures { OnOk result (map (λ n. n.now) names.new.items
+        ≡ map (λ n. n.now) names.old.items ++ spec.names (map (λ w. w.now) words.now)) }
+{
+    for word in words {
+        if is_name(word) {
+            names.push(name(word))?;
+        }
+    }
+    Ok(())
+}
+
+fn first_value<'a>(words: &[&'a str]) -> Option<&'a str>
+    ensures { option_map (λ v. v.now) result ≡ spec.first_value (map (λ w. w.now) words.now) }
+{
+    for word in words {
+        let text = value_text(word);
+        if !value_word(text).is_empty() {
+            return Some(text);
+        }
+    }
+    None
+}
+
+fn is_value_optional(value: Option<&str>) -> bool
+    ensures { result ≡ spec.is_value_optional (option_map (λ v. v.now) value.entry) }
+{
+    match value {
+        None => false,
+        Some(text) => is_optional(text),
+    }
+}
+
+fn word_of_value(value: Option<&str>) -> Option<&str>
+    ensures { option_map (λ v. v.now) result ≡ option_map words.value_word (option_map (λ v. v.now) value.entry) }
+{
+    match value {
+        None => None,
+        Some(text) => Some(value_word(text)),
+    }
+}
+
+// The first piece of a text that begins with a name, and what stands behind it.
+fn first_name(text: &str) -> Option<(&str, &str)>
+    ensures front { MatchOption result (spec.front (pieces text.now) ≡ [])
+        (λ p. spec.front (pieces text.now) ≡ spec.front_from p.0.now (pieces p.1.now)) }
+    ensures whole { IfSome result (λ p. text.now ≡ p.0.now ++ p.1.now) }
+{
+    let (first, behind) = first_piece(text)?;
+    if is_name(word(first)) {
+        Some((first, behind))
+    } else {
+        None
+    }
+}
+
+// What a text says that begins with the piece of a name.
+fn read_front<'a, A: Allocator + Copy>(
+    alloc: A,
+    text: &'a str,
+    first: &'a str,
+    behind: &'a str,
+) -> Result<OptionFront<'a, A>, AllocError>
+    requires { text.now ≡ first.now ++ behind.now }
+    ensures exact { IfOk result (λ f. Some (said f) ≡ spec.front_in (spec.front_from first.now (pieces behind.now)) text.now) }
+    ensures whole { IfOk result (λ f. text.now ≡ (f.written.now ++ f.gap.now) ++ f.help.now) }
+{
+    let mut words = Vec::new(alloc);
+    words.push(word(first))?;
+    let rest = push_words(&mut words, word(first), behind)?;
+    let mut names = Vec::new(alloc);
+    push_names(&mut names, &words)?;
+    let value = first_value(&words);
+    let (written, rest) = text.split_at(text.len() - rest.len());
+    let (gap, help) = rest.split_at(gap_len(rest));
+    Ok(OptionFront {
+        names,
+        value: word_of_value(value),
+        is_optional: is_value_optional(value),
+        written,
+        gap,
+        help,
+    })
+}
+
+/// What the front of a line says, if the line begins with an option.
+///
+/// # Errors
+///
+/// Memory.
+pub fn option_front<'a, A: Allocator + Copy>(
+    alloc: A,
+    line: &'a str,
+) -> Result<Option<OptionFront<'a, A>>, AllocError>
+    ensures exact { IfOk result (λ front. option_map said front ≡ spec.option_front line.now) }
+    ensures whole { IfOk result (λ front. IfSome front
+        (λ f. spec.without_indent line.now ≡ (f.written.now ++ f.gap.now) ++ f.help.now)) }
+{
+    let text = without_front(line, Class::Blank);
+    match first_name(text) {
+        None => Ok(None),
+        Some((first, behind)) => Ok(Some(read_front(alloc, text, first, behind)?)),
+    }
+}

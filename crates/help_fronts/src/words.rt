@@ -1,0 +1,158 @@
+//! What a word of a line is: a name, a word that joins two names, or what says a value.
+ghost use Rattle.std.specs.Prelude.{◌≡◌, ◌≤◌, ◌==◌, ◌&&◌, ◌||◌, take, drop, length, true};
+ghost use Rattle.std.specs.List.{count_by, list_any};
+ghost use Rattle.help_fronts.specs.Bytes.{is_bracket, is_separator};
+ghost use Rattle.help_fronts.specs.Words as spec;
+
+use crate::bytes::{
+    Class, byte_at, is_closing, is_divider, is_letter, is_opening, is_separator, last_byte,
+    without_end, without_front,
+};
+
+// ---- names
+
+fn dashes(word: &str) -> usize
+    ensures { result ≡ spec.dashes word.now }
+{
+    if byte_at(word, 1) == b'-' { 2 } else { 1 }
+}
+
+pub fn is_name(word: &str) -> bool
+    ensures { result ≡ spec.is_name word.now }
+{
+    byte_at(word, 0) == b'-' && is_letter(byte_at(word, dashes(word)))
+}
+
+pub fn is_long(word: &str) -> bool
+    ensures { result ≡ spec.is_long word.now }
+{
+    is_name(word) && byte_at(word, 1) == b'-'
+}
+
+pub fn is_short(word: &str) -> bool
+    ensures { result ≡ spec.is_short word.now }
+{
+    is_name(word) && word.len() == 2
+}
+
+fn letters_len(bytes: &[u8]) -> usize
+    ensures exact { result ≡ spec.letters_len bytes.now }
+    ensures within { result ≤ length bytes.now }
+{
+    for (index, byte) in bytes.iter().enumerate() {
+        if is_separator(*byte) {
+            return index;
+        }
+    }
+    bytes.len()
+}
+
+// A word that is a name, cut behind the name.
+fn split_name(word: &str) -> (&str, &str)
+    requires { spec.is_name word.now ≡ true }
+    ensures name { result.0.now ≡ take (spec.name_len word.now) word.now }
+    ensures attached { result.1.now ≡ spec.attached word.now }
+{
+    let lead = dashes(word) + 1;
+    let letters = letters_len(&word.as_bytes()[lead..]);
+    word.split_at(lead + letters)
+}
+
+pub fn name(word: &str) -> &str
+    requires { spec.is_name word.now ≡ true }
+    ensures { result.now ≡ spec.name word.now }
+{
+    let (name, _) = split_name(word);
+    without_end(name, Class::Dot)
+}
+
+fn attached(word: &str) -> &str
+    requires { spec.is_name word.now ≡ true }
+    ensures { result.now ≡ spec.attached word.now }
+{
+    let (_, attached) = split_name(word);
+    attached
+}
+
+// ---- between two names
+
+pub fn is_joiner(word: &str) -> bool
+    ensures { result ≡ spec.is_joiner word.now }
+{
+    word == "|" || word == "or" || word == "..."
+}
+
+pub fn leads_on(word: &str) -> bool
+    ensures { result ≡ spec.leads_on word.now }
+{
+    is_joiner(word) || is_divider(last_byte(word))
+}
+
+// ---- values
+
+fn without_joints(text: &str) -> &str
+    ensures { result.now ≡ spec.without_joints text.now }
+{
+    without_end(without_front(text, Class::Joint), Class::Joint)
+}
+
+/// What a word says of a value.
+pub fn value_text(word: &str) -> &str
+    ensures { result.now ≡ spec.value_text word.now }
+{
+    if is_joiner(word) {
+        ""
+    } else if is_name(word) {
+        without_joints(attached(word))
+    } else {
+        without_joints(word)
+    }
+}
+
+fn has_bracket(text: &str) -> bool
+    ensures { result ≡ list_any is_bracket text.now }
+{
+    text.as_bytes()
+        .iter()
+        .any(|byte| is_opening(*byte) || is_closing(*byte))
+}
+
+/// The word for a value, of what is said of it.
+pub fn value_word(text: &str) -> &str
+    ensures { result.now ≡ spec.value_word text.now }
+{
+    let bare = without_end(without_front(text, Class::Lead), Class::Tail);
+    if has_bracket(bare) { text } else { bare }
+}
+
+fn closing_count(bytes: &[u8]) -> usize
+    ensures { result ≡ count_by (λ b. b == 93) bytes.now }
+{
+    bytes.iter().filter(|byte| **byte == b']').count()
+}
+
+/// Whether a value stands between `[` and the one `]`.
+pub fn is_optional(text: &str) -> bool
+    ensures { result ≡ spec.is_optional text.now }
+{
+    byte_at(text, 0) == b'[' && last_byte(text) == b']' && closing_count(text.as_bytes()) == 1
+}
+
+pub fn is_bare_name(word: &str) -> bool
+    ensures { result ≡ spec.is_bare_name word.now }
+{
+    is_name(word) && without_joints(attached(word)).is_empty()
+}
+
+fn has_small_letter(text: &str) -> bool
+    ensures { result ≡ spec.has_small_letter text.now }
+{
+    text.as_bytes().iter().any(|byte| byte.is_ascii_lowercase())
+}
+
+pub fn has_form_of_value(word: &str) -> bool
+    ensures { result ≡ spec.has_form_of_value word.now }
+{
+    let first = byte_at(word, 0);
+    is_opening(first) || (first.is_ascii_uppercase() && !has_small_letter(word))
+}
