@@ -6,7 +6,7 @@ use Rattle.std.proofs.lemmas.List.Sums.{prefix_len-le-length, prefix_len_passes,
 use Rattle.std.proofs.lemmas.Bool.{and_parts, cases_lt}
 use Rattle.std.proofs.lemmas.Bool.Decides.{nat_tests}
 use Rattle.std.proofs.lemmas.Str.{IsCharBoundary-start, IsCharBoundary-end, IsCharBoundary-before_ascii, IsCharBoundary-after_ascii, IsUtf8-drop}
-use Rattle.help_fronts.specs.Bytes.{is_dash, is_in, is_letter, is_no_letter, is_separator}
+use Rattle.help_fronts.specs.Bytes.{free_len, is_dash, is_in, is_letter, is_no_letter}
 use Rattle.help_fronts.specs.Words.{dashes, is_name}
 use Rattle.help_fronts.specs.Fronts.{gap_len, is_in_gap}
 use Rattle.help_fronts.specs.declared.bytes.Class.{Class}
@@ -21,9 +21,6 @@ before_ascii p bs ascii = grind (arith, cases_lt, IsCharBoundary-before_ascii, p
 class_ascii : (k : Class) (c : ℕ) → is_in k c ≡ true → c < 128
 class_ascii k c h = grind (arith, nat_tests)
 
-separator_ascii : (c : ℕ) → is_separator c ≡ true → c < 128
-separator_ascii c h = grind (arith, nat_tests)
-
 not_false : (b : Bool) → not b ≡ false → b ≡ true
 not_false b h1 = grind (arith, true≢false)
 
@@ -35,9 +32,12 @@ behind_class k bs n e utf8 = after_run (is_in k) bs n (omega arith) utf8 (class_
 pub before_class : (k : Class) (bs : List ℕ) (n : ℕ) → n ≤ length bs → (n < length bs → is_in k (get_or bs n 0) ≡ true) → IsCharBoundary bs n
 before_class k bs n within passed = grind (arith, cases_lt, IsCharBoundary-before_ascii, class_ascii k (get_or bs n 0), IsCharBoundary-end)
 
--- before the first separator
-pub before_separator : (bs : List ℕ) → IsCharBoundary bs (prefix_len (λ b. not (is_separator b)) bs)
-before_separator bs = before_ascii (λ b. not (is_separator b)) bs (λ c h. separator_ascii c (not_false (is_separator c) h))
+-- before the first byte of a class, and behind it
+pub before_free : (k : Class) (bs : List ℕ) → IsCharBoundary bs (free_len k bs)
+before_free k bs = before_ascii (λ b. not (is_in k b)) bs (λ c h. class_ascii k c (not_false (is_in k c) h))
+
+pub behind_free : (k : Class) (bs : List ℕ) (n : ℕ) → IsUtf8 bs → n < length bs → is_in k (get_or bs n 0) ≡ true → IsCharBoundary bs (n + 1)
+behind_free k bs n utf8 within passed = IsCharBoundary-after_ascii bs n utf8 within (class_ascii k (get_or bs n 0) passed)
 
 -- a byte that is not 0 stands in the text
 pub stands : (bs : List ℕ) (i b : ℕ) → get_or bs i 0 ≡ b → 0 < b → i < length bs

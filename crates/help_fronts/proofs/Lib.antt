@@ -1,3 +1,4 @@
 mod Boundaries
 mod Cuts
 mod Ends
+mod Runs

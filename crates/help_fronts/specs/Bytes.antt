@@ -48,6 +48,10 @@ is_letter b = nat_lt 32 b && not (is_no_letter b)
 abbrev pub is_separator : ℕ → Bool
 is_separator b = is_joint b || is_opening b
 
+-- what parts the words of a usage
+abbrev pub is_usage_mark : ℕ → Bool
+is_usage_mark b = (is_blank b || is_quote b) || (is_joint b || is_bracket b)
+
 -- what is left out before the word for a value, and behind it
 abbrev pub is_lead : ℕ → Bool
 is_lead b = is_joint b || is_opening b
@@ -61,6 +65,8 @@ is_in class.Joint b = is_joint b
 is_in class.Lead b = is_lead b
 is_in class.Tail b = is_tail b
 is_in class.Dot b = is_dot b
+is_in class.Separator b = is_separator b
+is_in class.UsageMark b = is_usage_mark b
 
 -- the byte at a place, and 0, which no line has, behind the end
 abbrev pub first : List ℕ → ℕ
@@ -71,6 +77,10 @@ second text = slice_index text 1
 
 abbrev pub last : List ℕ → ℕ
 last text = slice_index text (length text - 1)
+
+-- how many bytes stand before the first of a class
+abbrev pub free_len : Class → List ℕ → ℕ
+free_len k = prefix_len (λ b. not (is_in k b))
 
 -- a text without the bytes of a class at its front, and at its end
 abbrev pub without_front : Class → List ℕ → List ℕ

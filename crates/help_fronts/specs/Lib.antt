@@ -3,3 +3,4 @@ pub mod Pieces
 pub mod Words
 pub mod Fronts
 pub mod View
+pub mod Usages

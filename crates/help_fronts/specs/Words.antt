@@ -1,9 +1,9 @@
 -- What a word of a line is: a name, a word that joins two names, or what says a value.
 use Rattle.std.specs.Prelude.{ℕ, ◌+◌, ◌==◌, ◌||◌, ◌&&◌, Bool, false, not, List, [], bytes_eq, codes, drop, find, length, map, nat_le, take, if◌then◌else◌, Option, None, Some}
 use Rattle.std.specs.Char.{is_ascii_lowercase, is_ascii_uppercase}
-use Rattle.std.specs.List.{count_by, list_any, prefix_len, slice_index}
+use Rattle.std.specs.List.{count_by, list_any, slice_index}
 use Rattle.help_fronts.specs.declared.bytes.Class.TheVariants as class
-use Rattle.help_fronts.specs.Bytes.{first, is_bracket, is_dash, is_divider, is_letter, is_opening, is_separator, last, second, without_end, without_front}
+use Rattle.help_fronts.specs.Bytes.{first, free_len, is_bracket, is_dash, is_divider, is_letter, is_opening, last, second, without_end, without_front}
 
 -- ---- names: a dash or two, a letter, and all up to a separator, but for dots at the end
 
@@ -20,11 +20,8 @@ is_long w = is_name w && is_dash (second w)
 abbrev pub is_short : List ℕ → Bool
 is_short w = is_name w && length w == 2
 
-abbrev pub letters_len : List ℕ → ℕ
-letters_len = prefix_len (λ b. not (is_separator b))
-
 abbrev pub name_len : List ℕ → ℕ
-name_len w = (dashes w + 1) + letters_len (drop (dashes w + 1) w)
+name_len w = (dashes w + 1) + free_len class.Separator (drop (dashes w + 1) w)
 
 abbrev pub name : List ℕ → List ℕ
 name w = without_end class.Dot (take (name_len w) w)

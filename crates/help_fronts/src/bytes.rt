@@ -11,6 +11,8 @@ pub enum Class {
     Lead,
     Tail,
     Dot,
+    Separator,
+    UsageMark,
 }
 
 impl Class {
@@ -23,6 +25,8 @@ impl Class {
             Class::Lead => is_joint(byte) || is_opening(byte),
             Class::Tail => is_joint(byte) || is_closing(byte) || byte == b'.',
             Class::Dot => byte == b'.',
+            Class::Separator => is_separator(byte),
+            Class::UsageMark => is_usage_mark(byte),
         }
     }
 }
@@ -75,10 +79,16 @@ pub fn is_letter(byte: u8) -> bool
     byte > b' ' && !is_no_letter(byte)
 }
 
-pub fn is_separator(byte: u8) -> bool
+fn is_separator(byte: u8) -> bool
     ensures { result ≡ spec.is_separator byte }
 {
     is_joint(byte) || is_opening(byte)
+}
+
+fn is_usage_mark(byte: u8) -> bool
+    ensures { result ≡ spec.is_usage_mark byte }
+{
+    is_blank(byte) || is_quote(byte) || is_joint(byte) || is_opening(byte) || is_closing(byte)
 }
 
 /// The byte at a place; 0 behind the end.
@@ -102,6 +112,20 @@ fn front_len(bytes: &[u8], class: Class) -> usize
 {
     for (index, byte) in bytes.iter().enumerate() {
         if !class.holds(*byte) {
+            return index;
+        }
+    }
+    bytes.len()
+}
+
+/// How many bytes stand before the first of the class.
+pub fn free_len(bytes: &[u8], class: Class) -> usize
+    ensures exact { result ≡ spec.free_len class bytes.now }
+    ensures within { result ≤ length bytes.now }
+    ensures passed { result < length bytes.now → spec.is_in class (slice_index bytes.now result) ≡ true }
+{
+    for (index, byte) in bytes.iter().enumerate() {
+        if class.holds(*byte) {
             return index;
         }
     }

@@ -3,8 +3,10 @@
 
 mod bytes;
 mod front;
+mod names;
 mod option;
 mod pieces;
 mod words;
 
+pub use names::usage_names;
 pub use option::{OptionFront, option_front};

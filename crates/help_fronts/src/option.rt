@@ -8,8 +8,9 @@ ghost use Rattle.help_fronts.specs.View.{said};
 
 use crate::bytes::{Class, without_front};
 use crate::front::{gap_len, push_words};
+use crate::names::push_name;
 use crate::pieces::{first_piece, word};
-use crate::words::{is_name, is_optional, name, value_text, value_word};
+use crate::words::{is_name, is_optional, value_text, value_word};
 use std::alloc::{AllocError, Allocator, Global};
 
 /// The front of a line that begins with an option.
@@ -37,9 +38,7 @@ fn push_names<'a, A: Allocator>(
         ≡ map (λ n. n.now) names.old.items ++ spec.names (map (λ w. w.now) words.now)) }
 {
     for word in words {
-        if is_name(word) {
-            names.push(name(word))?;
-        }
+        push_name(names, word)?;
     }
     Ok(())
 }

@@ -1,11 +1,11 @@
 //! What a word of a line is: a name, a word that joins two names, or what says a value.
-ghost use Rattle.std.specs.Prelude.{◌≡◌, ◌≤◌, ◌==◌, ◌&&◌, ◌||◌, take, drop, length, true};
+ghost use Rattle.std.specs.Prelude.{◌≡◌, ◌==◌, ◌&&◌, ◌||◌, take, drop, true};
 ghost use Rattle.std.specs.List.{count_by, list_any};
-ghost use Rattle.help_fronts.specs.Bytes.{is_bracket, is_separator};
+ghost use Rattle.help_fronts.specs.Bytes.{is_bracket};
 ghost use Rattle.help_fronts.specs.Words as spec;
 
 use crate::bytes::{
-    Class, byte_at, is_closing, is_divider, is_letter, is_opening, is_separator, last_byte,
+    Class, byte_at, free_len, is_closing, is_divider, is_letter, is_opening, last_byte,
     without_end, without_front,
 };
 
@@ -35,18 +35,6 @@ pub fn is_short(word: &str) -> bool
     is_name(word) && word.len() == 2
 }
 
-fn letters_len(bytes: &[u8]) -> usize
-    ensures exact { result ≡ spec.letters_len bytes.now }
-    ensures within { result ≤ length bytes.now }
-{
-    for (index, byte) in bytes.iter().enumerate() {
-        if is_separator(*byte) {
-            return index;
-        }
-    }
-    bytes.len()
-}
-
 // A word that is a name, cut behind the name.
 fn split_name(word: &str) -> (&str, &str)
     requires { spec.is_name word.now ≡ true }
@@ -54,7 +42,7 @@ fn split_name(word: &str) -> (&str, &str)
     ensures attached { result.1.now ≡ spec.attached word.now }
 {
     let lead = dashes(word) + 1;
-    let letters = letters_len(&word.as_bytes()[lead..]);
+    let letters = free_len(&word.as_bytes()[lead..], Class::Separator);
     word.split_at(lead + letters)
 }
 
