@@ -58,6 +58,9 @@ pub mod line_about;
 // shown_letters
 pub mod letters_of;
 
+// help_fronts
+pub mod option_of;
+
 // web_page
 pub mod note;
 

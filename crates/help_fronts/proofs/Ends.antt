@@ -6,9 +6,10 @@ use Rattle.std.specs.Option.{option_map}
 use Rattle.std.proofs.lemmas.List.{map-append}
 use Rattle.std.specs.Str.{IsCharBoundary, IsUtf8}
 use Rattle.std.proofs.lemmas.Str.{IsCharBoundary-at_seam}
-use Rattle.help_fronts.specs.Pieces.{word}
+use Rattle.help_fronts.specs.Pieces.{pieces, word}
 use Rattle.help_fronts.specs.Words.{value_word}
-use Rattle.help_fronts.specs.Fronts.{first_value, front_said, FrontSaid, gap_len, is_value_optional, names}
+use Rattle.help_fronts.specs.Fronts.{behind_front, belonging, first_value, front_from, front_said, FrontSaid, gap_of, help_of, is_value_optional, names}
+use Rattle.help_fronts.specs.declared.front.Kind.{Kind}
 
 abbrev pub front_of : (text rest : List ℕ) → List ℕ
 front_of text rest = take (length text - length rest) text
@@ -65,9 +66,13 @@ front_len text front rest e = let long : length text ≡ length front + length r
 pub front_ends : (text front rest : List ℕ) → text ≡ front ++ rest → IsUtf8 rest → IsCharBoundary text (length text - length rest)
 front_ends text front rest e utf8 = subst (IsCharBoundary text) (sym (front_len text front rest e)) (IsCharBoundary-at_seam text front rest e utf8)
 
+pub cut_whole : (k : Kind) (text first behind rest before : List ℕ) → before ≡ word first → text ≡ first ++ behind → behind ≡ concat (belonging k before (pieces behind)) ++ rest → text ≡ concat (front_from k first (pieces behind)) ++ rest
+cut_whole k text first behind rest before e whole h =
+    whole_front text first behind rest (belonging k (word first) (pieces behind)) whole (h ∙ ap (λ w. concat (belonging k w (pieces behind)) ++ rest) e)
+
 -- ---- what is said of a front
 
-pub said_is : (front : List (List ℕ)) (text written behind gap help : List ℕ) (ns : List (List ℕ)) (v w : Option (List ℕ)) (o : Bool) → ns ≡ names (map word front) → v ≡ first_value (map word front) → w ≡ option_map value_word v
-    → o ≡ is_value_optional v → written ≡ concat front → behind ≡ drop (length (concat front)) text → gap ≡ take (gap_len behind) behind → help ≡ drop (gap_len behind) behind
-    → (let f : FrontSaid = record { names = ns; value = w; is_optional = o; written = written; gap = gap; help = help } in f) ≡ front_said front (drop (length (concat front)) text)
-said_is front text written behind gap help ns v w o hn hv hw ho hf hb hg hh = cc
+pub said_is : (front : List (List ℕ)) (text written gap help : List ℕ) (ns : List (List ℕ)) (v w : Option (List ℕ)) (o : Bool) → ns ≡ names (map word front) → v ≡ first_value (map word front) → w ≡ option_map value_word v
+    → o ≡ is_value_optional v → written ≡ concat front → gap ≡ gap_of (behind_front front text) → help ≡ help_of (behind_front front text)
+    → (let f : FrontSaid = record { names = ns; value = w; is_optional = o; written = written; gap = gap; help = help } in f) ≡ front_said front (behind_front front text)
+said_is front text written gap help ns v w o hn hv hw ho hf hg hh = cc

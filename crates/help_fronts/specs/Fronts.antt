@@ -1,11 +1,13 @@
--- The front of a line that begins with an option: its names and its value, up to where its help begins.
-use Rattle.std.specs.Prelude.{ℕ, ◌+◌, ◌-◌, ◌==◌, ◌||◌, ◌&&◌, Bool, false, not, List, [], ◌∷◌, ◌++◌, drop, filter, find, flat_map, length, map, nat_le, take, if◌then◌else◌, Option, None, Some}
+-- The front of a line that begins with an option or a command: its names and its value, up to where its help begins.
+use Rattle.std.specs.Prelude.{ℕ, ◌+◌, ◌-◌, ◌==◌, ◌||◌, ◌&&◌, Bool, false, not, List, [], ◌∷◌, ◌++◌, drop, filter, find, flat_map, length, map, nat_le, nat_lt, take, if◌then◌else◌, Option, None, Some}
 use Rattle.std.specs.List.{concat, prefix_len}
 use Rattle.std.specs.Option.{option_map}
 use Rattle.help_fronts.specs.declared.bytes.Class.TheVariants as class
-use Rattle.help_fronts.specs.Bytes.{first, is_blank, last, second, without_front}
+use Rattle.help_fronts.specs.declared.front.Kind.{Kind}
+use Rattle.help_fronts.specs.declared.front.Kind.TheVariants as kind
+use Rattle.help_fronts.specs.Bytes.{first, is_blank, last, second, without_end, without_front}
 use Rattle.help_fronts.specs.Pieces.{first_word, pieces, word}
-use Rattle.help_fronts.specs.Words.{has_form_of_value, is_bare_name, is_joiner, is_long, is_name, is_optional, is_short, leads_on, name, value_text, value_word}
+use Rattle.help_fronts.specs.Words.{bare_word, has_form_of_value, is_command, is_bare_name, is_joiner, is_long, is_name, is_optional, is_short, leads_on, name, value_text, value_word}
 
 -- ---- which words belong to a front
 
@@ -28,28 +30,45 @@ is_value before w next = not (leads_on before) && (has_form_of_value w || (is_ba
 abbrev pub is_other_name : (before w : List ℕ) → Bool
 is_other_name before w = leads_on before || (is_short before && is_long w)
 
-abbrev pub fits : (before w next : List ℕ) → Bool
-fits before w next = if is_name w then is_other_name before w else if is_joiner w then is_name next else is_value before w next
+abbrev pub fits_option : (before w next : List ℕ) → Bool
+fits_option before w next = if is_name w then is_other_name before w else if is_joiner w then is_name next else is_value before w next
+
+-- another name of a command behind what leads on, and else what has the form of a value
+abbrev pub fits_command : (before w : List ℕ) → Bool
+fits_command before w = if leads_on before then is_command (bare_word w) else has_form_of_value w
+
+abbrev pub fits : Kind → (before w next : List ℕ) → Bool
+fits kind.Option before w next = fits_option before w next
+fits kind.Command before w next = fits_command before w
 
 -- whether a word belongs to a front, by the words beside it; none does behind a colon
-abbrev pub belongs : (before w next : List ℕ) → Bool
-belongs before w next = (not (is_gap w) && not (last before == 58)) && fits before w next
+abbrev pub belongs : Kind → (before w next : List ℕ) → Bool
+belongs k before w next = (not (is_gap w) && not (last before == 58)) && fits k before w next
 
 -- the pieces that belong, up to the first that does not
-abbrev pub belonging : (before : List ℕ) → (pieces : List (List ℕ)) → List (List ℕ)
-belonging before [] = []
-belonging before (p ∷ ps) = if belongs before (word p) (first_word ps) then p ∷ belonging (word p) ps else []
+abbrev pub belonging : Kind → (before : List ℕ) → (pieces : List (List ℕ)) → List (List ℕ)
+belonging k before [] = []
+belonging k before (p ∷ ps) = if belongs k before (word p) (first_word ps) then p ∷ belonging k (word p) ps else []
 
 -- a front from its first piece on
-abbrev pub front_from : (piece : List ℕ) → (pieces : List (List ℕ)) → List (List ℕ)
-front_from p ps = p ∷ belonging (word p) ps
+abbrev pub front_from : Kind → (piece : List ℕ) → (pieces : List (List ℕ)) → List (List ℕ)
+front_from k p ps = p ∷ belonging k (word p) ps
 
--- the front of a text that begins with a name
-abbrev pub front : (pieces : List (List ℕ)) → List (List ℕ)
-front [] = []
-front (p ∷ ps) = if is_name (word p) then front_from p ps else []
+-- the first word of a command, without `,` or `:` behind it
+abbrev pub command_name : List ℕ → List ℕ
+command_name w = without_end class.Joint w
 
--- ---- what it says
+-- the word that a front begins with
+abbrev pub begins_front : Kind → List ℕ → Bool
+begins_front kind.Option w = is_name w
+begins_front kind.Command w = is_command (command_name w)
+
+-- the front of a text that begins with one
+abbrev pub front : Kind → (pieces : List (List ℕ)) → List (List ℕ)
+front k [] = []
+front k (p ∷ ps) = if begins_front k (word p) then front_from k p ps else []
+
+-- ---- what the front of an option says
 
 abbrev pub names : (words : List (List ℕ)) → List (List ℕ)
 names words = map name (filter is_name words)
@@ -83,23 +102,78 @@ pub record FrontSaid : Type 0 where
   pub gap : List ℕ
   pub help : List ℕ
 
+-- what stands behind a front: the gap, and then the help
+abbrev pub behind_front : (front : List (List ℕ)) → (text : List ℕ) → List ℕ
+behind_front front text = drop (length (concat front)) text
+
+abbrev pub gap_of : (behind : List ℕ) → List ℕ
+gap_of behind = take (gap_len behind) behind
+
+abbrev pub help_of : (behind : List ℕ) → List ℕ
+help_of behind = drop (gap_len behind) behind
+
 abbrev pub front_said : (front : List (List ℕ)) → (behind : List ℕ) → FrontSaid
 front_said front behind = record {
   names = names (map word front);
   value = option_map value_word (first_value (map word front));
   is_optional = is_value_optional (first_value (map word front));
   written = concat front;
-  gap = take (gap_len behind) behind;
-  help = drop (gap_len behind) behind;
+  gap = gap_of behind;
+  help = help_of behind;
 }
 
 abbrev pub front_in : (front : List (List ℕ)) → (text : List ℕ) → Option FrontSaid
 front_in [] text = None
-front_in (p ∷ ps) text = Some (front_said (p ∷ ps) (drop (length (concat (p ∷ ps))) text))
+front_in (p ∷ ps) text = Some (front_said (p ∷ ps) (behind_front (p ∷ ps) text))
 
 abbrev pub without_indent : List ℕ → List ℕ
 without_indent line = without_front class.Blank line
 
 -- what the front of a line says, if it begins with an option
 abbrev pub option_front : (line : List ℕ) → Option FrontSaid
-option_front line = front_in (front (pieces (without_indent line))) (without_indent line)
+option_front line = front_in (front kind.Option (pieces (without_indent line))) (without_indent line)
+
+-- ---- the front of a command
+
+-- in parentheses, or not of the form of a value
+abbrev pub is_alias : List ℕ → Bool
+is_alias w = is_command (bare_word w) && (first w == 40 || not (has_form_of_value w))
+
+abbrev pub other_names : (words : List (List ℕ)) → List (List ℕ)
+other_names words = map bare_word (filter is_alias words)
+
+-- behind the first word
+abbrev pub aliases : (words : List (List ℕ)) → List (List ℕ)
+aliases [] = []
+aliases (w ∷ ws) = other_names ws
+
+-- a front that its line ends with, or that a colon, a tabulator or more than a blank parts from what follows
+abbrev pub is_parted : (written gap help : List ℕ) → Bool
+is_parted written gap help = (last written == 58 || length help == 0) || (first gap == 9 || nat_lt 1 (length gap))
+
+pub record CommandSaid : Type 0 where
+  pub name : List ℕ
+  pub aliases : List (List ℕ)
+  pub written : List ℕ
+  pub gap : List ℕ
+  pub help : List ℕ
+
+abbrev pub command_said : (front : List (List ℕ)) → (behind : List ℕ) → CommandSaid
+command_said front behind = record {
+  name = command_name (first_word front);
+  aliases = aliases (map word front);
+  written = concat front;
+  gap = gap_of behind;
+  help = help_of behind;
+}
+
+abbrev pub if_parted : CommandSaid → Option CommandSaid
+if_parted c = if is_parted c.written c.gap c.help then Some c else None
+
+abbrev pub command_in : (front : List (List ℕ)) → (text : List ℕ) → Option CommandSaid
+command_in [] text = None
+command_in (p ∷ ps) text = if_parted (command_said (p ∷ ps) (behind_front (p ∷ ps) text))
+
+-- what the front of a line says, if it begins with a command
+abbrev pub command_front : (line : List ℕ) → Option CommandSaid
+command_front line = command_in (front kind.Command (pieces (without_indent line))) (without_indent line)

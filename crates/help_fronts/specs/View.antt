@@ -2,13 +2,23 @@
 use Rattle.std.specs.Prelude.{map}
 use Rattle.std.specs.Option.{option_map}
 use Rattle.help_fronts.specs.declared.option.OptionFront.{OptionFront}
-use Rattle.help_fronts.specs.Fronts.{FrontSaid}
+use Rattle.help_fronts.specs.declared.command.CommandFront.{CommandFront}
+use Rattle.help_fronts.specs.Fronts.{CommandSaid, FrontSaid}
 
 abbrev pub said : {A : Type 0} → OptionFront A → FrontSaid
 said f = record {
   names = map (λ n. n.now) f.names.items;
   value = option_map (λ v. v.now) f.value;
   is_optional = f.is_optional;
+  written = f.written.now;
+  gap = f.gap.now;
+  help = f.help.now;
+}
+
+abbrev pub command_said : {A : Type 0} → CommandFront A → CommandSaid
+command_said f = record {
+  name = f.name.now;
+  aliases = map (λ n. n.now) f.aliases.items;
   written = f.written.now;
   gap = f.gap.now;
   help = f.help.now;

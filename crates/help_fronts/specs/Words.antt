@@ -1,7 +1,7 @@
 -- What a word of a line is: a name, a word that joins two names, or what says a value.
 use Rattle.std.specs.Prelude.{ℕ, ◌+◌, ◌==◌, ◌||◌, ◌&&◌, Bool, false, not, List, [], bytes_eq, codes, drop, find, length, map, nat_le, take, if◌then◌else◌, Option, None, Some}
-use Rattle.std.specs.Char.{is_ascii_lowercase, is_ascii_uppercase}
-use Rattle.std.specs.List.{count_by, list_any, slice_index}
+use Rattle.std.specs.Char.{is_ascii_alphanumeric, is_ascii_lowercase, is_ascii_uppercase}
+use Rattle.std.specs.List.{count_by, list_all, list_any, slice_index}
 use Rattle.help_fronts.specs.declared.bytes.Class.TheVariants as class
 use Rattle.help_fronts.specs.Bytes.{first, free_len, is_bracket, is_dash, is_divider, is_letter, is_opening, last, second, without_end, without_front}
 
@@ -39,6 +39,19 @@ is_joiner w = bytes_eq w (codes "|") || (bytes_eq w (codes "or") || bytes_eq w (
 -- another name has to follow
 abbrev pub leads_on : List ℕ → Bool
 leads_on w = is_joiner w || is_divider (last w)
+
+-- ---- commands
+
+-- an ASCII letter or digit, or a byte of another letter
+abbrev pub is_command_start : ℕ → Bool
+is_command_start b = is_ascii_alphanumeric b || nat_le 128 b
+
+-- those, `-` `_` `.` `+` `:`
+abbrev pub is_command_byte : ℕ → Bool
+is_command_byte b = is_command_start b || ((b == 45 || b == 95) || (b == 46 || (b == 43 || b == 58)))
+
+abbrev pub is_command : List ℕ → Bool
+is_command w = is_command_start (first w) && list_all is_command_byte w
 
 -- ---- values
 

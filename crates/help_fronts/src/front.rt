@@ -4,12 +4,27 @@ ghost use Rattle.std.specs.List.{concat};
 ghost use Rattle.help_fronts.specs.Pieces.{pieces, word};
 ghost use Rattle.help_fronts.specs.Fronts as spec;
 
-use crate::bytes::{byte_at, is_blank, last_byte};
+use crate::bytes::{Class, byte_at, is_blank, last_byte, without_end};
 use crate::pieces::{first_piece, first_word, word};
 use crate::words::{
-    has_form_of_value, is_bare_name, is_joiner, is_long, is_name, is_short, leads_on,
+    bare_word,
+    has_form_of_value,
+    is_bare_name,
+    is_command,
+    is_joiner,
+    is_long,
+    is_name,
+    is_short,
+    leads_on,
 };
 use std::alloc::{AllocError, Allocator};
+
+/// What a line begins with.
+#[derive(Clone, Copy)]
+pub enum Kind {
+    Option,
+    Command,
+}
 
 fn is_mark(byte: u8) -> bool
     ensures { result ≡ spec.is_mark byte }
@@ -46,9 +61,8 @@ fn is_other_name(before: &str, word: &str) -> bool
     leads_on(before) || (is_short(before) && is_long(word))
 }
 
-// Whether a word fits between those beside it.
-fn fits(before: &str, word: &str, next: &str) -> bool
-    ensures { result ≡ spec.fits before.now word.now next.now }
+fn fits_option(before: &str, word: &str, next: &str) -> bool
+    ensures { result ≡ spec.fits_option before.now word.now next.now }
 {
     if is_name(word) {
         is_other_name(before, word)
@@ -59,40 +73,61 @@ fn fits(before: &str, word: &str, next: &str) -> bool
     }
 }
 
-fn belongs(before: &str, word: &str, next: &str) -> bool
-    ensures { result ≡ spec.belongs before.now word.now next.now }
+fn fits_command(before: &str, word: &str) -> bool
+    ensures { result ≡ spec.fits_command before.now word.now }
 {
-    !is_gap(word) && last_byte(before) != b':' && fits(before, word, next)
+    if leads_on(before) {
+        is_command(bare_word(word))
+    } else {
+        has_form_of_value(word)
+    }
+}
+
+// Whether a word fits between those beside it.
+fn fits(kind: Kind, before: &str, word: &str, next: &str) -> bool
+    ensures { result ≡ spec.fits kind before.now word.now next.now }
+{
+    match kind {
+        Kind::Option => fits_option(before, word, next),
+        Kind::Command => fits_command(before, word),
+    }
+}
+
+fn belongs(kind: Kind, before: &str, word: &str, next: &str) -> bool
+    ensures { result ≡ spec.belongs kind before.now word.now next.now }
+{
+    !is_gap(word) && last_byte(before) != b':' && fits(kind, before, word, next)
 }
 
 // The first piece, if it belongs to the front, and what stands behind it.
-fn next_piece<'a>(before: &str, rest: &'a str) -> Option<(&'a str, &'a str)>
-    ensures belonging { MatchOption result (spec.belonging before.now (pieces rest.now) ≡ [])
-        (λ p. spec.belonging before.now (pieces rest.now) ≡ p.0.now ∷ spec.belonging (word p.0.now) (pieces p.1.now)) }
+fn next_piece<'a>(kind: Kind, before: &str, rest: &'a str) -> Option<(&'a str, &'a str)>
+    ensures belonging { MatchOption result (spec.belonging kind before.now (pieces rest.now) ≡ [])
+        (λ p. spec.belonging kind before.now (pieces rest.now) ≡ p.0.now ∷ spec.belonging kind (word p.0.now) (pieces p.1.now)) }
     ensures whole { IfSome result (λ p. rest.now ≡ p.0.now ++ p.1.now) }
     ensures shorter { IfSome result (λ p. length p.1.now < length rest.now) }
 {
     let (piece, behind) = first_piece(rest)?;
-    if belongs(before, word(piece), first_word(behind)) {
+    if belongs(kind, before, word(piece), first_word(behind)) {
         Some((piece, behind))
     } else {
         None
     }
 }
 
-/// Puts the words that belong to a front behind others, the last of which is `before`. What stands behind them.
-pub fn push_words<'a, A: Allocator>(
+// Puts the words that belong to a front behind others, the last of which is `before`. What stands behind them.
+fn push_words<'a, A: Allocator>(
+    kind: Kind,
     words: &mut Vec<&'a str, A>,
     before: &'a str,
     behind: &'a str,
 ) -> Result<&'a str, AllocError>
     ensures words { OnOk result (map (λ w. w.now) words.new.items
-        ≡ map (λ w. w.now) words.old.items ++ map word (spec.belonging before.now (pieces behind.now))) }
-    ensures rest { IfOk result (λ rest. behind.now ≡ concat (spec.belonging before.now (pieces behind.now)) ++ rest.now) }
+        ≡ map (λ w. w.now) words.old.items ++ map word (spec.belonging kind before.now (pieces behind.now))) }
+    ensures rest { IfOk result (λ rest. behind.now ≡ concat (spec.belonging kind before.now (pieces behind.now)) ++ rest.now) }
 {
     let mut last = before;
     let mut rest = behind;
-    while let Some((piece, others)) = next_piece(last, rest) {
+    while let Some((piece, others)) = next_piece(kind, last, rest) {
         last = word(piece);
         words.push(last)?;
         rest = others;
@@ -100,8 +135,8 @@ pub fn push_words<'a, A: Allocator>(
     Ok(rest)
 }
 
-/// How many bytes the gap before a help has.
-pub fn gap_len(text: &str) -> usize
+// How many bytes the gap before a help has.
+fn gap_len(text: &str) -> usize
     ensures { result ≡ spec.gap_len text.now }
 {
     let mut len = 0;
@@ -116,4 +151,71 @@ fn is_in_gap(byte: u8, next: u8) -> bool
     ensures { result ≡ spec.is_in_gap byte next }
 {
     is_blank(byte) || (is_mark(byte) && next <= b' ')
+}
+
+/// The name of a command: the first word, without `,` or `:` behind it.
+pub fn command_name(word: &str) -> &str
+    ensures { result.now ≡ spec.command_name word.now }
+{
+    without_end(word, Class::Joint)
+}
+
+fn begins_front(kind: Kind, word: &str) -> bool
+    ensures { result ≡ spec.begins_front kind word.now }
+{
+    match kind {
+        Kind::Option => is_name(word),
+        Kind::Command => is_command(command_name(word)),
+    }
+}
+
+/// The first piece of a text that begins with such a front, and what stands behind it.
+pub fn first_of_front(kind: Kind, text: &str) -> Option<(&str, &str)>
+    ensures front { MatchOption result (spec.front kind (pieces text.now) ≡ [])
+        (λ p. spec.front kind (pieces text.now) ≡ spec.front_from kind p.0.now (pieces p.1.now)) }
+    ensures whole { IfSome result (λ p. text.now ≡ p.0.now ++ p.1.now) }
+{
+    let (first, behind) = first_piece(text)?;
+    if begins_front(kind, word(first)) {
+        Some((first, behind))
+    } else {
+        None
+    }
+}
+
+/// A text, cut behind its front, with the words of the front.
+#[derive(Drop)]
+pub struct Cut<'a, A: Allocator> {
+    pub words: Vec<&'a str, A>,
+    pub written: &'a str,
+    pub gap: &'a str,
+    pub help: &'a str,
+}
+
+/// Cuts a text, of which the first piece of the front is known.
+pub fn cut_front<'a, A: Allocator + Copy>(
+    alloc: A,
+    kind: Kind,
+    text: &'a str,
+    first: &'a str,
+    behind: &'a str,
+) -> Result<Cut<'a, A>, AllocError>
+    requires { text.now ≡ first.now ++ behind.now }
+    ensures words { IfOk result (λ c. map (λ w. w.now) c.words.items ≡ map word (spec.front_from kind first.now (pieces behind.now))) }
+    ensures written { IfOk result (λ c. c.written.now ≡ concat (spec.front_from kind first.now (pieces behind.now))) }
+    ensures gap { IfOk result (λ c. c.gap.now ≡ spec.gap_of (spec.behind_front (spec.front_from kind first.now (pieces behind.now)) text.now)) }
+    ensures help { IfOk result (λ c. c.help.now ≡ spec.help_of (spec.behind_front (spec.front_from kind first.now (pieces behind.now)) text.now)) }
+    ensures whole { IfOk result (λ c. text.now ≡ (c.written.now ++ c.gap.now) ++ c.help.now) }
+{
+    let mut words = Vec::new(alloc);
+    words.push(word(first))?;
+    let rest = push_words(kind, &mut words, word(first), behind)?;
+    let (written, rest) = text.split_at(text.len() - rest.len());
+    let (gap, help) = rest.split_at(gap_len(rest));
+    Ok(Cut {
+        words,
+        written,
+        gap,
+        help,
+    })
 }

@@ -1,12 +1,14 @@
-//! What the front of one line of a help text says: the names of an option, its value, and where its help begins.
+//! What the front of one line of a help text says: the names of an option or a command, the value, and where the help begins.
 #![tactic(auto)]
 
 mod bytes;
+mod command;
 mod front;
 mod names;
 mod option;
 mod pieces;
 mod words;
 
+pub use command::{CommandFront, command_front};
 pub use names::usage_names;
 pub use option::{OptionFront, option_front};

@@ -3,14 +3,14 @@ ghost use Rattle.std.specs.Prelude.{◌≡◌, ◌++◌, [], map, IfOk, IfSome, 
 ghost use Rattle.std.specs.Option.{option_map};
 ghost use Rattle.help_fronts.specs.Pieces.{pieces};
 ghost use Rattle.help_fronts.specs.Words as words;
+ghost use Rattle.help_fronts.specs.declared.front.Kind.TheVariants as kind;
 ghost use Rattle.help_fronts.specs.Fronts as spec;
 ghost use Rattle.help_fronts.specs.View.{said};
 
 use crate::bytes::{Class, without_front};
-use crate::front::{gap_len, push_words};
+use crate::front::{Kind, cut_front, first_of_front};
 use crate::names::push_name;
-use crate::pieces::{first_piece, word};
-use crate::words::{is_name, is_optional, value_text, value_word};
+use crate::words::{is_optional, value_text, value_word};
 use std::alloc::{AllocError, Allocator, Global};
 
 /// The front of a line that begins with an option.
@@ -73,20 +73,6 @@ fn word_of_value(value: Option<&str>) -> Option<&str>
     }
 }
 
-// The first piece of a text that begins with a name, and what stands behind it.
-fn first_name(text: &str) -> Option<(&str, &str)>
-    ensures front { MatchOption result (spec.front (pieces text.now) ≡ [])
-        (λ p. spec.front (pieces text.now) ≡ spec.front_from p.0.now (pieces p.1.now)) }
-    ensures whole { IfSome result (λ p. text.now ≡ p.0.now ++ p.1.now) }
-{
-    let (first, behind) = first_piece(text)?;
-    if is_name(word(first)) {
-        Some((first, behind))
-    } else {
-        None
-    }
-}
-
 // What a text says that begins with the piece of a name.
 fn read_front<'a, A: Allocator + Copy>(
     alloc: A,
@@ -95,24 +81,20 @@ fn read_front<'a, A: Allocator + Copy>(
     behind: &'a str,
 ) -> Result<OptionFront<'a, A>, AllocError>
     requires { text.now ≡ first.now ++ behind.now }
-    ensures exact { IfOk result (λ f. Some (said f) ≡ spec.front_in (spec.front_from first.now (pieces behind.now)) text.now) }
+    ensures exact { IfOk result (λ f. Some (said f) ≡ spec.front_in (spec.front_from kind.Option first.now (pieces behind.now)) text.now) }
     ensures whole { IfOk result (λ f. text.now ≡ (f.written.now ++ f.gap.now) ++ f.help.now) }
 {
-    let mut words = Vec::new(alloc);
-    words.push(word(first))?;
-    let rest = push_words(&mut words, word(first), behind)?;
+    let cut = cut_front(alloc, Kind::Option, text, first, behind)?;
     let mut names = Vec::new(alloc);
-    push_names(&mut names, &words)?;
-    let value = first_value(&words);
-    let (written, rest) = text.split_at(text.len() - rest.len());
-    let (gap, help) = rest.split_at(gap_len(rest));
+    push_names(&mut names, &cut.words)?;
+    let value = first_value(&cut.words);
     Ok(OptionFront {
         names,
         value: word_of_value(value),
         is_optional: is_value_optional(value),
-        written,
-        gap,
-        help,
+        written: cut.written,
+        gap: cut.gap,
+        help: cut.help,
     })
 }
 
@@ -130,7 +112,7 @@ pub fn option_front<'a, A: Allocator + Copy>(
         (λ f. spec.without_indent line.now ≡ (f.written.now ++ f.gap.now) ++ f.help.now)) }
 {
     let text = without_front(line, Class::Blank);
-    match first_name(text) {
+    match first_of_front(Kind::Option, text) {
         None => Ok(None),
         Some((first, behind)) => Ok(Some(read_front(alloc, text, first, behind)?)),
     }

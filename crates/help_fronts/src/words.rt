@@ -1,6 +1,6 @@
 //! What a word of a line is: a name, a word that joins two names, or what says a value.
 ghost use Rattle.std.specs.Prelude.{◌≡◌, ◌==◌, ◌&&◌, ◌||◌, take, drop, true};
-ghost use Rattle.std.specs.List.{count_by, list_any};
+ghost use Rattle.std.specs.List.{count_by, list_all, list_any};
 ghost use Rattle.help_fronts.specs.Bytes.{is_bracket};
 ghost use Rattle.help_fronts.specs.Words as spec;
 
@@ -76,6 +76,37 @@ pub fn leads_on(word: &str) -> bool
     is_joiner(word) || is_divider(last_byte(word))
 }
 
+// ---- commands
+
+fn is_command_start(byte: u8) -> bool
+    ensures { result ≡ spec.is_command_start byte }
+{
+    byte.is_ascii_alphanumeric() || byte >= 128
+}
+
+fn is_command_byte(byte: u8) -> bool
+    ensures { result ≡ spec.is_command_byte byte }
+{
+    is_command_start(byte)
+        || byte == b'-'
+        || byte == b'_'
+        || byte == b'.'
+        || byte == b'+'
+        || byte == b':'
+}
+
+fn has_command_bytes(text: &str) -> bool
+    ensures { result ≡ list_all spec.is_command_byte text.now }
+{
+    text.as_bytes().iter().all(|byte| is_command_byte(*byte))
+}
+
+pub fn is_command(word: &str) -> bool
+    ensures { result ≡ spec.is_command word.now }
+{
+    is_command_start(byte_at(word, 0)) && has_command_bytes(word)
+}
+
 // ---- values
 
 fn without_joints(text: &str) -> &str
@@ -105,11 +136,18 @@ fn has_bracket(text: &str) -> bool
         .any(|byte| is_opening(*byte) || is_closing(*byte))
 }
 
+/// A word without brackets, joints and dots at its ends.
+pub fn bare_word(text: &str) -> &str
+    ensures { result.now ≡ spec.bare_word text.now }
+{
+    without_end(without_front(text, Class::Lead), Class::Tail)
+}
+
 /// The word for a value, of what is said of it.
 pub fn value_word(text: &str) -> &str
     ensures { result.now ≡ spec.value_word text.now }
 {
-    let bare = without_end(without_front(text, Class::Lead), Class::Tail);
+    let bare = bare_word(text);
     if has_bracket(bare) { text } else { bare }
 }
 

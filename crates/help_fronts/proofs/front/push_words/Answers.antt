@@ -10,7 +10,7 @@ loop-piece-init g c = record {
   last_utf8 = search rules;
   rest_utf8 = search rules;
   is_end = whole_end c.args.behind.now;
-  written = sym (ap (λ f. f ++ concat (belonging c.args.before.now (pieces c.args.behind.now))) (front_whole c.args.behind.now));
+  written = sym (ap (λ f. f ++ concat (belonging c.args.kind c.args.before.now (pieces c.args.behind.now))) (front_whole c.args.behind.now));
   words = refl;
 }
 
@@ -18,8 +18,8 @@ pub loop-piece-preserved : goal.loop-piece-preserved
 loop-piece-preserved g c =
     let piece = c.in-Some.piece.now in
     let others = c.in-Some.others.now in
-    let first : belonging c.loop-piece.last.now (pieces c.loop-piece.rest.now) ≡ piece ∷ belonging c.word-last.result.now (pieces others) =
-    c.in-Some.ensures.belonging ∙ ap (λ w. piece ∷ belonging w (pieces others)) (sym c.word-last.ensures) in
+    let first : belonging c.args.kind c.loop-piece.last.now (pieces c.loop-piece.rest.now) ≡ piece ∷ belonging c.args.kind c.word-last.result.now (pieces others) =
+    c.in-Some.ensures.belonging ∙ ap (λ w. piece ∷ belonging c.args.kind w (pieces others)) (sym c.word-last.ensures) in
     record {
       last_utf8 = search rules;
       rest_utf8 = search rules;

@@ -1,0 +1,203 @@
+//! What the front of a line says: each row is a line, and what is read of it.
+use bumpalo::Bump;
+use help_fronts::{CommandFront, OptionFront, command_front, option_front, usage_names};
+use std::alloc::{AllocError, Allocator, Global};
+use std::process::Abort;
+
+// A line; its names with a blank between two, its value and whether that is optional, the gap, and the help.
+const OPTIONS: [(&str, &str, &str, bool, &str, &str); 29] = [
+    ("  -o, --output=FILE   write it", "-o --output", "FILE", false, "   ", "write it"),
+    ("-f FILE, --file FILE  x", "-f --file", "FILE", false, "  ", "x"),
+    ("--verbose, -v         more", "--verbose -v", "", false, "         ", "more"),
+    ("--alt-svc <file name> Use it", "--alt-svc", "file name", false, " ", "Use it"),
+    ("-c cmd : program text", "-c", "cmd", false, " : ", "program text"),
+    ("-E     : ignore names", "-E", "", false, "     : ", "ignore names"),
+    ("--pycs always|never:", "--pycs", "always|never", false, "", ""),
+    ("-0 ... -9           preset", "-0 -9", "", false, "           ", "preset"),
+    ("--color[=WHEN]\tcolours", "--color", "WHEN", true, "\t", "colours"),
+    ("-j [N], --jobs[=N]   jobs", "-j --jobs", "N", true, "   ", "jobs"),
+    ("--level {go,stop}", "--level", "go,stop", false, "", ""),
+    ("-Wl,<options>  x", "-Wl", "options", false, "  ", "x"),
+    ("-std=<standard>  x", "-std", "standard", false, "  ", "x"),
+    ("--bytes=[-]NUM  x", "--bytes", "[-]NUM", false, "  ", "x"),
+    ("-v, --verbose...  more", "-v --verbose", "", false, "  ", "more"),
+    ("--config string   a file", "--config", "string", false, "   ", "a file"),
+    ("--keys k [k ...]  some", "--keys", "k", false, "  ", "some"),
+    ("--set A B  two", "--set", "A", false, "  ", "two"),
+    ("-h --help     this", "-h --help", "", false, "     ", "this"),
+    ("-i|--install  x", "-i --install", "", false, "  ", "x"),
+    ("-v | --version  x", "-v --version", "", false, "  ", "x"),
+    ("-a,--all  x", "-a --all", "", false, "  ", "x"),
+    ("-q, --[no-]quiet  x", "-q --[no-]quiet", "", false, "  ", "x"),
+    ("-#, --bar  x", "-# --bar", "", false, "  ", "x"),
+    ("-:, --next  x", "-: --next", "", false, "  ", "x"),
+    ("-mount -noleaf -xdev", "-mount", "", false, " ", "-noleaf -xdev"),
+    ("--name PATTERN -newer FILE", "--name", "PATTERN", false, " ", "-newer FILE"),
+    ("--foo: does foo", "--foo", "", false, " ", "does foo"),
+    ("-é, --größe=MASS  é", "-é --größe", "MASS", false, "  ", "é"),
+];
+
+const NO_OPTIONS: [&str; 11] = [
+    "", " ", "text", "-", "--", "---", "- item", "-- text", "->", "-'s", "a -b",
+];
+
+fn is_option(rt: &impl Abort, out: Global, row: (&str, &str, &str, bool, &str, &str)) -> bool {
+    let (line, names, value, is_optional, gap, help) = row;
+    match option_front(out, line).expect(rt, "an option") {
+        None => false,
+        Some(front) => {
+            front.names.iter().copied().eq(names.split(' '))
+                && front.value.unwrap_or("") == value
+                && front.is_optional == is_optional
+                && front.gap == gap
+                && front.help == help
+        }
+    }
+}
+
+#[test]
+fn options_are_read(rt: HostRuntime) {
+    for row in OPTIONS {
+        assert!(rt; is_option(&rt, rt.alloc(), row));
+    }
+}
+
+#[test]
+fn other_lines_have_no_options(rt: HostRuntime) {
+    for line in NO_OPTIONS {
+        assert!(rt; option_front(rt.alloc(), line).expect(&rt, "no option").is_none());
+    }
+}
+
+// A line; the name of the command, its other names with a blank behind each, and the help.
+const COMMANDS: [(&str, &str, &str, &str); 8] = [
+    ("    clone    Clone a repository", "clone", "", "Clone a repository"),
+    ("  build, b   Compile it", "build", "b ", "Compile it"),
+    ("  go (g)     run", "go", "g ", "run"),
+    ("list - list packages", "list", "", "list packages"),
+    ("auth:  Log in", "auth", "", "Log in"),
+    ("list-units [PATTERN...]   List units", "list-units", "", "List units"),
+    ("run NAME\tRun it", "run", "", "Run it"),
+    ("stop", "stop", "", ""),
+];
+
+const NO_COMMANDS: [&str; 6] = ["", "-v  more", "two words", "<file>  x", "...  more", "add one  x"];
+
+fn is_command(rt: &impl Abort, out: Global, row: (&str, &str, &str, &str)) -> bool {
+    let (line, name, aliases, help) = row;
+    match command_front(out, line).expect(rt, "a command") {
+        None => false,
+        Some(front) => front.name == name && are_behind(&front.aliases, aliases) && front.help == help,
+    }
+}
+
+// Whether a text is some words with a blank behind each.
+fn are_behind(words: &[&str], text: &str) -> bool {
+    let mut rest = text;
+    for word in words {
+        match rest.split_once(' ') {
+            Some((front, behind)) if front == *word => rest = behind,
+            _ => return false,
+        }
+    }
+    rest.is_empty()
+}
+
+#[test]
+fn commands_are_read(rt: HostRuntime) {
+    for row in COMMANDS {
+        assert!(rt; is_command(&rt, rt.alloc(), row));
+    }
+}
+
+#[test]
+fn other_lines_have_no_commands(rt: HostRuntime) {
+    for line in NO_COMMANDS {
+        assert!(rt; command_front(rt.alloc(), line).expect(&rt, "no command").is_none());
+    }
+}
+
+// A line of a usage, and its names with a blank behind each.
+const USAGES: [(&str, &str); 5] = [
+    ("usage: ssh [-46Aa] [-B bind_interface]", "-46Aa -B "),
+    ("git [-v | --version] [-C <path>] [--exec-path[=<path>]]", "-v --version -C --exec-path "),
+    ("prog [-h] [--foo FOO] file [file ...]", "-h --foo "),
+    ("[-p|--paginate|-P] '-x' {-a,-b}", "-p --paginate -P -x -a -b "),
+    ("prog a-b --", ""),
+];
+
+fn is_usage(rt: &impl Abort, out: Global, row: (&str, &str)) -> bool {
+    let (line, names) = row;
+    are_behind(&usage_names(out, line).expect(rt, "names"), names)
+}
+
+#[test]
+fn names_of_usages_are_read(rt: HostRuntime) {
+    for row in USAGES {
+        assert!(rt; is_usage(&rt, rt.alloc(), row));
+    }
+}
+
+// How many bytes an arena has: more than any call here takes.
+const BYTES: usize = 4096;
+
+#[derive(Clone, Copy)]
+enum Call {
+    Option,
+    Command,
+    Usage,
+}
+
+impl Call {
+    // Whether what is made is what is wanted.
+    fn is_made<A: Allocator + Copy>(self, alloc: A) -> Result<bool, AllocError> {
+        match self {
+            Call::Option => Ok(has_option(option_front(alloc, "-a, -b, -c, -d, -e, -f X  help")?)),
+            Call::Command => Ok(has_command(command_front(alloc, "a, b, c, d, e, f  help")?)),
+            Call::Usage => Ok(usage_names(alloc, "[-a] [-b] [-c] [-d] [-e] [-f]")?.len() == 6),
+        }
+    }
+}
+
+fn has_option<A: Allocator>(front: Option<OptionFront<'_, A>>) -> bool {
+    match front {
+        None => false,
+        Some(front) => front.names.len() == 6 && front.value == Some("X"),
+    }
+}
+
+fn has_command<A: Allocator>(front: Option<CommandFront<'_, A>>) -> bool {
+    match front {
+        None => false,
+        Some(front) => front.name == "a" && front.aliases.len() == 5,
+    }
+}
+
+// Whether it is there in so much room. None where a growth is refused.
+fn is_made_in(rt: &impl Abort, out: Global, call: Call, room: usize) -> Option<bool> {
+    let arena = Bump::try_with_capacity(out, BYTES).expect(rt, "an arena");
+    arena.set_allocation_limit(Some(0));
+    let taken = arena.chunk_capacity().saturating_sub(room);
+    let _rest: Vec<u8, &Bump> = Vec::with_capacity(&arena, taken).expect(
+        rt,
+        "the rest of an arena",
+    );
+    call.is_made(&arena).ok()
+}
+
+// Whether it is there in some room, and not before with less of it.
+fn is_made_with_more(rt: &impl Abort, out: Global, call: Call) -> bool {
+    for room in 0..BYTES {
+        if let Some(is_that) = is_made_in(rt, out, call, room) {
+            return is_that && room > 0;
+        }
+    }
+    false
+}
+
+#[test]
+fn fronts_are_made_with_more_room(rt: HostRuntime) {
+    assert!(rt; is_made_with_more(&rt, rt.alloc(), Call::Option));
+    assert!(rt; is_made_with_more(&rt, rt.alloc(), Call::Command));
+    assert!(rt; is_made_with_more(&rt, rt.alloc(), Call::Usage));
+}
