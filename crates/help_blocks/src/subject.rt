@@ -1,0 +1,35 @@
+//! What a title says of the lines below it.
+
+ghost use Rattle.std.specs.Prelude.{◌≡◌};
+ghost use Rattle.help_blocks.specs.Looks as looks;
+
+use crate::scan::has_word;
+
+/// What stands below a title, by its words: `Unsaid` if none of them tells.
+#[derive(Clone, Copy)]
+pub enum Subject {
+    Commands,
+    Values,
+    Examples,
+    Options,
+    Unsaid,
+}
+
+impl Subject {
+    /// The subject of a title.
+    pub fn of(title: &[u8]) -> Self
+        ensures { result ≡ looks.subject_of title.now }
+    {
+        if has_word(title, b"command") {
+            Subject::Commands
+        } else if has_word(title, b"argument") || has_word(title, b"args") {
+            Subject::Values
+        } else if has_word(title, b"example") {
+            Subject::Examples
+        } else if has_word(title, b"option") || has_word(title, b"flag") {
+            Subject::Options
+        } else {
+            Subject::Unsaid
+        }
+    }
+}
