@@ -4,3 +4,4 @@ pub mod Above
 pub mod Rules
 pub mod Blocks
 pub mod Steps
+pub mod Laws

@@ -6,6 +6,7 @@ ghost use Rattle.help_blocks.specs.Shapes.{first_shape};
 ghost use Rattle.help_blocks.specs.Blocks.{FollowOn, lines_of, start_of, starts};
 
 mod cut;
+pub mod laws;
 mod place;
 mod rules;
 mod scan;

@@ -1,0 +1,14 @@
+-- Laws of the rules.
+use Rattle.std.specs.Prelude.{◌≡◌, ◌<◌, Bool, true, List, [], Option, Some, None, ◌⊎◌}
+use Rattle.help_blocks.specs.declared.shape.Shape.{Shape}
+use Rattle.help_blocks.specs.declared.place.Open.{Open}
+use Rattle.help_blocks.specs.Above.{Line, open_block, place_of}
+use Rattle.help_blocks.specs.Rules.{begun, is_entry}
+
+-- a line that goes on with an entry is empty, or indented deeper than the entry's first line
+abbrev pub HelpIsDeeper : Type 0
+HelpIsDeeper = (above : List Line) (entry : Open) (here next : Shape) → open_block above ≡ Some entry → is_entry entry.kind ≡ true
+    → begun (place_of above) here next ≡ None → (here.is_empty ≡ true) ⊎ (entry.indent < here.indent)
+
+abbrev pub FirstLinesBegin : Type 0
+FirstLinesBegin = (here next : Shape) → begun (place_of []) here next ≡ None → ⊥

@@ -1,0 +1,15 @@
+//! Laws of the rules: nothing to call, but statements that the check proves.
+
+ghost use Rattle.help_blocks.specs.Laws.{FirstLinesBegin, HelpIsDeeper};
+
+/// What goes on with an entry is its help: each of these lines is empty, or indented deeper than the entry's first line.
+#[tactic(auto, using(crate::proofs::Deeper::help_is_deeper))]
+pub fn help_is_deeper()
+    ensures { HelpIsDeeper }
+{}
+
+/// A line that has no other above it begins a block.
+#[tactic(auto, using(crate::proofs::Deeper::first_lines_begin))]
+pub fn first_lines_begin()
+    ensures { FirstLinesBegin }
+{}
