@@ -52,6 +52,21 @@ abbrev pub is_in_list : Option Open → Bool
 is_in_list None = false
 is_in_list (Some o) = is_entry o.kind || is_title_kind o.kind
 
+abbrev pub is_command_kind : Kind → Bool
+is_command_kind kind.Command = true
+is_command_kind _ = false
+
+-- a word at the indent of the command above
+abbrev pub is_further_command : Option Open → (here : Shape) → Bool
+is_further_command None here = false
+is_further_command (Some o) here = (is_command_kind o.kind && here.is_word) && nat_le o.indent here.indent
+
+abbrev pub listed_value : Option Open → (here : Shape) → Option Kind
+listed_value o here =
+    if is_further_command o here then Some kind.Command
+    else if is_in_list o then Some kind.Value
+    else None
+
 abbrev pub leads : (here next : Shape) → Bool
 leads here next = nat_lt here.indent next.indent && not next.is_empty
 
@@ -61,7 +76,7 @@ is_plain_title after here next = (after && leads here next) && ((next.is_option 
 
 abbrev pub listed_by : Subject → Place → (here : Shape) → Option Kind
 listed_by subject.Commands p here = if here.is_word then Some kind.Command else None
-listed_by subject.Values p here = if is_in_list p.block then Some kind.Value else None
+listed_by subject.Values p here = listed_value p.block here
 listed_by subject.Examples p here = Some kind.Code
 listed_by subject.Options p here = None
 listed_by subject.Unsaid p here = None

@@ -77,6 +77,29 @@ fn is_in_list(block: Option<Open>) -> bool
     }
 }
 
+fn is_further_command(block: Option<Open>, here: Shape) -> bool
+    ensures { result ≡ rules.is_further_command block here }
+{
+    match block {
+        None => false,
+        Some(block) => matches!(block.kind, Kind::Command)
+            && here.is_word
+            && block.indent <= here.indent,
+    }
+}
+
+fn listed_value(block: Option<Open>, here: Shape) -> Option<Kind>
+    ensures { result ≡ rules.listed_value block here }
+{
+    if is_further_command(block, here) {
+        Some(Kind::Command)
+    } else if is_in_list(block) {
+        Some(Kind::Value)
+    } else {
+        None
+    }
+}
+
 fn leads(here: Shape, next: Shape) -> bool
     ensures { result ≡ rules.leads here next }
 {
@@ -100,7 +123,7 @@ fn listed(place: Place, here: Shape) -> Option<Kind>
     }
     match place.subject {
         Subject::Commands if here.is_word => Some(Kind::Command),
-        Subject::Values if is_in_list(place.block) => Some(Kind::Value),
+        Subject::Values => listed_value(place.block, here),
         Subject::Examples => Some(Kind::Code),
         _ => None,
     }
