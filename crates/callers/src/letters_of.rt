@@ -7,8 +7,8 @@ use shown_letters::shown_letters;
 use std::alloc::{AllocError, Global};
 
 /// A help text as its reader sees it.
-pub fn letters_of(printed: &str) -> Result<String, AllocError>
+pub fn letters_of(alloc: Global, printed: &str) -> Result<String, AllocError>
     ensures { IfOk result (λ letters. string_bytes letters ≡ shown_letters printed.now) }
 {
-    shown_letters(Global, printed)
+    shown_letters(alloc, printed)
 }

@@ -61,6 +61,9 @@ pub mod letters_of;
 // help_fronts
 pub mod option_of;
 
+// help_blocks
+pub mod help_lines;
+
 // web_page
 pub mod note;
 

@@ -6,35 +6,154 @@ use std::process::Abort;
 
 // A line; its names with a blank between two, its value and whether that is optional, the gap, and the help.
 const OPTIONS: [(&str, &str, &str, bool, &str, &str); 29] = [
-    ("  -o, --output=FILE   write it", "-o --output", "FILE", false, "   ", "write it"),
-    ("-f FILE, --file FILE  x", "-f --file", "FILE", false, "  ", "x"),
-    ("--verbose, -v         more", "--verbose -v", "", false, "         ", "more"),
-    ("--alt-svc <file name> Use it", "--alt-svc", "file name", false, " ", "Use it"),
-    ("-c cmd : program text", "-c", "cmd", false, " : ", "program text"),
-    ("-E     : ignore names", "-E", "", false, "     : ", "ignore names"),
-    ("--pycs always|never:", "--pycs", "always|never", false, "", ""),
-    ("-0 ... -9           preset", "-0 -9", "", false, "           ", "preset"),
-    ("--color[=WHEN]\tcolours", "--color", "WHEN", true, "\t", "colours"),
-    ("-j [N], --jobs[=N]   jobs", "-j --jobs", "N", true, "   ", "jobs"),
+    (
+        "  -o, --output=FILE   write it",
+        "-o --output",
+        "FILE",
+        false,
+        "   ",
+        "write it",
+    ),
+    (
+        "-f FILE, --file FILE  x",
+        "-f --file",
+        "FILE",
+        false,
+        "  ",
+        "x",
+    ),
+    (
+        "--verbose, -v         more",
+        "--verbose -v",
+        "",
+        false,
+        "         ",
+        "more",
+    ),
+    (
+        "--alt-svc <file name> Use it",
+        "--alt-svc",
+        "file name",
+        false,
+        " ",
+        "Use it",
+    ),
+    (
+        "-c cmd : program text",
+        "-c",
+        "cmd",
+        false,
+        " : ",
+        "program text",
+    ),
+    (
+        "-E     : ignore names",
+        "-E",
+        "",
+        false,
+        "     : ",
+        "ignore names",
+    ),
+    (
+        "--pycs always|never:",
+        "--pycs",
+        "always|never",
+        false,
+        "",
+        "",
+    ),
+    (
+        "-0 ... -9           preset",
+        "-0 -9",
+        "",
+        false,
+        "           ",
+        "preset",
+    ),
+    (
+        "--color[=WHEN]\tcolours",
+        "--color",
+        "WHEN",
+        true,
+        "\t",
+        "colours",
+    ),
+    (
+        "-j [N], --jobs[=N]   jobs",
+        "-j --jobs",
+        "N",
+        true,
+        "   ",
+        "jobs",
+    ),
     ("--level {go,stop}", "--level", "go,stop", false, "", ""),
     ("-Wl,<options>  x", "-Wl", "options", false, "  ", "x"),
     ("-std=<standard>  x", "-std", "standard", false, "  ", "x"),
     ("--bytes=[-]NUM  x", "--bytes", "[-]NUM", false, "  ", "x"),
-    ("-v, --verbose...  more", "-v --verbose", "", false, "  ", "more"),
-    ("--config string   a file", "--config", "string", false, "   ", "a file"),
+    (
+        "-v, --verbose...  more",
+        "-v --verbose",
+        "",
+        false,
+        "  ",
+        "more",
+    ),
+    (
+        "--config string   a file",
+        "--config",
+        "string",
+        false,
+        "   ",
+        "a file",
+    ),
     ("--keys k [k ...]  some", "--keys", "k", false, "  ", "some"),
     ("--set A B  two", "--set", "A", false, "  ", "two"),
-    ("-h --help     this", "-h --help", "", false, "     ", "this"),
+    (
+        "-h --help     this",
+        "-h --help",
+        "",
+        false,
+        "     ",
+        "this",
+    ),
     ("-i|--install  x", "-i --install", "", false, "  ", "x"),
     ("-v | --version  x", "-v --version", "", false, "  ", "x"),
     ("-a,--all  x", "-a --all", "", false, "  ", "x"),
-    ("-q, --[no-]quiet  x", "-q --[no-]quiet", "", false, "  ", "x"),
+    (
+        "-q, --[no-]quiet  x",
+        "-q --[no-]quiet",
+        "",
+        false,
+        "  ",
+        "x",
+    ),
     ("-#, --bar  x", "-# --bar", "", false, "  ", "x"),
     ("-:, --next  x", "-: --next", "", false, "  ", "x"),
-    ("-mount -noleaf -xdev", "-mount", "", false, " ", "-noleaf -xdev"),
-    ("--name PATTERN -newer FILE", "--name", "PATTERN", false, " ", "-newer FILE"),
+    (
+        "-mount -noleaf -xdev",
+        "-mount",
+        "",
+        false,
+        " ",
+        "-noleaf -xdev",
+    ),
+    (
+        "--name PATTERN -newer FILE",
+        "--name",
+        "PATTERN",
+        false,
+        " ",
+        "-newer FILE",
+    ),
     ("--foo: does foo", "--foo", "", false, " ", "does foo"),
-    ("-é, --größe=MASS  é", "-é --größe", "MASS", false, "  ", "é"),
+    (
+        "-é, --größe=MASS  é",
+        "-é --größe",
+        "MASS",
+        false,
+        "  ",
+        "é",
+    ),
 ];
 
 const NO_OPTIONS: [&str; 11] = [
@@ -65,29 +184,52 @@ fn options_are_read(rt: HostRuntime) {
 #[test]
 fn other_lines_have_no_options(rt: HostRuntime) {
     for line in NO_OPTIONS {
-        assert!(rt; option_front(rt.alloc(), line).expect(&rt, "no option").is_none());
+        assert!(rt;
+            option_front(rt.alloc(), line)
+                .expect(&rt, "no option")
+                .is_none()
+        );
     }
 }
 
 // A line; the name of the command, its other names with a blank behind each, and the help.
 const COMMANDS: [(&str, &str, &str, &str); 8] = [
-    ("    clone    Clone a repository", "clone", "", "Clone a repository"),
+    (
+        "    clone    Clone a repository",
+        "clone",
+        "",
+        "Clone a repository",
+    ),
     ("  build, b   Compile it", "build", "b ", "Compile it"),
     ("  go (g)     run", "go", "g ", "run"),
     ("list - list packages", "list", "", "list packages"),
     ("auth:  Log in", "auth", "", "Log in"),
-    ("list-units [PATTERN...]   List units", "list-units", "", "List units"),
+    (
+        "list-units [PATTERN...]   List units",
+        "list-units",
+        "",
+        "List units",
+    ),
     ("run NAME\tRun it", "run", "", "Run it"),
     ("stop", "stop", "", ""),
 ];
 
-const NO_COMMANDS: [&str; 6] = ["", "-v  more", "two words", "<file>  x", "...  more", "add one  x"];
+const NO_COMMANDS: [&str; 6] = [
+    "",
+    "-v  more",
+    "two words",
+    "<file>  x",
+    "...  more",
+    "add one  x",
+];
 
 fn is_command(rt: &impl Abort, out: Global, row: (&str, &str, &str, &str)) -> bool {
     let (line, name, aliases, help) = row;
     match command_front(out, line).expect(rt, "a command") {
         None => false,
-        Some(front) => front.name == name && are_behind(&front.aliases, aliases) && front.help == help,
+        Some(front) => front.name == name
+            && are_behind(&front.aliases, aliases)
+            && front.help == help,
     }
 }
 
@@ -113,16 +255,26 @@ fn commands_are_read(rt: HostRuntime) {
 #[test]
 fn other_lines_have_no_commands(rt: HostRuntime) {
     for line in NO_COMMANDS {
-        assert!(rt; command_front(rt.alloc(), line).expect(&rt, "no command").is_none());
+        assert!(rt;
+            command_front(rt.alloc(), line)
+                .expect(&rt, "no command")
+                .is_none()
+        );
     }
 }
 
 // A line of a usage, and its names with a blank behind each.
 const USAGES: [(&str, &str); 5] = [
     ("usage: ssh [-46Aa] [-B bind_interface]", "-46Aa -B "),
-    ("git [-v | --version] [-C <path>] [--exec-path[=<path>]]", "-v --version -C --exec-path "),
+    (
+        "git [-v | --version] [-C <path>] [--exec-path[=<path>]]",
+        "-v --version -C --exec-path ",
+    ),
     ("prog [-h] [--foo FOO] file [file ...]", "-h --foo "),
-    ("[-p|--paginate|-P] '-x' {-a,-b}", "-p --paginate -P -x -a -b "),
+    (
+        "[-p|--paginate|-P] '-x' {-a,-b}",
+        "-p --paginate -P -x -a -b ",
+    ),
     ("prog a-b --", ""),
 ];
 
