@@ -9,8 +9,8 @@ use help_fronts::{OptionFront, option_front};
 use std::alloc::{AllocError, Global};
 
 /// What an option's line says before its help.
-pub fn option_of(line: &str) -> Result<Option<OptionFront<'_>>, AllocError>
+pub fn option_of(alloc: Global, line: &str) -> Result<Option<OptionFront<'_>>, AllocError>
     ensures { IfOk result (λ front. option_map said front ≡ option_front line.now) }
 {
-    option_front(Global, line)
+    option_front(alloc, line)
 }
