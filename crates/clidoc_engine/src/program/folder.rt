@@ -79,8 +79,23 @@ pub fn tell_left<R: Alloc + Files + Eprint>(rt: &R, folder: &str) {
 
 /// Writes each page beside its place in the folder that was entered, and renames it there, so that no page of before is
 /// lost for a part of a new one. All are kept when the machine stops, as far as the system says so. Where a file fails,
-/// nothing is left beside its place; the files before it stay where they are.
+/// nothing is left beside its place; the files before it stay where they are, and are kept.
 pub fn write_files<R: Files + RandomSource, A: Allocator>(
+    rt: &R,
+    global: Global,
+    folder: &str,
+    files: &[PageFile<A>],
+) -> Result<(), Failure> {
+    let written = write_each(rt, global, folder, files);
+    let kept = keep_folder(rt);
+    written?;
+    match kept {
+        Ok(()) => Ok(()),
+        Err(error) => Err(not_written(String::from_str(global, folder)?, error)),
+    }
+}
+
+fn write_each<R: Files + RandomSource, A: Allocator>(
     rt: &R,
     global: Global,
     folder: &str,
@@ -92,10 +107,7 @@ pub fn write_files<R: Files + RandomSource, A: Allocator>(
             return Err(not_written(place, error));
         }
     }
-    match keep_folder(rt) {
-        Ok(()) => Ok(()),
-        Err(error) => Err(not_written(String::from_str(global, folder)?, error)),
-    }
+    Ok(())
 }
 
 fn not_written(name: String, error: io::Error) -> Failure {

@@ -168,11 +168,14 @@ const WRITTEN: &str = "clidoc: wrote 3 files to out; see out/a.html";
 
 const FULL: ErrorKind = ErrorKind::StorageFull;
 
-const REMOVE_MANUAL: &[&str] = &["remove .a.1.00000000.new"];
+// The names that were there before are kept too.
+const KEEP: &[&str] = &["open .", "keep folder"];
 
-const REMOVE_MARKDOWN: &[&str] = &["remove .a.md.01010101.new"];
+const REMOVE_MANUAL: &[&str] = &["remove .a.1.00000000.new", "open .", "keep folder"];
 
-const REMOVE_WEB: &[&str] = &["remove .a.html.02020202.new"];
+const REMOVE_MARKDOWN: &[&str] = &["remove .a.md.01010101.new", "open .", "keep folder"];
+
+const REMOVE_WEB: &[&str] = &["remove .a.html.02020202.new", "open .", "keep folder"];
 
 const FAILING: &[Failing] = &[
     (
@@ -199,14 +202,14 @@ const FAILING: &[Failing] = &[
     (
         3,
         ErrorKind::Other,
-        &[],
+        KEEP,
         1,
         "clidoc: can't write out/a.1: other error",
     ),
     (
         4,
         FULL,
-        &[],
+        KEEP,
         1,
         "clidoc: can't write out/a.1: no storage space",
     ),
@@ -235,7 +238,7 @@ const FAILING: &[Failing] = &[
     (
         10,
         FULL,
-        &[],
+        KEEP,
         1,
         "clidoc: can't write out/a.md: no storage space",
     ),
@@ -263,7 +266,7 @@ const FAILING: &[Failing] = &[
     (
         16,
         FULL,
-        &[],
+        KEEP,
         1,
         "clidoc: can't write out/a.html: no storage space",
     ),
