@@ -26,7 +26,7 @@ fault_of_page making.NoInk = NoPage making.NoInk
 -- where a fault says that the input is no text, this holds of the place that it tells
 abbrev pub IfNotUtf8 : Fault → (Place → Type 0) → Type 0
 IfNotUtf8 (NotUtf8 place) P = P place
-IfNotUtf8 (NotToml place error hint) P = ⊤
+IfNotUtf8 (NotToml place error cause) P = ⊤
 IfNotUtf8 (NotJson place why) P = ⊤
 IfNotUtf8 (NotDescription lines) P = ⊤
 IfNotUtf8 (NoCommand name path meant) P = ⊤
@@ -37,7 +37,7 @@ IfNotUtf8 Memory P = ⊤
 
 -- where a fault says that the text is no TOML, this holds of the place and of the error that it tells
 abbrev pub IfNotToml : Fault → (Place → Error → Type 0) → Type 0
-IfNotToml (NotToml place error hint) P = P place error
+IfNotToml (NotToml place error cause) P = P place error
 IfNotToml (NotUtf8 place) P = ⊤
 IfNotToml (NotJson place why) P = ⊤
 IfNotToml (NotDescription lines) P = ⊤
@@ -51,7 +51,7 @@ IfNotToml Memory P = ⊤
 abbrev pub IfNotJson : Fault → (Place → Type 0) → Type 0
 IfNotJson (NotJson place why) P = P place
 IfNotJson (NotUtf8 place) P = ⊤
-IfNotJson (NotToml place error hint) P = ⊤
+IfNotJson (NotToml place error cause) P = ⊤
 IfNotJson (NotDescription lines) P = ⊤
 IfNotJson (NoCommand name path meant) P = ⊤
 IfNotJson (NoPage error) P = ⊤
@@ -63,7 +63,7 @@ IfNotJson Memory P = ⊤
 abbrev pub IfNotDescription : Fault → Type 0 → Type 0
 IfNotDescription (NotDescription lines) P = P
 IfNotDescription (NotUtf8 place) P = ⊤
-IfNotDescription (NotToml place error hint) P = ⊤
+IfNotDescription (NotToml place error cause) P = ⊤
 IfNotDescription (NotJson place why) P = ⊤
 IfNotDescription (NoCommand name path meant) P = ⊤
 IfNotDescription (NoPage error) P = ⊤
@@ -77,7 +77,7 @@ IfNoCommand (NoCommand name path meant) P = P
 IfNoCommand (NotDescription lines) P = ⊤
 IfNoCommand (NoPage error) P = ⊤
 IfNoCommand (NotUtf8 place) P = ⊤
-IfNoCommand (NotToml place error hint) P = ⊤
+IfNoCommand (NotToml place error cause) P = ⊤
 IfNoCommand (NotJson place why) P = ⊤
 IfNoCommand Read P = ⊤
 IfNoCommand Write P = ⊤
@@ -89,7 +89,7 @@ IfNoPage (NoPage error) P = P error
 IfNoPage (NoCommand name path meant) P = ⊤
 IfNoPage (NotDescription lines) P = ⊤
 IfNoPage (NotUtf8 place) P = ⊤
-IfNoPage (NotToml place error hint) P = ⊤
+IfNoPage (NotToml place error cause) P = ⊤
 IfNoPage (NotJson place why) P = ⊤
 IfNoPage Read P = ⊤
 IfNoPage Write P = ⊤

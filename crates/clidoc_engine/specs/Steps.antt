@@ -19,7 +19,7 @@ abbrev pub IsOfInput : Fault → Type 0
 IsOfInput Read = ⊤
 IsOfInput (NotUtf8 place) = ⊤
 IsOfInput Memory = ⊤
-IsOfInput (NotToml place error hint) = ⊥
+IsOfInput (NotToml place error cause) = ⊥
 IsOfInput (NotJson place why) = ⊥
 IsOfInput (NotDescription lines) = ⊥
 IsOfInput (NoCommand name path meant) = ⊥
@@ -28,7 +28,7 @@ IsOfInput Write = ⊥
 
 -- the fault says that the text is no TOML, and where; or that an allocation failed
 abbrev pub IsSyntaxFault : (text : List ℕ) → Fault → Type 0
-IsSyntaxFault text (NotToml place error hint) = IsNoTomlText text place error
+IsSyntaxFault text (NotToml place error cause) = IsNoTomlText text place error
 IsSyntaxFault text Memory = ⊤
 IsSyntaxFault text (NotJson place why) = ⊥
 IsSyntaxFault text (NotUtf8 place) = ⊥
@@ -43,7 +43,7 @@ abbrev pub IsJsonFault : (text : List ℕ) → Fault → Type 0
 IsJsonFault text (NotJson place why) = IsNoJsonText text place
 IsJsonFault text Memory = ⊤
 IsJsonFault text (NotUtf8 place) = ⊥
-IsJsonFault text (NotToml place error hint) = ⊥
+IsJsonFault text (NotToml place error cause) = ⊥
 IsJsonFault text (NotDescription lines) = ⊥
 IsJsonFault text (NoCommand name path meant) = ⊥
 IsJsonFault text (NoPage error) = ⊥
@@ -52,7 +52,7 @@ IsJsonFault text Write = ⊥
 
 -- the fault says that the text gives no table in this notation, and where; or that an allocation failed
 abbrev pub IsTableFault : Notation → (text : List ℕ) → Fault → Type 0
-IsTableFault notation text (NotToml place error hint) = (notation ≡ Toml) × IsNoTomlText (without_returns text) place error
+IsTableFault notation text (NotToml place error cause) = (notation ≡ Toml) × IsNoTomlText (without_returns text) place error
 IsTableFault notation text (NotJson place why) = (notation ≡ Json) × IsNoJsonText text place
 IsTableFault notation text Memory = ⊤
 IsTableFault notation text (NotUtf8 place) = ⊥
@@ -67,7 +67,7 @@ abbrev pub IsOfData : Members → Fault → Type 0
 IsOfData table (NotDescription lines) = described table ≡ None
 IsOfData table Memory = ⊤
 IsOfData table (NotUtf8 place) = ⊥
-IsOfData table (NotToml place error hint) = ⊥
+IsOfData table (NotToml place error cause) = ⊥
 IsOfData table (NotJson place why) = ⊥
 IsOfData table (NoCommand name path meant) = ⊥
 IsOfData table (NoPage error) = ⊥
@@ -76,7 +76,7 @@ IsOfData table Write = ⊥
 
 -- the fault is none of a stream, and none of bytes that are no text
 abbrev pub IsOfContent : Fault → Type 0
-IsOfContent (NotToml place error hint) = ⊤
+IsOfContent (NotToml place error cause) = ⊤
 IsOfContent (NotJson place why) = ⊤
 IsOfContent (NotDescription lines) = ⊤
 IsOfContent (NoCommand name path meant) = ⊤
@@ -91,7 +91,7 @@ abbrev pub IsLost : (commands : List (List ℕ)) → DescriptionSaid → Fault �
 IsLost commands d (NoCommand name path meant) = level_at commands d ≡ None
 IsLost commands d Memory = ⊤
 IsLost commands d (NotUtf8 place) = ⊥
-IsLost commands d (NotToml place error hint) = ⊥
+IsLost commands d (NotToml place error cause) = ⊥
 IsLost commands d (NotJson place why) = ⊥
 IsLost commands d (NotDescription lines) = ⊥
 IsLost commands d (NoPage error) = ⊥
@@ -104,7 +104,7 @@ IsUnmade p d (NoCommand name path meant) = level_at (commands_of p) d ≡ None
 IsUnmade p d (NoPage error) = IsUnwritable p d error
 IsUnmade p d Memory = ⊤
 IsUnmade p d (NotUtf8 place) = ⊥
-IsUnmade p d (NotToml place error hint) = ⊥
+IsUnmade p d (NotToml place error cause) = ⊥
 IsUnmade p d (NotJson place why) = ⊥
 IsUnmade p d (NotDescription lines) = ⊥
 IsUnmade p d Read = ⊥
@@ -114,7 +114,7 @@ abbrev pub IsNoCommand : Fault → Type 0
 IsNoCommand (NoCommand name path meant) = ⊤
 IsNoCommand Memory = ⊥
 IsNoCommand (NotUtf8 place) = ⊥
-IsNoCommand (NotToml place error hint) = ⊥
+IsNoCommand (NotToml place error cause) = ⊥
 IsNoCommand (NotJson place why) = ⊥
 IsNoCommand (NotDescription lines) = ⊥
 IsNoCommand (NoPage error) = ⊥
@@ -125,7 +125,7 @@ IsNoCommand Write = ⊥
 abbrev pub IsOfReading : Fault → Type 0
 IsOfReading Read = ⊤
 IsOfReading (NotUtf8 place) = ⊤
-IsOfReading (NotToml place error hint) = ⊤
+IsOfReading (NotToml place error cause) = ⊤
 IsOfReading (NotJson place why) = ⊤
 IsOfReading (NotDescription lines) = ⊤
 IsOfReading Memory = ⊤
@@ -135,7 +135,7 @@ IsOfReading Write = ⊥
 
 -- the same, and not of the reader
 abbrev pub IsOfText : Fault → Type 0
-IsOfText (NotToml place error hint) = ⊤
+IsOfText (NotToml place error cause) = ⊤
 IsOfText (NotJson place why) = ⊤
 IsOfText (NotDescription lines) = ⊤
 IsOfText Memory = ⊤
@@ -149,7 +149,7 @@ IsOfText Write = ⊥
 abbrev pub IsOfFiles : Fault → Type 0
 IsOfFiles Read = ⊤
 IsOfFiles (NotUtf8 place) = ⊤
-IsOfFiles (NotToml place error hint) = ⊤
+IsOfFiles (NotToml place error cause) = ⊤
 IsOfFiles (NotJson place why) = ⊤
 IsOfFiles (NotDescription lines) = ⊤
 IsOfFiles (NoPage error) = ⊤
@@ -159,7 +159,7 @@ IsOfFiles Write = ⊥
 
 -- the same, and not of the reader
 abbrev pub IsOfFilesText : Fault → Type 0
-IsOfFilesText (NotToml place error hint) = ⊤
+IsOfFilesText (NotToml place error cause) = ⊤
 IsOfFilesText (NotJson place why) = ⊤
 IsOfFilesText (NotDescription lines) = ⊤
 IsOfFilesText (NoPage error) = ⊤
@@ -174,7 +174,7 @@ abbrev pub IsOfPages : Fault → Type 0
 IsOfPages (NoPage error) = ⊤
 IsOfPages Memory = ⊤
 IsOfPages (NotUtf8 place) = ⊥
-IsOfPages (NotToml place error hint) = ⊥
+IsOfPages (NotToml place error cause) = ⊥
 IsOfPages (NotJson place why) = ⊥
 IsOfPages (NotDescription lines) = ⊥
 IsOfPages (NoCommand name path meant) = ⊥

@@ -3,9 +3,9 @@
 ghost use Rattle.std.specs.Prelude.{◌≡◌};
 ghost use Rattle.clidoc_engine.specs.declared.faults.Fault.TheVariants.{Memory};
 
+use crate::causes::Cause;
 use crate::described::{Lines, Severity};
 use crate::echoed::Echoed;
-use crate::hints::Hint;
 use crate::meant::{Meant, Named};
 use crate::places::Place;
 use command_pages::PageError;
@@ -25,7 +25,7 @@ pub enum Fault {
     NotToml {
         place: Place,
         error: toml::de::Error,
-        hint: Hint,
+        cause: Cause,
     },
     /// The text gives no table as JSON: the place of the first fault, and why.
     NotJson {
@@ -71,10 +71,14 @@ impl Display for Told<'_> {
         let file = Echoed(self.file);
         match self.fault {
             Fault::NotUtf8(place) => write!(f, "{file}:{place}: the text is not UTF-8"),
-            Fault::NotToml { place, error, hint } => match hint {
-                Hint::Nothing => write!(f, "{file}:{place}: {}", error.message()),
-                Hint::Open { place, mark } => write!(f, "{file}:{place}: {mark} is not closed"),
-                Hint::Late { header, other } => {
+            Fault::NotToml {
+                place,
+                error,
+                cause,
+            } => match cause {
+                Cause::Unknown => write!(f, "{file}:{place}: {}", error.message()),
+                Cause::Open { place, mark } => write!(f, "{file}:{place}: {mark} is not closed"),
+                Cause::Late { header, other } => {
                     let (header, other) = (header.as_str(), other.as_str());
                     let words = error.message();
                     write!(

@@ -5,13 +5,13 @@
 pub mod all;
 mod beside;
 pub mod bounded;
+pub mod causes;
 pub mod described;
 pub mod echoed;
 pub mod engine;
 pub mod faults;
 pub mod files;
 mod headers;
-pub mod hints;
 pub mod meant;
 mod newlines;
 pub mod notation;

@@ -10,8 +10,8 @@ ghost use Rattle.clidoc_engine.specs.Inputs.{IsNoJsonText, table_in};
 ghost use Rattle.clidoc_engine.specs.Newlines.{without_returns};
 ghost use Rattle.clidoc_engine.specs.Steps.{IsJsonFault, IsSyntaxFault, IsTableFault};
 
+use crate::causes::cause_of;
 use crate::faults::Fault;
-use crate::hints::hint_of;
 use crate::newlines::without_returns;
 use crate::notation::Notation;
 use crate::places::{Place, place_behind};
@@ -59,11 +59,11 @@ fn syntax_fault(global: Global, text: &str, error: toml::de::Error) -> Fault
     let Some(span) = error.span() else {
         return Fault::Memory;
     };
-    match hint_of(global, text, span.start, error.message()) {
-        Ok(hint) => Fault::NotToml {
+    match cause_of(global, text, span.start, error.message()) {
+        Ok(cause) => Fault::NotToml {
             place: place_behind(&text.as_bytes()[..span.start]),
             error,
-            hint,
+            cause,
         },
         Err(AllocError) => Fault::Memory,
     }

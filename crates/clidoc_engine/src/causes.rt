@@ -1,14 +1,14 @@
-//! What else can be said of a text that is no TOML.
+//! What makes a text no TOML, where an error of the reader does not say it.
 
 use crate::headers::late_header;
 use crate::open::open_at_end;
 use crate::places::{Place, place_behind};
 use std::alloc::{AllocError, Global};
 
-/// What else can be said of a text that is no TOML.
+/// What makes a text no TOML, where an error of the reader does not say it.
 #[derive(Debug, Drop)]
-pub enum Hint {
-    Nothing,
+pub enum Cause {
+    Unknown,
     /// The error is at the end, since this is still open there: where it begins, and with what.
     Open { place: Place, mark: &'static str },
     /// The error is a header that has to stand before another.
@@ -16,33 +16,33 @@ pub enum Hint {
 }
 
 /// What else can be said of an error with this message at this place. `AllocError` where an allocation failed.
-pub(crate) fn hint_of(
+pub(crate) fn cause_of(
     global: Global,
     text: &str,
     place: usize,
     message: &str,
-) -> Result<Hint, AllocError> {
+) -> Result<Cause, AllocError> {
     if text.trim_end().len() <= place {
-        return Ok(open_hint(text.as_bytes()));
+        return Ok(open_cause(text.as_bytes()));
     }
     if message != "duplicate key" {
-        return Ok(Hint::Nothing);
+        return Ok(Cause::Unknown);
     }
     match late_header(text, place) {
-        Some((header, other)) => Ok(Hint::Late {
+        Some((header, other)) => Ok(Cause::Late {
             header: format!(in global; "{header}")?,
             other: format!(in global; "{other}")?,
         }),
-        None => Ok(Hint::Nothing),
+        None => Ok(Cause::Unknown),
     }
 }
 
-fn open_hint(text: &[u8]) -> Hint {
+fn open_cause(text: &[u8]) -> Cause {
     match open_at_end(text) {
-        Some(open) => Hint::Open {
+        Some(open) => Cause::Open {
             place: place_behind(open.before),
             mark: open.mark,
         },
-        None => Hint::Nothing,
+        None => Cause::Unknown,
     }
 }
