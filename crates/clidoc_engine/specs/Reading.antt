@@ -47,7 +47,7 @@ IsRefused NoFolder = ⊥
 IsRefused NoShell = ⊥
 IsRefused (NoSuchShell word) = ⊥
 IsRefused (Twice option) = ⊥
-IsRefused (TooMany word) = ⊥
+IsRefused (TooMany word command) = ⊥
 IsRefused (NotWith option word) = ⊥
 IsRefused (NotAlone word) = ⊥
 

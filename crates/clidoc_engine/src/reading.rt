@@ -45,7 +45,10 @@ pub enum WordFault<'w> {
     /// This is no form.
     NoSuchForm(&'w str),
     /// This is no form, and a form stands behind it.
-    FormBehind { word: &'w str, form: &'w str },
+    FormBehind {
+        word: &'w str,
+        form: &'w str,
+    },
     /// There is no such option.
     NoSuchOption(&'w str),
     /// This option has no value behind it.
@@ -60,10 +63,16 @@ pub enum WordFault<'w> {
     NoFolder,
     /// This option is given more than once.
     Twice(WordOption),
-    /// This stands behind the name of the file.
-    TooMany(&'w str),
+    /// This stands behind the name of the file, which may have been meant for a command.
+    TooMany {
+        word: &'w str,
+        command: Option<&'w str>,
+    },
     /// This option is none of the form that the word names.
-    NotWith { option: WordOption, word: &'w str },
+    NotWith {
+        option: WordOption,
+        word: &'w str,
+    },
     /// This option stands with other words, where it has to stand alone.
     NotAlone(&'w str),
     /// An allocation failed.

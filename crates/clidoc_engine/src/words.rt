@@ -186,15 +186,22 @@ fn taken<'w, A: Allocator>(
     }
 }
 
-// The one file, if there is one.
-fn file_alone<'w>(behind: &[&'w str]) -> Result<Option<&'w str>, WordFault<'w>>
+// The one file, if there is one. The form may take a command.
+fn file_alone<'w>(behind: &[&'w str], takes_command: bool) -> Result<Option<&'w str>, WordFault<'w>>
     ensures ok { IfOk result (λ file. words_said behind.now ≡ option_to_list (text_of file)) }
     ensures err { IfErr result (λ _. (file : _) → words_said behind.now ≢ option_to_list file) }
 {
     match behind {
         [] => Ok(None),
         [file] => Ok(Some(*file)),
-        [_, word, ..] => Err(WordFault::TooMany(*word)),
+        [file, word, ..] => Err(too_many(*file, *word, takes_command)),
+    }
+}
+
+fn too_many<'w>(file: &'w str, word: &'w str, takes_command: bool) -> WordFault<'w> {
+    WordFault::TooMany {
+        word,
+        command: takes_command.then_some(file),
     }
 }
 
@@ -210,7 +217,7 @@ fn judged<'w, A: Allocator>(
     ensures err { IfErr result (λ _. (strict file : _)
         → ¬ IsCheck (words_said behind.now) (given_of given.entry) strict file) }
 {
-    let file = file_alone(behind)?;
+    let file = file_alone(behind, false)?;
     check_no_level(&given, word)?;
     check_no_title(&given, word)?;
     check_no_folder(&given, word)?;
@@ -240,7 +247,7 @@ fn all_written<'w, A: Allocator>(
     ensures err { IfErr result (λ _. (folder title file : _)
         → ¬ IsAll (words_said behind.now) (given_of given.entry) folder title file) }
 {
-    let file = file_alone(behind)?;
+    let file = file_alone(behind, false)?;
     check_no_level(&given, word)?;
     check_no_strict(&given, word)?;
     let title = title_of(&given)?;
@@ -277,7 +284,7 @@ fn completed<'w, A: Allocator>(
         return Err(WordFault::NoShell);
     };
     let shell = shell_named(*shell)?;
-    let file = file_alone(others)?;
+    let file = file_alone(others, false)?;
     check_alone(&given, word)?;
     Ok(Choice::Page(Page::Completion(shell), file))
 }
@@ -319,7 +326,7 @@ fn paged<'w, A: Allocator>(
     ensures err { IfErr result (λ _. (p file : _)
         → ¬ IsPageOf terminal word.now (words_said behind.now) (given_of given.entry) p file) }
 {
-    let file = file_alone(behind)?;
+    let file = file_alone(behind, true)?;
     let work = check_no_work(&given, word);
     let page = page_named(terminal, word, file, given)?;
     match work {

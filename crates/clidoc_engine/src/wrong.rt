@@ -50,7 +50,7 @@ pub fn line_of(global: Global, fault: &WordFault<'_>) -> Result<String, AllocErr
             line.push_str(" stands twice")?;
         }
         WordFault::NotAlone(word) => put(&mut line, "other words stand beside ", word)?,
-        WordFault::TooMany(word) => put(&mut line, "one word too many: ", word)?,
+        WordFault::TooMany { word, command } => put_many(&mut line, word, *command)?,
         WordFault::NotWith { option, word } => {
             line.push_str(word_of(*option))?;
             put(&mut line, " is no option of ", word)?;
@@ -114,6 +114,22 @@ fn put_turned(line: &mut String, word: &str, form: &str) -> Result<(), AllocErro
     put(line, "no form ", word)?;
     put(line, "; the form comes first: clidoc ", form)?;
     put(line, " ", word)
+}
+
+// A word behind that of the file, which may have been meant for a command.
+fn put_many(line: &mut String, word: &str, file: Option<&str>) -> Result<(), AllocError> {
+    put(line, "one word too many: ", word)?;
+    match file {
+        Some(command) if may_be_command(command) => {
+            put(line, "; if ", command)?;
+            put(line, " is a command, write --command ", command)
+        }
+        _ => Ok(()),
+    }
+}
+
+fn may_be_command(file: &str) -> bool {
+    file != "-" && !file.contains('.') && !file.contains('/')
 }
 
 // What the word may have been, or all words that stand in its place.

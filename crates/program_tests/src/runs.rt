@@ -56,12 +56,27 @@ clidoc|completion|a.toml
 clidoc: no form completion; is it complete?
 
 clidoc|full|a|b
-clidoc: one word too many: b
+clidoc: one word too many: b; if a is a command, write --command a
 
 clidoc|full|a|--|b
-clidoc: one word too many: b
+clidoc: one word too many: b; if a is a command, write --command a
 
 clidoc|full|--|a|b
+clidoc: one word too many: b; if a is a command, write --command a
+
+clidoc|man|remote add|a.toml
+clidoc: one word too many: a.toml; if \"remote add\" is a command, write --command \"remote add\"
+
+clidoc|html|a.toml|b
+clidoc: one word too many: b
+
+clidoc|usage|a/b|c
+clidoc: one word too many: c
+
+clidoc|brief|-|a
+clidoc: one word too many: a
+
+clidoc|check|a|b
 clidoc: one word too many: b
 
 clidoc|complete
