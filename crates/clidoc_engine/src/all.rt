@@ -20,6 +20,7 @@ use crate::engine::description_of;
 use crate::faults::Fault;
 use crate::files::PageFile;
 use crate::notation::notation_of;
+use crate::room::Room;
 use crate::tables::table_of;
 use crate::utf8::text_from;
 use crate::words::TitleGiven;
@@ -40,7 +41,7 @@ use watched::{Source, Watched};
 /// stand in a page.
 pub fn make_files<A: Allocator + Copy, R: Source>(
     alloc: A,
-    global: Global,
+    room: Room,
     given: TitleGiven<'_>,
     file: &str,
     reader: &mut Watched<R>,
@@ -79,13 +80,13 @@ pub fn make_files<A: Allocator + Copy, R: Source>(
         ReadsText (R.remaining reader.old.end) (R.remaining reader.new.end) (IsNoDescription file.now))) }
 {
     let text = text_from(alloc, reader)?;
-    files_in(alloc, global, given, file, text.as_str())
+    files_in(alloc, room, given, file, text.as_str())
 }
 
 // The files of the description that the text gives.
 fn files_in<A: Allocator + Copy>(
     alloc: A,
-    global: Global,
+    room: Room,
     given: TitleGiven<'_>,
     file: &str,
     text: &str,
@@ -98,17 +99,17 @@ fn files_in<A: Allocator + Copy>(
         IfNotDescription fault (IsNoDescription file.now text.now)) }
 {
     let notation = notation_of(file, text);
-    let table = table_of(global, notation, text)?;
-    let mut names = Names::new(global);
-    let description = description_of(global, &mut names, &table, notation, text)?;
-    let files = files_of(alloc, global, given, &description);
+    let table = table_of(room.global, notation, text)?;
+    let mut names = Names::new(room.global);
+    let description = description_of(room.global, &mut names, &table, notation, text)?;
+    let files = files_of(alloc, room, given, &description);
     drop(description);
     files
 }
 
 fn files_of<A: Allocator + Copy>(
     alloc: A,
-    global: Global,
+    room: Room,
     given: TitleGiven<'_>,
     description: &Description<'_>,
 ) -> Result<Vec<PageFile<A>, A>, Fault>
@@ -117,15 +118,15 @@ fn files_of<A: Allocator + Copy>(
     ensures fault { IfErr result IsOfPages }
 {
     let mut files = Vec::new(alloc);
-    push_levels(alloc, global, &given, &mut files, description)?;
-    put(&mut files, web_file(alloc, global, given, description)?)?;
+    push_levels(alloc, room, &given, &mut files, description)?;
+    put(&mut files, web_file(alloc, room, given, description)?)?;
     Ok(files)
 }
 
 // Puts the files of each level. The levels are found in an arena.
 fn push_levels<A: Allocator + Copy>(
     alloc: A,
-    global: Global,
+    room: Room,
     given: &TitleGiven<'_>,
     files: &mut Vec<PageFile<A>, A>,
     description: &Description<'_>,
@@ -137,14 +138,14 @@ fn push_levels<A: Allocator + Copy>(
         (all_from (application (description_said description.now)))) }
     ensures fault { IfErr result IsOfPages }
 {
-    let arena = Bump::new(global);
-    push_levels_in(alloc, &arena, global, given, files, description)
+    let arena = room.arena();
+    push_levels_in(alloc, &arena, room, given, files, description)
 }
 
 fn push_levels_in<'p, 'a: 'p, A: Allocator + Copy>(
     alloc: A,
     arena: &'p Bump,
-    global: Global,
+    room: Room,
     given: &TitleGiven<'_>,
     files: &mut Vec<PageFile<A>, A>,
     description: &'p Description<'a>,
@@ -157,14 +158,14 @@ fn push_levels_in<'p, 'a: 'p, A: Allocator + Copy>(
     ensures fault { IfErr result IsOfPages }
 {
     for level in all_from(arena, application(arena, description)?)? {
-        push_level(alloc, global, given, files, description, &level)?;
+        push_level(alloc, room, given, files, description, &level)?;
     }
     Ok(())
 }
 
 fn push_level<'a, A: Allocator + Copy>(
     alloc: A,
-    global: Global,
+    room: Room,
     given: &TitleGiven<'_>,
     files: &mut Vec<PageFile<A>, A>,
     description: &Description<'a>,
@@ -176,11 +177,8 @@ fn push_level<'a, A: Allocator + Copy>(
         (AreRead (description_said description.now) (title_said given.now) (subject_of level.now)) }
     ensures fault { IfErr result IsOfPages }
 {
-    put(
-        files,
-        manual_file(alloc, global, given, description, level)?,
-    )?;
-    put(files, markdown_file(alloc, global, description, level)?)?;
+    put(files, manual_file(alloc, room, given, description, level)?)?;
+    put(files, markdown_file(alloc, room, description, level)?)?;
     Ok(())
 }
 
@@ -195,7 +193,7 @@ fn put<A: Allocator>(files: &mut Vec<PageFile<A>, A>, file: PageFile<A>) -> Resu
 // The manual page of a level, made in an arena of its own.
 fn manual_file<'a, A: Allocator + Copy>(
     alloc: A,
-    global: Global,
+    room: Room,
     given: &TitleGiven<'_>,
     description: &Description<'a>,
     level: &LevelSubject<'_, 'a, Global>,
@@ -206,7 +204,7 @@ fn manual_file<'a, A: Allocator + Copy>(
         (subject_of level.now) (file_said file).page) }
     ensures fault { IfErr result IsOfPages }
 {
-    let arena = Bump::new(global);
+    let arena = room.arena();
     manual_file_in(alloc, &arena, given, description, *level)
 }
 
@@ -233,7 +231,7 @@ fn manual_file_in<'p, 'a: 'p, A: Allocator + Copy>(
 // The page of a level in markdown, made in an arena of its own.
 fn markdown_file<'a, A: Allocator + Copy>(
     alloc: A,
-    global: Global,
+    room: Room,
     description: &Description<'a>,
     level: &LevelSubject<'_, 'a, Global>,
 ) -> Result<PageFile<A>, Fault>
@@ -243,7 +241,7 @@ fn markdown_file<'a, A: Allocator + Copy>(
         (subject_of level.now) (file_said file).page) }
     ensures fault { IfErr result IsOfPages }
 {
-    let arena = Bump::new(global);
+    let arena = room.arena();
     markdown_file_in(alloc, &arena, description, *level)
 }
 
@@ -268,7 +266,7 @@ fn markdown_file_in<'p, 'a: 'p, A: Allocator + Copy>(
 // The complete HTML page, made in an arena of its own.
 fn web_file<A: Allocator + Copy>(
     alloc: A,
-    global: Global,
+    room: Room,
     given: TitleGiven<'_>,
     description: &Description<'_>,
 ) -> Result<PageFile<A>, Fault>
@@ -276,7 +274,7 @@ fn web_file<A: Allocator + Copy>(
         IsWebFile (description_said description.now) (title_said given.entry) (file_said file)) }
     ensures fault { IfErr result IsOfPages }
 {
-    let arena = Bump::new(global);
+    let arena = room.arena();
     web_file_in(alloc, &arena, given, description)
 }
 

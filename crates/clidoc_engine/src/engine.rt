@@ -20,6 +20,7 @@ use crate::faults::Fault;
 use crate::newlines::without_returns;
 use crate::notation::{Notation, notation_of};
 use crate::pages::rendered;
+use crate::room::Room;
 use crate::tables::table_of;
 use crate::utf8::text_from;
 use crate::words::Page;
@@ -34,7 +35,7 @@ use watched::{Sink, Source, Watched};
 /// TOML as `notation_of` says, where the file has this name; in TOML a carriage return directly before a newline counts
 /// for nothing.
 /// The whole page is made before the first write, so that an error other than `Write` leaves the writer
-/// as it was. The tables of the text, the description, its names and what a page is made of are kept in `global`, and
+/// as it was. The tables of the text, the description, its names and what a page is made of are kept in `room`, and
 /// what is read and the page in `alloc`. The names are never freed, so each call keeps its own.
 ///
 /// `Read` comes exactly where the reader's mark is then set, since its last read failed, `Write` exactly
@@ -43,10 +44,11 @@ use watched::{Sink, Source, Watched};
 /// `NotJson` where it has to be JSON and gives no table, `NotDescription` where its table is
 /// no description, `NoCommand` where the commands of the page lead nowhere, and `NoPage` where a text of the page has a
 /// control character but newline and tab, or a noncharacter, or it is a page in HTML, in which a name or a text cannot
-/// stand. `Memory` comes only where an allocation failed, which no clause can say.
+/// stand. `Memory` comes only where an allocation failed, or what the page says takes more than `room` has for it, which
+/// no clause can say.
 pub fn run_description<A: Allocator + Copy, B: Allocator, R: Source, W: Sink>(
     alloc: A,
-    global: Global,
+    room: Room,
     page: &Page<'_, B>,
     file: &str,
     reader: &mut Watched<R>,
@@ -109,7 +111,7 @@ pub fn run_description<A: Allocator + Copy, B: Allocator, R: Source, W: Sink>(
         (HasUnwritablePage (page_said page.now) error file.now))) }
 {
     let input = text_from(alloc, reader)?;
-    let text = page_of(alloc, global, page, file, input.as_str())?;
+    let text = page_of(alloc, room, page, file, input.as_str())?;
     writer.write_all(text.as_bytes()).map_err(|_| Fault::Write)
 }
 
@@ -181,7 +183,7 @@ fn judge(global: Global, file: &str, text: &str) -> Result<Lines, Fault>
 // The page of the description that the text gives.
 pub(crate) fn page_of<A: Allocator + Copy, B: Allocator>(
     alloc: A,
-    global: Global,
+    room: Room,
     page: &Page<'_, B>,
     file: &str,
     text: &str,
@@ -198,10 +200,10 @@ pub(crate) fn page_of<A: Allocator + Copy, B: Allocator>(
         IfNoPage fault (λ error. HasUnwritablePage (page_said page.now) error file.now text.now)) }
 {
     let notation = notation_of(file, text);
-    let table = table_of(global, notation, text)?;
-    let mut names = Names::new(global);
-    let description = description_of(global, &mut names, &table, notation, text)?;
-    let made = rendered(alloc, global, page, &description);
+    let table = table_of(room.global, notation, text)?;
+    let mut names = Names::new(room.global);
+    let description = description_of(room.global, &mut names, &table, notation, text)?;
+    let made = rendered(alloc, room, page, &description);
     drop(description);
     made
 }

@@ -21,6 +21,7 @@ mod pages;
 pub mod places;
 pub mod program;
 pub mod reading;
+pub mod room;
 mod tables;
 mod utf8;
 pub mod words;

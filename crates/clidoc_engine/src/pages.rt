@@ -13,6 +13,7 @@ ghost use Rattle.clidoc_engine.specs.Words.{completion, html, man, markdown};
 
 use crate::faults::Fault;
 use crate::meant::meant_by;
+use crate::room::Room;
 use crate::words::{Console, Page, TitleGiven};
 use bumpalo::Bump;
 use command_pages::{
@@ -27,7 +28,7 @@ use std::alloc::{AllocError, Allocator, Global};
 /// A page of the description, made in an arena of its own.
 pub(crate) fn rendered<A: Allocator + Copy, B: Allocator>(
     alloc: A,
-    global: Global,
+    room: Room,
     page: &Page<'_, B>,
     description: &Description<'_>,
 ) -> Result<String<A>, Fault>
@@ -35,8 +36,8 @@ pub(crate) fn rendered<A: Allocator + Copy, B: Allocator>(
         IsPage (page_said page.now) (description_said description.now) (string_bytes made)) }
     ensures unmade { IfErr result (IsUnmade (page_said page.now) (description_said description.now)) }
 {
-    let arena = Bump::new(global);
-    rendered_in(alloc, &arena, global, page, description)
+    let arena = room.arena();
+    rendered_in(alloc, &arena, room.global, page, description)
 }
 
 fn rendered_in<'p, 'a: 'p, A: Allocator + Copy, B: Allocator>(

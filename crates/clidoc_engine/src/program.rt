@@ -153,7 +153,8 @@ fn terminal<R: Alloc + Env>(rt: &R) -> Result<usize, Failure> {
 // Says how it is used, where there are no words.
 fn usage<R: Alloc + Eprint>(rt: &R, global: Global, terminal: usize) -> Result<ExitCode, Failure> {
     let page = own_page(global, ConsoleForm::Usage, terminal);
-    let line = page_of(global, global, &page, STANDARD_INPUT, DESCRIPTION);
+    let room = Limits::USUAL.room(global);
+    let line = page_of(global, room, &page, STANDARD_INPUT, DESCRIPTION);
     drop(page);
     match line {
         Ok(line) => Ok(expecting(rt, line.trim_end())),
@@ -330,12 +331,18 @@ fn write_page<R: Alloc + Print, S: Read + Drop>(
 where
     R::A: Copy,
 {
+    let texts = limits.texts(rt.alloc());
+    let room = limits.room(global);
     let mut reader = bounded(input, limits.input);
     let mut writer = bounded(io::writer(rt), limits.output);
-    let outcome = run_description(rt.alloc(), global, page, file, &mut reader, &mut writer);
+    let outcome = run_description(&texts, room, page, file, &mut reader, &mut writer);
     if writer.into_inner().is_over() {
         drop(outcome);
         return Err(too_much(global, "the page is", limits.output));
+    }
+    if is_refused(&outcome) && limits.have_memory(rt.alloc(), global, &texts) {
+        drop(outcome);
+        return Err(too_much(global, "the page with what it is made of is", limits.output));
     }
     within(global, limits.input, outcome, file, reader)
 }
@@ -353,6 +360,11 @@ fn too_much(global: Global, what: &str, limit: Limit) -> Failure {
         Ok(line) => Failure::Told(line),
         Err(AllocError) => Failure::Memory,
     }
+}
+
+// Whether a growth was refused.
+fn is_refused<T>(outcome: &Result<T, Fault>) -> bool {
+    matches!(outcome, Err(Fault::Memory))
 }
 
 // What is told of a run over such a reader, of a file of this name.
@@ -429,8 +441,17 @@ where
     R::A: Copy,
 {
     enter(rt, global, folder)?;
+    let texts = limits.texts(rt.alloc());
     let mut reader = bounded(input, limits.input);
-    let outcome = make_files(rt.alloc(), global, given, file, &mut reader);
+    let outcome = make_files(&texts, limits.room(global), given, file, &mut reader);
+    if is_refused(&outcome) && limits.have_memory(rt.alloc(), global, &texts) {
+        drop(outcome);
+        return Err(too_much(
+            global,
+            "the pages with what they are made of are",
+            limits.output,
+        ));
+    }
     let files = within(global, limits.input, outcome, file, reader)?;
     if bytes_of(&files) > limits.output.bytes() {
         return Err(too_much(global, "the pages are", limits.output));

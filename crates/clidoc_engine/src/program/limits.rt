@@ -2,19 +2,27 @@
 
 use crate::echoed::Echoed;
 use crate::program::Failure;
+use crate::room::Room;
 use crate::words::columns;
-use std::alloc::Global;
+use bumpalo::Bump;
+use std::alloc::{AllocError, Allocator, Global};
 use std::env::VarError;
 use std::fmt::Display;
 use std::rt::Env;
 use std::{env, fmt};
+
+/// How many bytes of an arena a byte of a text takes at most: it leaves behind what a text has grown out of.
+const KEPT_FOR_A_BYTE: usize = 8;
+
+/// How many arenas hold at once what pages say: one the levels, and one a page.
+const ARENAS: usize = 2;
 
 /// The bounds of a run.
 #[derive(Clone, Copy)]
 pub struct Limits {
     /// Of what is read.
     pub input: Limit,
-    /// Of what is written.
+    /// Of what is written, and of what is made to write it.
     pub output: Limit,
 }
 
@@ -38,6 +46,41 @@ impl Limits {
             output: said(rt, global, Limits::USUAL.output)?,
         })
     }
+
+    /// Memory for what pages say.
+    pub fn room(self, global: Global) -> Room {
+        Room::new(global, self.output.bytes())
+    }
+
+    /// An arena for texts, those that are read and the pages. It has room for all that the bounds let through.
+    pub fn texts<A: Allocator>(self, alloc: A) -> Bump<A> {
+        let texts = Bump::new(alloc);
+        texts.set_allocation_limit(Some(self.most_kept()));
+        texts
+    }
+
+    fn most_kept(self) -> usize {
+        let bytes = self.input.bytes().saturating_add(self.output.bytes());
+        bytes.saturating_mul(KEPT_FOR_A_BYTE)
+    }
+
+    /// Whether there is memory for all that the bounds let a run ask for, so that it was a bound that refused a growth.
+    pub fn have_memory<A: Allocator + Copy>(
+        self,
+        alloc: A,
+        global: Global,
+        texts: &Bump<A>,
+    ) -> bool {
+        let said = self.output.bytes().saturating_mul(ARENAS);
+        let kept = self.most_kept().saturating_sub(texts.allocated_bytes());
+        let said = room_for(global, said);
+        let kept = room_for(alloc, kept);
+        said.is_ok() && kept.is_ok()
+    }
+}
+
+fn room_for<A: Allocator>(alloc: A, bytes: usize) -> Result<Vec<u8, A>, AllocError> {
+    Vec::with_capacity(alloc, bytes)
 }
 
 /// A bound in MiB, and the variable that says another one. It is shown as what is said of more.

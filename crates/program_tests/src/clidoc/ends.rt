@@ -6,6 +6,7 @@ use crate::stand_ins::runs::{Ending, Ends};
 use crate::stand_ins::scripts::Script;
 use clidoc_engine::engine::{check_description, run_description};
 use clidoc_engine::faults::Fault;
+use clidoc_engine::room::Room;
 use linked_list_allocator::LocalHeap;
 use std::alloc::{Allocator, Global};
 use watched::Watched;
@@ -30,7 +31,14 @@ pub fn description_ran<A: Allocator + Copy>(
     let mut reader = Watched::new(ends.reader());
     let mut writer = Watched::new(ends.writer());
     let asked = page_of(global, form);
-    let outcome = run_description(alloc, global, &asked, "-", &mut reader, &mut writer);
+    let outcome = run_description(
+        alloc,
+        Room::new(global, usize::MAX),
+        &asked,
+        "-",
+        &mut reader,
+        &mut writer,
+    );
     let ending = ending_of(&outcome);
     if ends.have_read(ending, reader) && ends.have_written(ending, writer) {
         Some(ending)

@@ -7,6 +7,7 @@ use crate::stand_ins::lines::says;
 use crate::stand_ins::runs::Ends;
 use clidoc_engine::all::make_files;
 use clidoc_engine::files::{PageFile, check_names};
+use clidoc_engine::room::Room;
 use clidoc_engine::words::TitleGiven;
 use linked_list_allocator::LocalHeap;
 use std::alloc::{AllocError, Global};
@@ -597,7 +598,13 @@ fn count_on(global: Global, budget: usize) -> Option<usize> {
         date: None,
         vendor: None,
     };
-    match make_files(&heap, global, given, "-", &mut reader) {
+    match make_files(
+        &heap,
+        Room::new(global, usize::MAX),
+        given,
+        "-",
+        &mut reader,
+    ) {
         Ok(files) => Some(files.len()),
         Err(_) => None,
     }

@@ -1,4 +1,4 @@
-//! Inputs that are longer than may be read.
+//! Inputs that are longer than may be read, and pages that are longer, or take more, than may be written.
 use crate::stand_ins::desk::Desk;
 use crate::stand_ins::runs::Ends;
 use crate::stand_ins::scripts::{Script, ScriptedReader};
@@ -6,6 +6,7 @@ use clidoc_engine::bounded::Bounded;
 use clidoc_engine::program::run;
 use linked_list_allocator::LocalHeap;
 use std::alloc::{AllocError, Global};
+use std::fmt::Write;
 use std::process::ExitCode;
 use watched::{ReadError, Watched};
 
@@ -60,7 +61,10 @@ fn no_more_is_written_than_may_be(rt: HostRuntime) {
 }
 
 // How much memory a run has here.
-const ROOM: usize = 64 << 20;
+const ROOM: usize = 256 << 20;
+
+// As much as the largest of these pages takes, but not as much as the bounds let through.
+const LITTLE: usize = 16 << 20;
 
 const MIB: usize = 1 << 20;
 
@@ -73,7 +77,19 @@ fn is_told(
     (variable, said): (&str, &str),
     line: &str,
 ) -> Result<bool, AllocError> {
-    let heap = LocalHeap::new(global, ROOM)?;
+    is_told_on(global, ROOM, words, input, (variable, said), line)
+}
+
+// The same, on so much memory.
+fn is_told_on(
+    global: Global,
+    room: usize,
+    words: &str,
+    input: &[u8],
+    (variable, said): (&str, &str),
+    line: &str,
+) -> Result<bool, AllocError> {
+    let heap = LocalHeap::new(global, room)?;
     let desk = Desk::new(global, words, Ends::new(input, b""), line);
     let desk = desk.with_variable(variable, said.as_bytes());
     let status = run(&(&desk, &heap), global);
@@ -112,6 +128,38 @@ fn is_large(global: Global) -> Result<bool, AllocError> {
 #[test]
 fn a_large_page_is_said(rt: HostRuntime) {
     assert!(rt; is_large(rt.alloc()) == Ok(true));
+}
+
+// How many help options, and how many commands, take more than a MiB on a deep page of a tenth of that.
+const MANY: usize = 60;
+
+// A description with many help options and as many commands.
+fn many(global: Global) -> Result<String, AllocError> {
+    let mut input = String::from_str(global, "name = 'a'\n")?;
+    for index in 0..MANY {
+        let _ = write!(input, "[[help_option]]\nlong = 'o{index}'\n");
+    }
+    for index in 0..MANY {
+        let _ = write!(input, "[[command]]\nname = 'c{index}'\n");
+    }
+    Ok(input)
+}
+
+// Whether the line is told of what a deep page of many takes, where there is so much memory, and nothing written.
+fn is_much(global: Global, room: usize, line: &str) -> Result<bool, AllocError> {
+    let input = many(global)?;
+    let words = "clidoc|markdown|--deep";
+    let variable = ("CLIDOC_OUTPUT_MIB", "1");
+    is_told_on(global, room, words, input.as_bytes(), variable, line)
+}
+
+#[test]
+fn a_page_that_takes_much_is_said(rt: HostRuntime) {
+    let line =
+        "clidoc: the page with what it is made of is over 1 MiB long; CLIDOC_OUTPUT_MIB sets the bound";
+    assert!(rt; is_much(rt.alloc(), ROOM, line) == Ok(true));
+    // The memory may be what refused it.
+    assert!(rt; is_much(rt.alloc(), LITTLE, "clidoc: no memory") == Ok(true));
 }
 
 // What is said to be a bound and is none, and how it is shown.

@@ -7,6 +7,7 @@ ghost use Rattle.clidoc_engine.specs.Runs.{HasPage};
 use crate::engines::AMPLE;
 use clidoc_engine::engine::run_description;
 use clidoc_engine::places::{Place, place_behind};
+use clidoc_engine::room::Room;
 use clidoc_engine::words::{Console, ConsoleForm, Extent, Page, Shell, TitleGiven};
 use description_pages::Depth;
 use linked_list_allocator::LocalHeap;
@@ -97,7 +98,14 @@ pub fn page<'a>(
 {
     let mut reader = Watched::new(input);
     let mut writer = Watched::new(Vec::new(heap));
-    let outcome = run_description(heap, global, asked, file, &mut reader, &mut writer);
+    let outcome = run_description(
+        heap,
+        Room::new(global, usize::MAX),
+        asked,
+        file,
+        &mut reader,
+        &mut writer,
+    );
     if outcome.is_ok() {
         Some(writer.into_inner())
     } else {
