@@ -58,6 +58,9 @@ pub mod line_about;
 // shown_letters
 pub mod letters_of;
 
+// json_of_descriptions
+pub mod json_writing;
+
 // help_fronts
 pub mod option_of;
 

@@ -1,0 +1,7 @@
+use Rattle.std.proofs.lemmas.Result.{on_ok_weaker}
+use Rattle.json_of_descriptions.proofs.Putting.{fields_then, object_put}
+use Rattle.json_of_descriptions.proofs.lists.put_choice.Goals as goal
+
+pub returns : goal.returns
+returns g c =
+    on_ok_weaker c.token-2.result (λ h. let w = fields_then c.in_ok-put_options.ensures c.in_ok-put_flag_unless.ensures in object_put c.in_ok-token.ensures.ok w h) c.token-2.ensures.ok

@@ -1,0 +1,14 @@
+use Rattle.std.proofs.Common.{sym, ◌∙◌}
+use Rattle.std.proofs.lemmas.Result.{on_ok_weaker}
+use Rattle.json.specs.Json.{string}
+use Rattle.json_of_descriptions.proofs.Putting.{list_none, list_put}
+use Rattle.json_of_descriptions.proofs.lists.put_words.Goals as goal
+
+pub returns-then-is_empty : goal.returns-then-is_empty
+returns-then-is_empty g c = list_none string (λ word. word.now) c.args.out.now c.args.key.now c.args.words.now.items c.as_slice-words.result.now c.as_slice-words.ensures.value (sym c.is_empty.ensures ∙ c.if-is_empty.true)
+
+pub returns : goal.returns
+returns g c =
+    on_ok_weaker c.token.result
+    (λ h. list_put string (λ word. word.now) c.args.key.now c.args.words.now.items c.as_slice-words.result.now c.as_slice-words.ensures.value (sym c.is_empty.ensures ∙ c.if-is_empty.false) c.in_ok-begin_list.ensures c.in_ok-put_each_word.ensures h)
+    c.token.ensures.ok
