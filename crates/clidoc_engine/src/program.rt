@@ -340,7 +340,7 @@ where
         drop(outcome);
         return Err(too_much(global, "the page is", limits.output));
     }
-    if is_refused(&outcome) && limits.have_memory(rt.alloc(), global, &texts) {
+    if matches!(outcome, Err(Fault::Memory)) && limits.have_memory(rt.alloc(), global, &texts) {
         drop(outcome);
         return Err(too_much(global, "the page with what it is made of is", limits.output));
     }
@@ -360,11 +360,6 @@ fn too_much(global: Global, what: &str, limit: Limit) -> Failure {
         Ok(line) => Failure::Told(line),
         Err(AllocError) => Failure::Memory,
     }
-}
-
-// Whether a growth was refused.
-fn is_refused<T>(outcome: &Result<T, Fault>) -> bool {
-    matches!(outcome, Err(Fault::Memory))
 }
 
 // What is told of a run over such a reader, of a file of this name.
@@ -435,23 +430,33 @@ fn write_all<R: Alloc + Env + Files + Eprint + RandomSource, S: Read + Drop>(
     global: Global,
     limits: Limits,
     (folder, given): (&str, TitleGiven<'_>),
-    (file, input): (&str, S),
+    input: (&str, S),
 ) -> Result<(), Failure>
 where
     R::A: Copy,
 {
     enter(rt, global, folder)?;
     let texts = limits.texts(rt.alloc());
-    let mut reader = bounded(input, limits.input);
-    let outcome = make_files(&texts, limits.room(global), given, file, &mut reader);
-    if is_refused(&outcome) && limits.have_memory(rt.alloc(), global, &texts) {
-        drop(outcome);
-        return Err(too_much(
-            global,
-            "the pages with what they are made of are",
-            limits.output,
-        ));
+    let ended = write_made(rt, global, limits, &texts, (folder, given), input);
+    if matches!(ended, Err(Failure::Memory)) && limits.have_memory(rt.alloc(), global, &texts) {
+        drop(ended);
+        let what = "the pages with what they are made of are";
+        return Err(too_much(global, what, limits.output));
     }
+    ended
+}
+
+// Makes the files in memory of their own, and writes them.
+fn write_made<R: Alloc + Files + Eprint + RandomSource, A: Allocator + Copy, S: Read + Drop>(
+    rt: &R,
+    global: Global,
+    limits: Limits,
+    texts: A,
+    (folder, given): (&str, TitleGiven<'_>),
+    (file, input): (&str, S),
+) -> Result<(), Failure> {
+    let mut reader = bounded(input, limits.input);
+    let outcome = make_files(texts, limits.room(global), given, file, &mut reader);
     let files = within(global, limits.input, outcome, file, reader)?;
     if bytes_of(&files) > limits.output.bytes() {
         return Err(too_much(global, "the pages are", limits.output));
