@@ -10,7 +10,7 @@ use Rattle.completions.specs.declared.shells.Shell.{Shell}
 use Rattle.clidoc_engine.specs.Chosen.{words_said}
 use Rattle.clidoc_engine.specs.declared.reading.WordFault.{WordFault}
 use Rattle.clidoc_engine.specs.Reading.{IsRefused}
-use Rattle.clidoc_engine.specs.Words.{Given, given_in, PageSaid, console, html, markdown, man, completion, ChoiceSaid, Chooses, ChoosesWork, Takes, Split, page, check, all, help, version, is_one_of, NamesPage, IsPageOf, IsCheck, IsAll, IsComplete}
+use Rattle.clidoc_engine.specs.Words.{Given, given_in, PageSaid, console, html, markdown, man, completion, in_json, ChoiceSaid, Chooses, ChoosesWork, Takes, Split, page, check, all, help, version, is_one_of, NamesPage, IsPageOf, IsCheck, IsAll, IsComplete, IsJson}
 
 -- ---- the first word, and those behind it
 
@@ -42,6 +42,7 @@ named terminal word g (html extent commands title) h = ap is_page_word h.0
 named terminal word g (markdown commands depth) h = ap is_page_word h.0
 named terminal word g (man commands depth title) h = ap is_page_word h.0
 named terminal word g (completion shell) h = absurd h
+named terminal word g in_json h = absurd h
 
 unnamed : (terminal : ℕ) (word : List ℕ) (g : Given) → is_page_word word ≡ false → (p : PageSaid) → ¬ NamesPage terminal word g p
 unnamed terminal word g e p h = false≢true (sym e ∙ named terminal word g p h)
@@ -58,24 +59,26 @@ module _ (terminal : ℕ) (word : List ℕ) (behind : List (List ℕ)) (g : Give
   taken_page (markdown commands depth) file h = h
   taken_page (man commands depth title) file h = h
   taken_page (completion shell) file h = absurd h.1
+  taken_page in_json file h = absurd h.1
 
-  -- the first word of a page: that of a completion, or that of another page
-  no_page : is_page_word word ≡ false → word ≢ codes "complete" → (p : PageSaid) (file : Option (List ℕ)) → ¬ Takes terminal word behind g (page p file)
-  no_page e f (completion shell) file h = f h.0
-  no_page e f (console form commands width) file h = unnamed terminal word g e (console form commands width) h.1
-  no_page e f (html extent commands title) file h = unnamed terminal word g e (html extent commands title) h.1
-  no_page e f (markdown commands depth) file h = unnamed terminal word g e (markdown commands depth) h.1
-  no_page e f (man commands depth title) file h = unnamed terminal word g e (man commands depth title) h.1
+  -- the first word of a page: that of a completion, that of JSON, or that of another page
+  no_page : is_page_word word ≡ false → word ≢ codes "complete" → word ≢ codes "json" → (p : PageSaid) (file : Option (List ℕ)) → ¬ Takes terminal word behind g (page p file)
+  no_page e f j (completion shell) file h = f h.0
+  no_page e f j in_json file h = j h.0
+  no_page e f j (console form commands width) file h = unnamed terminal word g e (console form commands width) h.1
+  no_page e f j (html extent commands title) file h = unnamed terminal word g e (html extent commands title) h.1
+  no_page e f j (markdown commands depth) file h = unnamed terminal word g e (markdown commands depth) h.1
+  no_page e f j (man commands depth title) file h = unnamed terminal word g e (man commands depth title) h.1
 
   pub only_check : word ≡ codes "check" → ((is_strict : Bool) (file : Option (List ℕ)) → ¬ IsCheck behind g is_strict file) → (choice : ChoiceSaid) → ¬ Takes terminal word behind g choice
-  only_check e none (page p file) h = no_page (ap is_page_word e) (λ f. apart word (codes "check") (codes "complete") e f refl refl) p file h
+  only_check e none (page p file) h = no_page (ap is_page_word e) (λ f. apart word (codes "check") (codes "complete") e f refl refl) (λ f. apart word (codes "check") (codes "json") e f refl refl) p file h
   only_check e none (check is_strict file) h = none is_strict file h.1
   only_check e none (all folder title file) h = apart word (codes "check") (codes "all") e h.0 refl refl
   only_check e none help h = h
   only_check e none version h = h
 
   pub only_all : word ≡ codes "all" → ((folder : List ℕ) (title : TitleGiven) (file : Option (List ℕ)) → ¬ IsAll behind g folder title file) → (choice : ChoiceSaid) → ¬ Takes terminal word behind g choice
-  only_all e none (page p file) h = no_page (ap is_page_word e) (λ f. apart word (codes "all") (codes "complete") e f refl refl) p file h
+  only_all e none (page p file) h = no_page (ap is_page_word e) (λ f. apart word (codes "all") (codes "complete") e f refl refl) (λ f. apart word (codes "all") (codes "json") e f refl refl) p file h
   only_all e none (check is_strict file) h = apart word (codes "all") (codes "check") e h.0 refl refl
   only_all e none (all folder title file) h = none folder title file h.1
   only_all e none help h = h
@@ -87,21 +90,35 @@ module _ (terminal : ℕ) (word : List ℕ) (behind : List (List ℕ)) (g : Give
   only_completion e none (page (html extent commands title) file) h = unnamed terminal word g (ap is_page_word e) (html extent commands title) h.1
   only_completion e none (page (markdown commands depth) file) h = unnamed terminal word g (ap is_page_word e) (markdown commands depth) h.1
   only_completion e none (page (man commands depth title) file) h = unnamed terminal word g (ap is_page_word e) (man commands depth title) h.1
+  only_completion e none (page in_json file) h = apart word (codes "complete") (codes "json") e h.0 refl refl
   only_completion e none (check is_strict file) h = apart word (codes "complete") (codes "check") e h.0 refl refl
   only_completion e none (all folder title file) h = apart word (codes "complete") (codes "all") e h.0 refl refl
   only_completion e none help h = h
   only_completion e none version h = h
 
-  pub only_page : word ≢ codes "check" → word ≢ codes "all" → word ≢ codes "complete" → ((p : PageSaid) (file : Option (List ℕ)) → ¬ IsPageOf terminal word behind g p file) → (choice : ChoiceSaid) → ¬ Takes terminal word behind g choice
-  only_page no_check no_all no_completion none (page (completion shell) file) h = no_completion h.0
-  only_page no_check no_all no_completion none (page (console form commands width) file) h = none (console form commands width) file h
-  only_page no_check no_all no_completion none (page (html extent commands title) file) h = none (html extent commands title) file h
-  only_page no_check no_all no_completion none (page (markdown commands depth) file) h = none (markdown commands depth) file h
-  only_page no_check no_all no_completion none (page (man commands depth title) file) h = none (man commands depth title) file h
-  only_page no_check no_all no_completion none (check is_strict file) h = no_check h.0
-  only_page no_check no_all no_completion none (all folder title file) h = no_all h.0
-  only_page no_check no_all no_completion none help h = h
-  only_page no_check no_all no_completion none version h = h
+  pub only_json : word ≡ codes "json" → ((file : Option (List ℕ)) → ¬ IsJson behind g file) → (choice : ChoiceSaid) → ¬ Takes terminal word behind g choice
+  only_json e none (page (completion shell) file) h = apart word (codes "json") (codes "complete") e h.0 refl refl
+  only_json e none (page in_json file) h = none file h.1
+  only_json e none (page (console form commands width) file) h = unnamed terminal word g (ap is_page_word e) (console form commands width) h.1
+  only_json e none (page (html extent commands title) file) h = unnamed terminal word g (ap is_page_word e) (html extent commands title) h.1
+  only_json e none (page (markdown commands depth) file) h = unnamed terminal word g (ap is_page_word e) (markdown commands depth) h.1
+  only_json e none (page (man commands depth title) file) h = unnamed terminal word g (ap is_page_word e) (man commands depth title) h.1
+  only_json e none (check is_strict file) h = apart word (codes "json") (codes "check") e h.0 refl refl
+  only_json e none (all folder title file) h = apart word (codes "json") (codes "all") e h.0 refl refl
+  only_json e none help h = h
+  only_json e none version h = h
+
+  pub only_page : word ≢ codes "check" → word ≢ codes "all" → word ≢ codes "complete" → word ≢ codes "json" → ((p : PageSaid) (file : Option (List ℕ)) → ¬ IsPageOf terminal word behind g p file) → (choice : ChoiceSaid) → ¬ Takes terminal word behind g choice
+  only_page no_check no_all no_completion no_json none (page (completion shell) file) h = no_completion h.0
+  only_page no_check no_all no_completion no_json none (page in_json file) h = no_json h.0
+  only_page no_check no_all no_completion no_json none (page (console form commands width) file) h = none (console form commands width) file h
+  only_page no_check no_all no_completion no_json none (page (html extent commands title) file) h = none (html extent commands title) file h
+  only_page no_check no_all no_completion no_json none (page (markdown commands depth) file) h = none (markdown commands depth) file h
+  only_page no_check no_all no_completion no_json none (page (man commands depth title) file) h = none (man commands depth title) file h
+  only_page no_check no_all no_completion no_json none (check is_strict file) h = no_check h.0
+  only_page no_check no_all no_completion no_json none (all folder title file) h = no_all h.0
+  only_page no_check no_all no_completion no_json none help h = h
+  only_page no_check no_all no_completion no_json none version h = h
 
 -- ---- with what the program says of itself
 

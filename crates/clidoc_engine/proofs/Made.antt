@@ -11,7 +11,8 @@ use Rattle.html_page.specs.declared.frame.Extent.{Extent}
 use Rattle.command_pages.specs.Html.{IsHtmlOf}
 use Rattle.command_pages.specs.Readings.{IsManualOf, IsMarkdownOf}
 use Rattle.clidoc_engine.specs.Rendering.{IsExact, IsPage, IsRendering}
-use Rattle.clidoc_engine.specs.Words.{PageSaid, completion, console, html, man, markdown}
+use Rattle.clidoc_engine.specs.Words.{PageSaid, completion, console, html, in_json, man, markdown}
+use Rattle.json_of_descriptions.specs.Descriptions.{IsReadBack, json_of, json_text}
 use Rattle.completions.specs.Scripts.{IsScript}
 use Rattle.completions.specs.declared.shells.Shell.{Shell}
 
@@ -21,6 +22,9 @@ a_page p d text rendering exact = record { utf8 = IsUtf8-string_bytes text; rend
 
 pub a_script : {A : Type 0} (shell : Shell) (d : DescriptionSaid) (text : String A) → IsScript shell d (string_bytes text) → IsPage (completion shell) d (string_bytes text)
 a_script shell d text reads = a_page (completion shell) d text reads tt
+
+pub a_json_text : {A : Type 0} (d : DescriptionSaid) (text : String A) → string_bytes text ≡ json_text d → IsReadBack (string_bytes text) (json_of d) → IsPage in_json d (string_bytes text)
+a_json_text d text exact reads = a_page in_json d text reads exact
 
 module _ {A : Type 0} (commands : List (List ℕ)) (d : DescriptionSaid) (s : SubjectSaid) (text : String A) (led : level_at commands d ≡ Some s) where
   pub a_console_page : (form : ConsoleForm) (width : ℕ) → string_bytes text ≡ console_page form width d.words s → IsPage (console form commands width) d (string_bytes text)

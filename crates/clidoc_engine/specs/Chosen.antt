@@ -8,7 +8,7 @@ use Rattle.clidoc_engine.specs.declared.words.Page.{Page}
 use Rattle.clidoc_engine.specs.declared.words.Page.TheVariants as of_page
 use Rattle.clidoc_engine.specs.declared.words.Choice.{Choice}
 use Rattle.clidoc_engine.specs.declared.words.Choice.TheVariants as of_choice
-use Rattle.clidoc_engine.specs.Words.{PageSaid, console, html, markdown, man, completion, ChoiceSaid, page, check, all, help, version}
+use Rattle.clidoc_engine.specs.Words.{PageSaid, console, html, markdown, man, completion, in_json, ChoiceSaid, page, check, all, help, version}
 
 abbrev pub words_said : List (Bor (List ℕ)) → List (List ℕ)
 words_said = map (λ word. word.now)
@@ -22,6 +22,7 @@ page_said (of_page.Html extent commands title) = html extent (words_said command
 page_said (of_page.Markdown commands depth) = markdown (words_said commands.items) depth
 page_said (of_page.Man commands depth title) = man (words_said commands.items) depth (title_said title)
 page_said (of_page.Completion shell) = completion shell
+page_said of_page.Json = in_json
 
 abbrev pub choice_said : {A : Type 0} → Choice A → ChoiceSaid
 choice_said (of_choice.Page p file) = page (page_said p) (text_of file)
@@ -37,3 +38,4 @@ commands_of (html extent commands title) = commands
 commands_of (markdown commands depth) = commands
 commands_of (man commands depth title) = commands
 commands_of (completion shell) = []
+commands_of in_json = []

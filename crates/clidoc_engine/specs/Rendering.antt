@@ -10,7 +10,8 @@ use Rattle.command_pages.specs.Pages.{console_page, console_page_fault, level_at
 use Rattle.command_pages.specs.Html.{IsHtmlOf, html_page_fault}
 use Rattle.command_pages.specs.Readings.{IsManualOf, IsMarkdownOf}
 use Rattle.completions.specs.Scripts.{IsScript}
-use Rattle.clidoc_engine.specs.Words.{PageSaid, console, html, markdown, man, completion}
+use Rattle.json_of_descriptions.specs.Descriptions.{IsReadBack, json_of, json_text}
+use Rattle.clidoc_engine.specs.Words.{PageSaid, console, html, markdown, man, completion, in_json}
 
 -- ---- of a page
 
@@ -25,6 +26,7 @@ IsRendering (html extent commands given) d output = AtLevel commands d (λ s. Is
 IsRendering (markdown commands depth) d output = AtLevel commands d (λ s. IsMarkdownOf depth d.words s output)
 IsRendering (man commands depth given) d output = AtLevel commands d (λ s. IsManualOf d depth given s output)
 IsRendering (completion shell) d output = IsScript shell d output
+IsRendering in_json d output = IsReadBack output (json_of d)
 
 -- exactly these bytes. Of a page in HTML its tree says all but how it is spelled.
 abbrev pub IsExact : PageSaid → DescriptionSaid → List ℕ → Type 0
@@ -33,6 +35,7 @@ IsExact (html extent commands given) d output = ⊤
 IsExact (markdown commands depth) d output = option_map (markdown_page depth d.words) (level_at commands d) ≡ Some output
 IsExact (man commands depth given) d output = option_map (manual_page d depth given) (level_at commands d) ≡ Some output
 IsExact (completion shell) d output = ⊤
+IsExact in_json d output = output ≡ json_text d
 
 -- this page of the description: a text of which both hold
 pub record IsPage (p : PageSaid) (d : DescriptionSaid) (output : List ℕ) : Type 0 where
@@ -53,3 +56,4 @@ IsUnwritable (html extent commands given) d error = AtLevel commands d (λ s. ht
 IsUnwritable (markdown commands depth) d error = AtLevel commands d (λ s. HasCharacter (markdown_page_fault depth d.words s) error)
 IsUnwritable (man commands depth given) d error = AtLevel commands d (λ s. HasCharacter (manual_page_fault d depth given s) error)
 IsUnwritable (completion shell) d error = ⊥
+IsUnwritable in_json d error = ⊥

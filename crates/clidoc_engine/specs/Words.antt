@@ -23,6 +23,7 @@ pub data PageSaid : Type 0 where
   markdown : (commands : List (List ℕ)) → Depth → PageSaid
   man : (commands : List (List ℕ)) → Depth → TitleGiven → PageSaid
   completion : Shell → PageSaid
+  in_json : PageSaid
 
 pub data ChoiceSaid : Type 0 where
   page : PageSaid → (file : Option (List ℕ)) → ChoiceSaid
@@ -215,6 +216,7 @@ NamesPage terminal word g (markdown commands depth) =
 NamesPage terminal word g (man commands depth title) =
     (word ≡ codes "man") × (commands ≡ g.commands) × (g.widths ≡ []) × IsDepth g.deeps depth × (g.fragments ≡ []) × IsTitle g title
 NamesPage terminal word g (completion shell) = ⊥
+NamesPage terminal word g in_json = ⊥
 
 abbrev pub shell_word : Shell → List ℕ
 shell_word Bash = codes "bash"
@@ -238,9 +240,13 @@ IsAll behind g folder title file = (behind ≡ option_to_list file) × HasNoLeve
 abbrev pub IsComplete : (behind : List (List ℕ)) → Given → Shell → (file : Option (List ℕ)) → Type 0
 IsComplete behind g shell file = (behind ≡ shell_word shell ∷ option_to_list file) × HasNoOption g
 
+abbrev pub IsJson : (behind : List (List ℕ)) → Given → (file : Option (List ℕ)) → Type 0
+IsJson behind g file = (behind ≡ option_to_list file) × HasNoOption g
+
 -- the word, those behind it, and the options choose this work
 abbrev pub Takes : (terminal : ℕ) → (word : List ℕ) → (behind : List (List ℕ)) → Given → ChoiceSaid → Type 0
 Takes terminal word behind g (page (completion shell) file) = (word ≡ codes "complete") × IsComplete behind g shell file
+Takes terminal word behind g (page in_json file) = (word ≡ codes "json") × IsJson behind g file
 Takes terminal word behind g (page p file) = IsPageOf terminal word behind g p file
 Takes terminal word behind g (check is_strict file) = (word ≡ codes "check") × IsCheck behind g is_strict file
 Takes terminal word behind g (all folder title file) = (word ≡ codes "all") × IsAll behind g folder title file

@@ -14,6 +14,7 @@ The program that is described may be written in any language."""
 usage = """
 clidoc FORM [--command NAME]... [--deep] [--width COLUMNS] [--fragment] [--date DATE] [--vendor TEXT] [FILE]
 clidoc complete SHELL [FILE]
+clidoc json [FILE]
 clidoc all --into FOLDER [--date DATE] [--vendor TEXT] [FILE]
 clidoc check [--strict] [FILE]"""
 footer = """
@@ -112,7 +113,7 @@ It goes with `man`, `html` and `all`."""
 
 [[positional]]
 value = "FORM"
-values = ["usage", "full", "brief", "man", "markdown", "html", "complete", "check", "all"]
+values = ["usage", "full", "brief", "man", "markdown", "html", "complete", "json", "check", "all"]
 help = """
 What is made of the description.
 
@@ -123,6 +124,7 @@ What is made of the description.
 - `markdown`: a page in markdown.
 - `html`: an HTML page with all commands below.
 - `complete`: a script that completes the words of the program in SHELL, which is `bash`, `zsh` or `fish`.
+- `json`: the description itself in JSON, with what holds where nothing is said left out.
 - `check`: no page. It is told whether FILE is a description, and what it would better say.
 - `all`: the manual page and the page in markdown of each level, and the HTML page, as files of `--into`."""
 

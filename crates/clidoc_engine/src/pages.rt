@@ -9,7 +9,7 @@ ghost use Rattle.clidoc_engine.specs.Chosen.{console_said, page_said};
 ghost use Rattle.clidoc_engine.specs.Chosen.{words_said as names_said};
 ghost use Rattle.clidoc_engine.specs.Rendering.{IsPage};
 ghost use Rattle.clidoc_engine.specs.Steps.{IsLost, IsNoCommand, IsUnmade};
-ghost use Rattle.clidoc_engine.specs.Words.{completion, html, man, markdown};
+ghost use Rattle.clidoc_engine.specs.Words.{completion, html, in_json, man, markdown};
 
 use crate::faults::Fault;
 use crate::meant::meant_by;
@@ -23,6 +23,7 @@ use command_pages::{
 use completions::{Shell, completion_script};
 use description::Description;
 use description_pages::subjects::enter;
+use json_of_descriptions::json_text;
 use std::alloc::{AllocError, Allocator, Global};
 
 /// A page of the description, made in an arena of its own.
@@ -67,6 +68,7 @@ fn rendered_in<'p, 'a: 'p, A: Allocator + Copy, B: Allocator>(
             title,
         } => as_manual(alloc, arena, global, commands, *depth, *title, description),
         Page::Completion(shell) => completing(alloc, arena, *shell, description),
+        Page::Json => as_json(alloc, description),
     }
 }
 
@@ -215,4 +217,14 @@ fn completing<'p, 'a: 'p, A: Allocator + Copy>(
 {
     let script = completion_script(arena, shell, description)?;
     Ok(String::from_str(alloc, script.as_str())?)
+}
+
+// ---- the description itself
+
+fn as_json<A: Allocator + Copy>(alloc: A, description: &Description<'_>) -> Result<String<A>, Fault>
+    ensures page { IfOk result (λ made.
+        IsPage in_json (description_said description.now) (string_bytes made)) }
+    ensures unmade { IfErr result (IsUnmade in_json (description_said description.now)) }
+{
+    Ok(json_text(alloc, description)?)
 }

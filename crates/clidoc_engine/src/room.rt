@@ -1,4 +1,4 @@
-//! Where it is made what pages say, and how much that may take.
+//! The memory of what pages say.
 
 use bumpalo::Bump;
 use std::alloc::Global;
@@ -11,7 +11,7 @@ pub struct Room {
 }
 
 impl Room {
-    /// What one page says takes so many bytes at most.
+    /// What one page says takes at most this many bytes.
     pub fn new(global: Global, most: usize) -> Room {
         Room { global, most }
     }

@@ -7,6 +7,7 @@ ghost use Rattle.clidoc_engine.specs.Chosen.{choice_said, page_said, words_said}
 ghost use Rattle.clidoc_engine.specs.Reading.{IsRefused, given_of};
 ghost use Rattle.clidoc_engine.specs.Words.{ChoiceSaid, Chooses, ChoosesWork, HasNoLevel, HasNoOption, HasNoTitle};
 ghost use Rattle.clidoc_engine.specs.Words.{HasNoWork, IsAll, IsCheck, IsColumns, IsComplete, IsDepth, IsExtent};
+ghost use Rattle.clidoc_engine.specs.Words.{IsJson};
 ghost use Rattle.clidoc_engine.specs.Words.{IsPageOf, IsStrict, IsTerminalWidth, IsTitle};
 ghost use Rattle.clidoc_engine.specs.Words.{IsWidth, NamesPage, PageSaid, Takes, form_word, is_one_of, shell_word};
 
@@ -55,6 +56,8 @@ pub enum Page<'w, A: Allocator> {
     },
     /// What completes the words of the described program in a shell.
     Completion(Shell),
+    /// The description itself, in JSON.
+    Json,
 }
 
 /// What the program does.
@@ -166,7 +169,7 @@ fn first_word<'w, A: Allocator + Copy>(
 }
 
 // What the word chooses with those behind it and the options.
-#[tactic(auto, using(crate::proofs::Choosing::only_check, crate::proofs::Choosing::only_all, crate::proofs::Choosing::only_completion, crate::proofs::Choosing::only_page))]
+#[tactic(auto, using(crate::proofs::Choosing::only_check, crate::proofs::Choosing::only_all, crate::proofs::Choosing::only_completion, crate::proofs::Choosing::only_json, crate::proofs::Choosing::only_page))]
 fn taken<'w, A: Allocator>(
     terminal: usize,
     word: &'w str,
@@ -182,6 +185,7 @@ fn taken<'w, A: Allocator>(
         "check" => judged(word, behind, given),
         "all" => all_written(word, behind, given),
         "complete" => completed(word, behind, given),
+        "json" => as_json(word, behind, given),
         _ => paged(terminal, word, behind, given),
     }
 }
@@ -287,6 +291,21 @@ fn completed<'w, A: Allocator>(
     let file = file_alone(others, false)?;
     check_alone(&given, word)?;
     Ok(Choice::Page(Page::Completion(shell), file))
+}
+
+fn as_json<'w, A: Allocator>(
+    word: &'w str,
+    behind: &[&'w str],
+    given: Given<'w, A>,
+) -> Result<Choice<'w, A>, WordFault<'w>>
+    ensures ok { (terminal : _) → IfOk result (λ choice.
+        Takes terminal (codes "json") (words_said behind.now) (given_of given.entry) (choice_said choice)) }
+    ensures err { IfErr result (λ _. (file : _)
+        → ¬ IsJson (words_said behind.now) (given_of given.entry) file) }
+{
+    let file = file_alone(behind, false)?;
+    check_alone(&given, word)?;
+    Ok(Choice::Page(Page::Json, file))
 }
 
 fn shell_named(word: &str) -> Result<Shell, WordFault<'_>>

@@ -6,8 +6,8 @@ use description_toml::words::nearest;
 use std::alloc::{AllocError, Global};
 use std::fmt::Write;
 
-const FORMS: [&str; 9] = [
-    "usage", "full", "brief", "man", "markdown", "html", "complete", "check", "all",
+const FORMS: [&str; 10] = [
+    "usage", "full", "brief", "man", "markdown", "html", "complete", "json", "check", "all",
 ];
 
 const SHELLS: [&str; 3] = ["bash", "zsh", "fish"];
