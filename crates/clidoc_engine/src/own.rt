@@ -124,7 +124,7 @@ What is made of the description.
 - `markdown`: a page in markdown.
 - `html`: an HTML page with all commands below.
 - `complete`: a script that completes the words of the program in SHELL, which is `bash`, `zsh` or `fish`.
-- `json`: the description itself in JSON, with what holds where nothing is said left out.
+- `json`: the description itself in JSON, without what is a default.
 - `check`: no page. It is told whether FILE is a description, and what it would better say.
 - `all`: the manual page and the page in markdown of each level, and the HTML page, as files of `--into`."""
 

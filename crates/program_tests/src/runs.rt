@@ -13,26 +13,27 @@ const WRONG: &str = "clidoc
 clidoc FORM [--command NAME]... [--deep] [--width COLUMNS] [--fragment] [--date DATE]
        [--vendor TEXT] [FILE]
 clidoc complete SHELL [FILE]
+clidoc json [FILE]
 clidoc all --into FOLDER [--date DATE] [--vendor TEXT] [FILE]
 clidoc check [--strict] [FILE]
 
 clidoc|--width=3
-clidoc: no form; forms are usage, full, brief, man, markdown, html, complete, check and all
+clidoc: no form; forms are usage, full, brief, man, markdown, html, complete, json, check and all
 
 clidoc|--|full
-clidoc: no form; forms are usage, full, brief, man, markdown, html, complete, check and all
+clidoc: no form; forms are usage, full, brief, man, markdown, html, complete, json, check and all
 
 clidoc|
-clidoc: no form ''; forms are usage, full, brief, man, markdown, html, complete, check and all
+clidoc: no form ''; forms are usage, full, brief, man, markdown, html, complete, json, check and all
 
 clidoc|\u{1b}[2J
-clidoc: no form \"\\u{1b}[2J\"; forms are usage, full, brief, man, markdown, html, complete, check and all
+clidoc: no form \"\\u{1b}[2J\"; forms are usage, full, brief, man, markdown, html, complete, json, check and all
 
 clidoc|Full
 clidoc: no form Full; is it full?
 
 clidoc|xml
-clidoc: no form xml; forms are usage, full, brief, man, markdown, html, complete, check and all
+clidoc: no form xml; forms are usage, full, brief, man, markdown, html, complete, json, check and all
 
 clidoc|a.toml|full
 clidoc: no form a.toml; the form comes first: clidoc full a.toml
@@ -41,10 +42,10 @@ clidoc|a b.toml|--|man
 clidoc: no form \"a b.toml\"; the form comes first: clidoc man \"a b.toml\"
 
 clidoc|--command|full|a.toml
-clidoc: no form a.toml; forms are usage, full, brief, man, markdown, html, complete, check and all
+clidoc: no form a.toml; forms are usage, full, brief, man, markdown, html, complete, json, check and all
 
 clidoc|a.toml|b.toml
-clidoc: no form a.toml; forms are usage, full, brief, man, markdown, html, complete, check and all
+clidoc: no form a.toml; forms are usage, full, brief, man, markdown, html, complete, json, check and all
 
 clidoc|help
 clidoc: no form help; is it --help?
@@ -91,8 +92,14 @@ clidoc: one word too many: b
 clidoc|complete|--command=a|zsh
 clidoc: --command is no option of complete; it goes with usage, full, brief, man, markdown and html
 
+clidoc|json|--width=3
+clidoc: --width is no option of json; it goes with usage, full and brief
+
+clidoc|json|a.toml|b.toml
+clidoc: one word too many: b.toml
+
 clidoc|page
-clidoc: no form page; forms are usage, full, brief, man, markdown, html, complete, check and all
+clidoc: no form page; forms are usage, full, brief, man, markdown, html, complete, json, check and all
 
 clidoc|--wdth|3|full
 clidoc: no option --wdth; is it --width?
@@ -164,7 +171,7 @@ clidoc|all|--into=a|--strict
 clidoc: --strict is no option of all; it goes with check
 
 clidoc|page|--strict
-clidoc: no form page; forms are usage, full, brief, man, markdown, html, complete, check and all
+clidoc: no form page; forms are usage, full, brief, man, markdown, html, complete, json, check and all
 
 clidoc|check|--strict|--strict
 clidoc: --strict stands twice
@@ -306,6 +313,27 @@ Usage: app remote add
 ====
 
 ----
+clidoc|json|-
+{
+  \"name\": \"app\",
+  \"about\": \"One\\n\\nTwo\",
+  \"command\": [
+    {
+      \"name\": \"remote\",
+      \"short\": \"r\",
+      \"command\": [
+        {
+          \"name\": \"add\",
+          \"about\": \"Adds one\"
+        }
+      ]
+    }
+  ]
+}
+
+====
+
+----
 clidoc|man|--command=r|--command=add
 .TH app-remote-add 1 \"\" \"\" \"\"
 .SH NAME
@@ -418,6 +446,7 @@ Makes pages of the description of a command line.
 Usage: clidoc FORM [--command NAME]... [--deep] [--width COLUMNS] [--fragment] [--date DATE]
               [--vendor TEXT] [FILE]
        clidoc complete SHELL [FILE]
+       clidoc json [FILE]
        clidoc all --into FOLDER [--date DATE] [--vendor TEXT] [FILE]
        clidoc check [--strict] [FILE]
 
@@ -435,13 +464,14 @@ Arguments:
                          - html: an HTML page with all commands below.
                          - complete: a script that completes the words of the program in SHELL,
                            which is bash, zsh or fish.
+                         - json: the description itself in JSON, without what is a default.
                          - check: no page. It is told whether FILE is a description, and what it
                            would better say.
                          - all: the manual page and the page in markdown of each level, and the HTML
                            page, as files of --into.
 
-                         [possible values: usage, full, brief, man, markdown, html, complete, check,
-                         all]
+                         [possible values: usage, full, brief, man, markdown, html, complete, json,
+                         check, all]
 
     FILE                 Where the description stands; - is standard input
 
@@ -691,6 +721,7 @@ const NARROW_USAGE: &str = "clidoc FORM [--command NAME]... [--deep]
        [--date DATE] [--vendor TEXT]
        [FILE]
 clidoc complete SHELL [FILE]
+clidoc json [FILE]
 clidoc all --into FOLDER [--date DATE]
        [--vendor TEXT] [FILE]
 clidoc check [--strict] [FILE]";
@@ -897,7 +928,7 @@ const FAULTY: &[Faulty] = &[
         FIRST,
         2,
         0,
-        "clidoc FORM [--command NAME]... [--deep] [--width COLUMNS] [--fragment] [--date DATE]\n       [--vendor TEXT] [FILE]\nclidoc complete SHELL [FILE]\nclidoc all --into FOLDER [--date DATE] [--vendor TEXT] [FILE]\nclidoc check [--strict] [FILE]",
+        "clidoc FORM [--command NAME]... [--deep] [--width COLUMNS] [--fragment] [--date DATE]\n       [--vendor TEXT] [FILE]\nclidoc complete SHELL [FILE]\nclidoc json [FILE]\nclidoc all --into FOLDER [--date DATE] [--vendor TEXT] [FILE]\nclidoc check [--strict] [FILE]",
     ),
     (
         "clidoc|full",
