@@ -501,13 +501,13 @@ class Tests(OverStandIn):
     def test_runs_each_example_in_each_form(self):
         calls = "".join(f"```console\n$ clidoc full app.toml\n{page}\n```\n" for page in ("read:x", "another"))
         told = self.told_of_examples({"examples/one.toml": "1\n", "examples/two.toml": "2\n"}, f"```toml\nx\n```\n{calls}")
-        self.assertEqual(told.splitlines()[-1], "28 passed, 3 failed")
+        self.assertEqual(told.splitlines()[-1], "30 passed, 3 failed")
         self.assertIn("it fails: one-man\n    it fails: two-man\n    it fails: guide-1\n", told)
 
     def test_compares_examples_in_json(self):
         examples = {"examples/one.toml": "1\n", "examples/one.json": "1\n", "examples/two.toml": "2\n", "examples/two.json": "3\n"}
         told = self.told_of_examples(examples, "```json\nx\n```\n```console\n$ clidoc full app.json\nread:x\n```\n")
-        self.assertEqual(told.splitlines()[-1], "41 passed, 17 failed")
+        self.assertEqual(told.splitlines()[-1], "44 passed, 18 failed")
         self.assertEqual(set(re.findall("it fails: ([a-z]+-one-.*)", told)), {"json-one-man"})
         self.assertNotIn("it fails: guide", told)
 
