@@ -7,14 +7,7 @@ ghost use Rattle.help_fronts.specs.Fronts as spec;
 use crate::bytes::{Class, byte_at, is_blank, last_byte, without_end};
 use crate::pieces::{first_piece, first_word, word};
 use crate::words::{
-    bare_word,
-    has_form_of_value,
-    is_bare_name,
-    is_command,
-    is_joiner,
-    is_long,
-    is_name,
-    is_short,
+    bare_word, has_form_of_value, is_bare_name, is_command, is_joiner, is_long, is_name, is_short,
     leads_on,
 };
 use std::alloc::{AllocError, Allocator};
