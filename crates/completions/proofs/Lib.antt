@@ -1,7 +1,6 @@
 pub mod Reading
 pub mod Writing
 pub mod Syntaxes
-pub mod Commas
 pub mod Tags
 pub mod Apart
 pub mod Members

@@ -4,7 +4,7 @@ use Rattle.std.proofs.Common.{refl}
 use Rattle.completions.specs.Reader.{read}
 use Rattle.completions.specs.Scripts.{tag}
 use Rattle.completions.specs.Syntax.{syntax_how, syntax_words, word_names}
-use Rattle.completions.specs.Values.{listed_values}
+use Rattle.description.specs.Values.{listed_values}
 use Rattle.completions.specs.declared.shells.Shell.TheVariants as shell
 use Rattle.completions.specs.declared.syntax.How.TheVariants as how
 
@@ -43,6 +43,7 @@ values_of_syntaxes = (refl, refl, refl, refl)
 pub values_in_lists :
     (listed_values (codes "never") ≡ codes "never" ∷ [])
     × (listed_values (codes "very fast, a,b, c") ≡ codes "very fast" ∷ codes "a,b" ∷ codes "c" ∷ [])
+unfolding listed_values
 values_in_lists = (refl, refl)
 
 pub tags_of_names :

@@ -1,7 +1,6 @@
 pub mod Content
 pub mod Syntax
 pub mod Texts
-pub mod Values
 pub mod Table
 pub mod Reader
 pub mod Written

@@ -8,7 +8,7 @@ use Rattle.description.specs.declared.hints.ValueHint.{ValueHint}
 use Rattle.completions.specs.Content.{EntrySaid, entry_words}
 use Rattle.completions.specs.Syntax.{syntax_how, syntax_words, word_names}
 use Rattle.completions.specs.Texts.{command_help, help_text}
-use Rattle.completions.specs.Values.{listed_values}
+use Rattle.description.specs.Values.{listed_values}
 use Rattle.completions.specs.declared.syntax.How.{How}
 use Rattle.completions.specs.declared.syntax.How.TheVariants as how
 

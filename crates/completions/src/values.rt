@@ -1,57 +1,14 @@
 //! The values that there may be.
-ghost use Rattle.std.specs.Prelude.{◌≡◌, ◌∷◌, ◌<◌, ◌+◌, ◌≤◌, ◌==◌, ◌&&◌, [], codes, drop};
-ghost use Rattle.std.specs.Prelude.{length, map, take};
-ghost use Rattle.std.specs.Prelude.{IfSome, MatchOption, OnOk, string_bytes};
-ghost use Rattle.std.specs.List.{slice_index};
+ghost use Rattle.std.specs.Prelude.{◌≡◌, codes, map, OnOk, string_bytes};
+ghost use Rattle.description.specs.Values.{listed_values};
 ghost use Rattle.description.specs.View.{text_of};
 ghost use Rattle.completions.specs.Table.{lone, offer, value_entries};
-ghost use Rattle.completions.specs.Values.{begins_blank, listed_values};
 ghost use Rattle.completions.specs.Written.{Writes};
 
 use crate::entries::{Entry, push_entry};
 use crate::shells::Shell;
-use description::ValueHint;
+use description::{ValueHint, split_value};
 use std::alloc::{AllocError, Allocator};
-
-fn begins_blank(bytes: &[u8]) -> bool
-    ensures { result ≡ begins_blank bytes.now }
-{
-    match bytes.first() {
-        None => false,
-        Some(first) => *first == b' ',
-    }
-}
-
-fn is_comma(byte: u8, behind: &[u8]) -> bool
-    ensures { result ≡ (byte == 44 && begins_blank behind.now) }
-{
-    byte == b',' && begins_blank(behind)
-}
-
-// Where a comma stands first that a blank follows.
-fn first_comma(bytes: &[u8]) -> Option<usize>
-    ensures { MatchOption result (listed_values bytes.now ≡ bytes.now ∷ []) (λ at. (at + 2 ≤ length bytes.now)
-        × (slice_index bytes.now at ≡ 44)
-        × (slice_index bytes.now (at + 1) ≡ 32)
-        × (listed_values bytes.now ≡ take at bytes.now ∷ listed_values (drop (at + 2) bytes.now))) }
-{
-    for (index, byte) in bytes.iter().enumerate() {
-        if is_comma(*byte, &bytes[index + 1..]) {
-            return Some(index);
-        }
-    }
-    None
-}
-
-// The first value, where others are behind it, and these.
-fn split_value(text: &str) -> Option<(&str, &str)>
-    ensures values { MatchOption result (listed_values text.now ≡ text.now ∷ [])
-        (λ p. listed_values text.now ≡ p.0.now ∷ listed_values p.1.now) }
-    ensures shorter { IfSome result (λ p. length p.1.now < length text.now) }
-{
-    let at = first_comma(text.as_bytes())?;
-    Some((&text[..at], &text[at + 2..]))
-}
 
 fn push_listed<A: Allocator>(
     out: &mut String<A>,

@@ -3,3 +3,4 @@ pub mod View
 pub mod Hints
 pub mod Words
 pub mod Calls
+pub mod Values

@@ -7,6 +7,7 @@ pub mod levels;
 pub mod options;
 pub mod positionals;
 pub mod topics;
+pub mod values;
 pub mod words;
 
 pub use descriptions::Description;
@@ -15,4 +16,5 @@ pub use levels::{Command, Group, Level};
 pub use options::{Choice, Name, Opt, Spelling};
 pub use positionals::Positional;
 pub use topics::Topic;
+pub use values::split_value;
 pub use words::FixedWords;

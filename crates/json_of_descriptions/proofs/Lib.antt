@@ -1,6 +1,6 @@
 pub mod Flags
 pub mod Nested
-pub mod Pieces
+pub mod Written
 pub mod Putting
 pub mod ReadBack
 pub mod Usual

@@ -6,7 +6,7 @@ use Rattle.json.specs.Json.{Json, string, array, boolean}
 use Rattle.json.specs.Token.{Token, key, begin_array, end_array, begin_object, end_object}
 use Rattle.json.specs.Token as token
 use Rattle.json.specs.Tree.{json_tokens, items_tokens, members_tokens}
-use Rattle.json_of_descriptions.proofs.Pieces.{are_same}
+use Rattle.description.proofs.Listed.{are_same}
 use Rattle.json_of_descriptions.specs.Fields.{Field, is_nothing, items_of, list_at, members_of, object_at, object_with, text_at}
 use Rattle.json_of_descriptions.specs.Steps.{fields_tokens, values_tokens, PutsFields, PutsValues}
 

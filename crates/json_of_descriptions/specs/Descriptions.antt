@@ -10,7 +10,7 @@ use Rattle.description.specs.Words.{WordsSaid, english}
 use Rattle.description.specs.declared.hints.ValueHint.{ValueHint}
 use Rattle.description.specs.declared.hints.ValueHint.TheVariants as hint
 use Rattle.json_of_descriptions.specs.Fields.{Field, character_at, flag_unless, list_at, object_at, object_with, optional_at, text_at, text_unless}
-use Rattle.json_of_descriptions.specs.Listed.{listed_values}
+use Rattle.json_of_descriptions.specs.Listed.{written_values}
 
 -- ---- options, choices, positional values and topics
 
@@ -25,7 +25,7 @@ spelling_fields (syntax text) = text_at (codes "syntax") text
 
 abbrev pub values_at : (key : List ℕ) → Option (List ℕ) → List Field
 values_at key None = []
-values_at key (Some text) = list_at key (map string (listed_values text))
+values_at key (Some text) = list_at key (map string (written_values text))
 
 abbrev pub hint_at : (key : List ℕ) → ValueHint → List Field
 hint_at key hint.File = []

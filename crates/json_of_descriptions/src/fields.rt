@@ -1,15 +1,16 @@
 //! Members of an object that are written only where they say something.
 ghost use Rattle.std.specs.Prelude.{◌≡◌, ◌++◌, ◌∷◌, [], Some, OnOk, map};
+ghost use Rattle.description.specs.Values.{listed_values};
 ghost use Rattle.description.specs.View.{text_of};
 ghost use Rattle.json.specs.Json.{string};
 ghost use Rattle.json.specs.Token.{begin_array, key as key_token};
 ghost use Rattle.json_of_descriptions.specs.Descriptions.{hint_at, values_at};
 ghost use Rattle.json_of_descriptions.specs.Fields.{character_at, flag_unless, optional_at, text_at, text_unless};
-ghost use Rattle.json_of_descriptions.specs.Listed.{listed_values, pieces};
+ghost use Rattle.json_of_descriptions.specs.Listed.{written_values};
 ghost use Rattle.json_of_descriptions.specs.Steps.{PutsFields, PutsValues};
 
-use crate::listed::{has_empty_piece, split_piece};
-use description::ValueHint;
+use crate::listed::has_empty_value;
+use description::{ValueHint, split_value};
 use json::{Pretty, Token};
 use std::alloc::{AllocError, Allocator};
 
@@ -97,24 +98,24 @@ pub fn begin_list<A: Allocator>(out: &mut Pretty<A>, key: &str) -> Result<(), Al
     out.token(Token::BeginArray)
 }
 
-fn put_pieces<A: Allocator>(out: &mut Pretty<A>, text: &str) -> Result<(), AllocError>
-    ensures { OnOk result (PutsValues out.old out.new (map string (pieces text.now))) }
+fn put_each<A: Allocator>(out: &mut Pretty<A>, text: &str) -> Result<(), AllocError>
+    ensures { OnOk result (PutsValues out.old out.new (map string (listed_values text.now))) }
 {
     let mut rest = text;
-    while let Some((piece, behind)) = split_piece(rest) {
-        out.token(Token::String(piece))?;
+    while let Some((value, behind)) = split_value(rest) {
+        out.token(Token::String(value))?;
         rest = behind;
     }
     out.token(Token::String(rest))
 }
 
 fn put_listed<A: Allocator>(out: &mut Pretty<A>, text: &str) -> Result<(), AllocError>
-    ensures { OnOk result (PutsValues out.old out.new (map string (listed_values text.now))) }
+    ensures { OnOk result (PutsValues out.old out.new (map string (written_values text.now))) }
 {
-    if has_empty_piece(text) {
+    if has_empty_value(text) {
         out.token(Token::String(text))
     } else {
-        put_pieces(out, text)
+        put_each(out, text)
     }
 }
 

@@ -3,7 +3,7 @@ use Rattle.std.specs.Prelude.{codes}
 use denote.Text.{Utf8}
 use denote.Shadow.{shadow}
 use Rattle.completions.specs.Table.{lone}
-use Rattle.completions.specs.Values.{listed_values}
+use Rattle.description.specs.Values.{listed_values}
 use Rattle.completions.specs.Written.{data_text}
 use Rattle.completions.proofs.values.push_listed.Given as goal
 
