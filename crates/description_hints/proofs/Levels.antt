@@ -1,5 +1,5 @@
 -- The parts of a level, put one after another.
-use Rattle.std.proofs.Common.{◌≡◌, ℕ, Bool, List, ◌++◌, flat_map, map, sym, ap, ◌∙◌, append_assoc}
+use Rattle.std.proofs.Common.{◌≡◌, ℕ, List, ◌++◌, flat_map, map, sym, ap, ◌∙◌, append_assoc}
 use Rattle.std.specs.Prelude.{codes}
 use Rattle.description.specs.View.{choice_said, commands_said, groups_said, group_said, level_said, opt_said, positional_said, topic_said}
 use Rattle.description.specs.declared.levels.Group.{Group}
@@ -13,7 +13,8 @@ use Rattle.description.specs.Content.{GroupSaid}
 use Rattle.description_usage.proofs.LevelParts.{listed_groups}
 use Rattle.description_hints.specs.Content.{Path, SiteSaid}
 use Rattle.description_hints.specs.Names.{choices_words, group_words, level_words, options_words}
-use Rattle.description_hints.specs.Sites.{choices_sites, commands_sites, groups_sites, level_sites, makes_usage, options_sites, own_texts, positionals_sites, topics_sites}
+use Rattle.description_hints.specs.Sites.{choices_sites, commands_sites, groups_sites, level_sites, standing_of, options_sites, own_texts, positionals_sites, topics_sites}
+use Rattle.description_hints.specs.declared.sites.Standing.{Standing}
 
 -- ---- lists behind one another
 
@@ -33,17 +34,17 @@ seven_put a b c d e f g s0 s1 s2 s3 s4 s5 s6 s7 h1 h2 h3 h4 h5 h6 h7 =
 -- ---- a level
 
 module _ {A : Type 0} (path : Path) (l : Level A) where
-  -- its parts, where this is whether a usage is made of it, and these are its texts
-  abbrev whole : Bool → List SiteSaid → List SiteSaid
+  -- its parts, where its options stand so, and these are its texts
+  abbrev whole : Standing → List SiteSaid → List SiteSaid
   whole b own =
       own ++ options_sites b path (codes "option") (map opt_said (out-Level A l).options.items) ++ choices_sites b path (map choice_said (out-Level A l).choices.items)
       ++ groups_sites b path 0 (groups_said (out-Level A l).groups.items) ++ positionals_sites path (map positional_said (out-Level A l).positionals.items)
       ++ commands_sites path 0 (commands_said (out-Level A l).commands.items) ++ topics_sites path (map topic_said (out-Level A l).topics.items)
 
-  level_parts : level_sites path (level_said l) ≡ whole (makes_usage (level_said l)) (own_texts path (level_said l))
-  level_parts = ap (level_sites path) (open-Level l) ∙ sym (ap (λ m. whole (makes_usage m) (own_texts path m)) (open-Level l))
+  level_parts : level_sites path (level_said l) ≡ whole (standing_of (level_said l)) (own_texts path (level_said l))
+  level_parts = ap (level_sites path) (open-Level l) ∙ sym (ap (λ m. whole (standing_of m) (own_texts path m)) (open-Level l))
 
-  parts_put : (b : Bool) (own : List SiteSaid)
+  parts_put : (b : Standing) (own : List SiteSaid)
       → (os : List Opt) (cs : List (Choice A)) (ps : List Positional) (ts : List Topic) → os ≡ (out-Level A l).options.items → cs ≡ (out-Level A l).choices.items → ps ≡ (out-Level A l).positionals.items → ts ≡ (out-Level A l).topics.items
       → (s0 s1 s2 s3 s4 s5 s6 s7 : List SiteSaid) → s1 ≡ s0 ++ own → s2 ≡ s1 ++ options_sites b path (codes "option") (map opt_said os) → s3 ≡ s2 ++ choices_sites b path (map choice_said cs)
       → s4 ≡ s3 ++ groups_sites b path 0 (groups_said (out-Level A l).groups.items) → s5 ≡ s4 ++ positionals_sites path (map positional_said ps)
@@ -55,13 +56,13 @@ module _ {A : Type 0} (path : Path) (l : Level A) where
       ∙ (λ i. s0 ++ (own ++ options_sites b path (codes "option") (map opt_said (io i)) ++ choices_sites b path (map choice_said (ic i)) ++ groups_sites b path 0 (groups_said (out-Level A l).groups.items)
       ++ positionals_sites path (map positional_said (ip i)) ++ commands_sites path 0 (commands_said (out-Level A l).commands.items) ++ topics_sites path (map topic_said (it i))))
 
-  pub level_put : (in_usage : Bool) → in_usage ≡ makes_usage (level_said l)
+  pub level_put : (standing : Standing) → standing ≡ standing_of (level_said l)
       → (os : List Opt) (cs : List (Choice A)) (ps : List Positional) (ts : List Topic) → os ≡ (out-Level A l).options.items → cs ≡ (out-Level A l).choices.items → ps ≡ (out-Level A l).positionals.items → ts ≡ (out-Level A l).topics.items
-      → (s0 s1 s2 s3 s4 s5 s6 s7 : List SiteSaid) → s1 ≡ s0 ++ own_texts path (level_said l) → s2 ≡ s1 ++ options_sites in_usage path (codes "option") (map opt_said os) → s3 ≡ s2 ++ choices_sites in_usage path (map choice_said cs)
-      → s4 ≡ s3 ++ groups_sites in_usage path 0 (groups_said (out-Level A l).groups.items) → s5 ≡ s4 ++ positionals_sites path (map positional_said ps)
+      → (s0 s1 s2 s3 s4 s5 s6 s7 : List SiteSaid) → s1 ≡ s0 ++ own_texts path (level_said l) → s2 ≡ s1 ++ options_sites standing path (codes "option") (map opt_said os) → s3 ≡ s2 ++ choices_sites standing path (map choice_said cs)
+      → s4 ≡ s3 ++ groups_sites standing path 0 (groups_said (out-Level A l).groups.items) → s5 ≡ s4 ++ positionals_sites path (map positional_said ps)
       → s6 ≡ s5 ++ commands_sites path 0 (commands_said (out-Level A l).commands.items) → s7 ≡ s6 ++ topics_sites path (map topic_said ts) → s7 ≡ s0 ++ level_sites path (level_said l)
-  level_put in_usage is os cs ps ts io ic ip it s0 s1 s2 s3 s4 s5 s6 s7 h1 h2 h3 h4 h5 h6 h7 =
-      parts_put in_usage (own_texts path (level_said l)) os cs ps ts io ic ip it s0 s1 s2 s3 s4 s5 s6 s7 h1 h2 h3 h4 h5 h6 h7
+  level_put standing is os cs ps ts io ic ip it s0 s1 s2 s3 s4 s5 s6 s7 h1 h2 h3 h4 h5 h6 h7 =
+      parts_put standing (own_texts path (level_said l)) os cs ps ts io ic ip it s0 s1 s2 s3 s4 s5 s6 s7 h1 h2 h3 h4 h5 h6 h7
       ∙ ap (λ b. s0 ++ whole b (own_texts path (level_said l))) is ∙ ap (λ more. s0 ++ more) (sym level_parts)
 
 -- ---- the words of its options

@@ -2,6 +2,7 @@
 use Rattle.std.specs.Prelude.{ℕ, List, Bool, Option}
 use Rattle.description.specs.Content.{OptSaid}
 use Rattle.description.specs.Words.{WordsSaid}
+use Rattle.description_hints.specs.declared.sites.Standing.{Standing}
 
 -- a step of a way: to what a key names, or to the table of this number in a list, counted from 0
 pub data StepSaid : Type 0 where
@@ -25,17 +26,22 @@ pub data HintSaid : Type 0 where
   different_help : (name : List ℕ) → (first : Path) → HintSaid
   no_file_name : (name : List ℕ) → HintSaid
   alike_name : (name : List ℕ) → HintSaid
+  help_name : (name : List ℕ) → HintSaid
+  marked_value : (word : List ℕ) → HintSaid
+  bracketed_name : (word : List ℕ) → HintSaid
 
 -- a hint, and the way to what it is about
 pub record WarningSaid : Type 0 where
   pub path : Path
   pub hint : HintSaid
 
--- a part of a description that hints may be about: an option with whether it stands in the usage that is made of a
--- level, and a text in place of such a usage with the words that the options of its level are called by
+-- a part of a description that hints may be about: an option with where it stands, a positional value by whether it is
+-- hidden and its word, and a text in place of the usage that is made of a level with the words that the options of its
+-- level are called by
 pub data PartSaid : Type 0 where
   application_part : (about : Option (List ℕ)) → PartSaid
-  option_part : OptSaid → (in_usage : Bool) → PartSaid
+  option_part : OptSaid → Standing → PartSaid
+  positional_part : (hidden : Bool) → (word : List ℕ) → PartSaid
   command_part : (hidden : Bool) → (help about : Option (List ℕ)) → PartSaid
   text_part : List ℕ → PartSaid
   usage_part : (text : List ℕ) → (own : List (List ℕ)) → PartSaid
@@ -45,12 +51,13 @@ pub record SiteSaid : Type 0 where
   pub path : Path
   pub part : PartSaid
 
--- what the hints about a part look at of the whole description: its fixed words, and whether an option is called by a
--- word, or one that asks for help
+-- what the hints about a part look at of the whole description: its fixed words, whether an option is called by a
+-- word, or one that asks for help, and whether pages show such a one under a name
 pub record Around : Type 0 where
   pub fixed : WordsSaid
   pub has : List ℕ → Bool
   pub asks : List ℕ → Bool
+  pub helping : List ℕ → Bool
 
 -- what an option is called, its help, and the way to the option
 pub record HelpSaid : Type 0 where

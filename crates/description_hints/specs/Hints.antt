@@ -1,19 +1,21 @@
 -- What is better said otherwise in a description: hints about each of its parts.
 use Rattle.std.specs.Prelude.{ℕ, Bool, true, false, not, ◌&&◌, ◌||◌, ◌==◌, nat_lt, List, [], ◌∷◌, ◌++◌, bytes_eq, codes, find, map, flat_map, Option, Some, None, if◌then◌else◌}
-use Rattle.std.specs.List.{starts_with}
+use Rattle.std.specs.List.{count_by, ends_with, list_any, starts_with}
 use Rattle.std.specs.Str.{chars}
 use Rattle.unicode_width.specs.Width.{str_width}
 use Rattle.page_model.specs.Content.{Piece, words, literal, value, link, page, Line, FormSaid}
-use Rattle.description.specs.Content.{OptSaid, DescriptionSaid}
+use Rattle.description.specs.Content.{NameSaid, short, long, both, SpellingSaid, named, syntax, OptSaid, DescriptionSaid}
 use Rattle.description_texts.specs.Texts.{first_paragraph, is_empty, text_blocks}
 use Rattle.description_usage.specs.Forms.{text_forms}
 use Rattle.description_usage.specs.Usage.{option_item}
 use Rattle.file_names.specs.Names.{is_file_name, name_key}
-use Rattle.description_hints.specs.Content.{Around, HelpSaid, Path, HintSaid, no_help, nothing_said, no_about, two_sentences, wide_summary, no_such_option, plain_link, wide_item, not_on_level, different_help, no_file_name, alike_name, PageSaid, WarningSaid, PartSaid, application_part, option_part, command_part, text_part, usage_part, SiteSaid}
-use Rattle.description_hints.specs.Names.{called, is_among, is_no_option, known_words, options_words}
+use Rattle.description_hints.specs.Content.{Around, HelpSaid, Path, HintSaid, no_help, nothing_said, no_about, two_sentences, wide_summary, no_such_option, plain_link, wide_item, not_on_level, different_help, no_file_name, alike_name, help_name, marked_value, bracketed_name, PageSaid, WarningSaid, PartSaid, application_part, option_part, positional_part, command_part, text_part, usage_part, SiteSaid}
+use Rattle.description_hints.specs.Names.{called, is_among, is_bracket, is_no_option, known_words, options_names, options_words, shown_names}
 use Rattle.description_hints.specs.Pages.{manual_name, markdown_name, pages, web_name}
 use Rattle.description_hints.specs.Sites.{sites, under}
 use Rattle.description_hints.specs.Texts.{blocks_of, has_turn, line_text, paragraph_text, pieces_of}
+use Rattle.description_hints.specs.declared.sites.Standing.{Standing}
+use Rattle.description_hints.specs.declared.sites.Standing.TheVariants.{ForHelp, InUsage, OutsideUsage}
 
 abbrev pub hint_if : Bool → HintSaid → List HintSaid
 hint_if true hint = hint ∷ []
@@ -86,11 +88,13 @@ abbrev pub item_columns : OptSaid → ℕ
 item_columns o = columns (line_text (option_item o.required o.repeated o))
 
 -- an option that a usage shows takes at most 60 columns there
-abbrev pub width_hints : (in_usage : Bool) → OptSaid → List HintSaid
-width_hints in_usage o = hint_if ((in_usage && not o.hidden) && nat_lt 60 (item_columns o)) (wide_item (item_columns o))
+abbrev pub item_hints : OptSaid → List HintSaid
+item_hints o = hint_if (not o.hidden && nat_lt 60 (item_columns o)) (wide_item (item_columns o))
 
-abbrev pub option_hints : (in_usage : Bool) → OptSaid → List HintSaid
-option_hints in_usage o = help_hints o ++ width_hints in_usage o
+abbrev pub width_hints : Standing → OptSaid → List HintSaid
+width_hints ForHelp o = []
+width_hints InUsage o = item_hints o
+width_hints OutsideUsage o = []
 
 -- a text in place of a usage names options of its level, or such as ask for help; `own` and `asks` tell whether one of
 -- these is called by a word
@@ -110,6 +114,62 @@ forms_hints own asks forms = flat_map (usage_piece_hints own asks) (flat_map ite
 abbrev pub usage_hints : Around → (text : List ℕ) → (own : List (List ℕ)) → List HintSaid
 usage_hints a text own = forms_hints (is_among own) a.asks (text_forms a.fixed text)
 
+-- ---- names that an option shares with one that asks for help
+
+-- an option that does not ask for help is shown under no name of one that does; `helping` tells whether one does
+abbrev pub shared_name : Option (List ℕ) → List HintSaid
+shared_name None = []
+shared_name (Some name) = help_name name ∷ []
+
+abbrev pub level_name_hints : (helping : List ℕ → Bool) → OptSaid → List HintSaid
+level_name_hints helping o = shared_name (find helping (shown_names o))
+
+abbrev pub shared_hints : (helping : List ℕ → Bool) → Standing → OptSaid → List HintSaid
+shared_hints helping ForHelp o = []
+shared_hints helping InUsage o = level_name_hints helping o
+shared_hints helping OutsideUsage o = level_name_hints helping o
+
+abbrev pub option_hints : Around → Standing → OptSaid → List HintSaid
+option_hints a standing o = help_hints o ++ width_hints standing o ++ shared_hints a.helping standing o
+
+-- ---- marks that pages set by themselves
+
+-- in a pair of brackets, the only one of its kind
+abbrev pub is_between : (opening closing : ℕ) → (word : List ℕ) → Bool
+is_between opening closing word =
+    starts_with ◌==◌ word (opening ∷ []) && (ends_with ◌==◌ word (closing ∷ []) && count_by (λ b. b == closing) word == 1)
+
+-- with dots that stand for more of the same, and not for more of a list with commas
+abbrev pub has_dots : (word : List ℕ) → Bool
+has_dots word = ends_with ◌==◌ word (codes "...") && not (ends_with ◌==◌ word (codes ",..."))
+
+abbrev pub is_marked : (word : List ℕ) → Bool
+is_marked word = (is_between 91 93 word || is_between 60 62 word) || has_dots word
+
+-- the word for a value, of what is not hidden
+abbrev pub word_warnings : Path → (hidden : Bool) → (word : List ℕ) → List WarningSaid
+word_warnings path hidden word = about_path (under path (codes "value")) (hint_if (not hidden && is_marked word) (marked_value word))
+
+abbrev pub value_warnings : Path → (hidden : Bool) → Option (List ℕ) → List WarningSaid
+value_warnings path hidden None = []
+value_warnings path hidden (Some word) = word_warnings path hidden word
+
+-- a long name with a bracket, which a syntax may have
+abbrev pub long_warnings : Path → (hidden : Bool) → (word : List ℕ) → List WarningSaid
+long_warnings path hidden word = about_path (under path (codes "long")) (hint_if (not hidden && list_any is_bracket word) (bracketed_name word))
+
+abbrev pub name_warnings : Path → (hidden : Bool) → NameSaid → List WarningSaid
+name_warnings path hidden (short c) = []
+name_warnings path hidden (long word) = long_warnings path hidden word
+name_warnings path hidden (both c word) = long_warnings path hidden word
+
+abbrev pub spelling_warnings : Path → (hidden : Bool) → SpellingSaid → List WarningSaid
+spelling_warnings path hidden (named name) = name_warnings path hidden name
+spelling_warnings path hidden (syntax text) = []
+
+abbrev pub mark_warnings : Path → OptSaid → List WarningSaid
+mark_warnings path o = spelling_warnings path o.hidden o.spelling ++ value_warnings path o.hidden o.value
+
 -- ---- one name with two helps
 
 -- of an option that pages show and that has a help
@@ -122,7 +182,8 @@ option_helps path o = if o.hidden then [] else help_at path (called o.spelling) 
 
 abbrev pub part_helps : Path → PartSaid → List HelpSaid
 part_helps path (application_part about) = []
-part_helps path (option_part o in_usage) = option_helps path o
+part_helps path (option_part o standing) = option_helps path o
+part_helps path (positional_part hidden word) = []
 part_helps path (command_part hidden help about) = []
 part_helps path (text_part said) = []
 part_helps path (usage_part text own) = []
@@ -184,9 +245,13 @@ application_warnings path about = about_path path (application_hints about) ++ s
 abbrev pub command_warnings : Path → (hidden : Bool) → (help about : Option (List ℕ)) → List WarningSaid
 command_warnings path hidden help about = about_path path (command_hints hidden help about) ++ summary_warnings path help about
 
+abbrev pub option_warnings : Around → Path → Standing → OptSaid → List WarningSaid
+option_warnings a path standing o = about_path path (option_hints a standing o) ++ mark_warnings path o
+
 abbrev pub part_warnings : Around → Path → PartSaid → List WarningSaid
 part_warnings a path (application_part about) = application_warnings path about
-part_warnings a path (option_part o in_usage) = about_path path (option_hints in_usage o)
+part_warnings a path (option_part o standing) = option_warnings a path standing o
+part_warnings a path (positional_part hidden word) = word_warnings path hidden word
 part_warnings a path (command_part hidden help about) = command_warnings path hidden help about
 part_warnings a path (text_part said) = about_path path (text_hints a.has said)
 part_warnings a path (usage_part text own) = about_path path (usage_hints a text own)
@@ -195,7 +260,7 @@ abbrev pub site_warnings : Around → SiteSaid → List WarningSaid
 site_warnings a s = part_warnings a s.path s.part
 
 abbrev pub around : DescriptionSaid → Around
-around d = record { fixed = d.words; has = is_among (known_words (sites d)); asks = is_among (options_words d.help_options) }
+around d = record { fixed = d.words; has = is_among (known_words (sites d)); asks = is_among (options_words d.help_options); helping = is_among (options_names d.help_options) }
 
 -- the hints about a description: those about each part in its turn, then those about names with two helps, and those
 -- about names of files

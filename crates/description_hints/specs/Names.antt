@@ -1,10 +1,10 @@
 -- The words that the options of a description are called by, and texts that look like an option.
-use Rattle.std.specs.Prelude.{ℕ, Bool, false, not, ◌&&◌, ◌||◌, ◌==◌, List, [], ◌∷◌, ◌++◌, codes, drop, length, map, flat_map, bytes_eq}
+use Rattle.std.specs.Prelude.{ℕ, Bool, false, not, ◌&&◌, ◌||◌, ◌==◌, List, [], ◌∷◌, ◌++◌, codes, drop, length, map, flat_map, bytes_eq, if◌then◌else◌}
 use Rattle.std.specs.Char.{encode_utf8, is_ascii_alphabetic, is_ascii_alphanumeric}
 use Rattle.std.specs.List.{before_first, list_all, list_any, prefix_len, slice_split, starts_with}
 use Rattle.description.specs.Content.{NameSaid, short, long, both, SpellingSaid, named, syntax, OptSaid, ChoiceSaid, LevelSaid, level, GroupSaid, group}
 use Rattle.description_usage.specs.Usage.{group_list}
-use Rattle.description_hints.specs.Content.{PartSaid, application_part, option_part, command_part, text_part, usage_part, SiteSaid}
+use Rattle.description_hints.specs.Content.{PartSaid, application_part, option_part, positional_part, command_part, text_part, usage_part, SiteSaid}
 
 -- ---- bytes
 
@@ -51,7 +51,8 @@ spelling_words (syntax text) = syntax_words text
 
 abbrev pub part_words : PartSaid → List (List ℕ)
 part_words (application_part about) = []
-part_words (option_part o in_usage) = spelling_words o.spelling
+part_words (option_part o standing) = spelling_words o.spelling
+part_words (positional_part hidden word) = []
 part_words (command_part hidden help about) = []
 part_words (text_part said) = []
 part_words (usage_part text own) = []
@@ -92,6 +93,23 @@ called_name (both c word) = codes "--" ++ word
 abbrev pub called : SpellingSaid → List ℕ
 called (named name) = called_name name
 called (syntax text) = text
+
+-- ---- the names under which pages show an option, with the dashes; a syntax counts as none
+
+abbrev pub dashed_names : NameSaid → List (List ℕ)
+dashed_names (short c) = called_name (short c) ∷ []
+dashed_names (long word) = called_name (long word) ∷ []
+dashed_names (both c word) = called_name (short c) ∷ called_name (long word) ∷ []
+
+abbrev pub spelled_names : SpellingSaid → List (List ℕ)
+spelled_names (named name) = dashed_names name
+spelled_names (syntax text) = []
+
+abbrev pub shown_names : OptSaid → List (List ℕ)
+shown_names o = if o.hidden then [] else spelled_names o.spelling
+
+abbrev pub options_names : List OptSaid → List (List ℕ)
+options_names os = flat_map shown_names os
 
 -- ---- texts that look like an option, as `-x`, `--word` and `--word=VALUE`
 

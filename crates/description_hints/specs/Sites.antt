@@ -1,8 +1,10 @@
 -- The parts of a description that hints may be about, each with the way to it, as its table stands in TOML.
-use Rattle.std.specs.Prelude.{ℕ, ◌+◌, Bool, false, List, [], ◌∷◌, ◌++◌, codes, Option, Some, None, is_none}
+use Rattle.std.specs.Prelude.{ℕ, ◌+◌, List, [], ◌∷◌, ◌++◌, codes, Option, Some, None}
 use Rattle.description.specs.Content.{OptSaid, ChoiceSaid, PositionalSaid, TopicSaid, TextsSaid, LevelSaid, level, GroupsSaid, no_groups, groups, GroupSaid, group, CommandsSaid, no_commands, commands, CommandSaid, command, DescriptionSaid}
-use Rattle.description_hints.specs.Content.{key, index, Path, PartSaid, application_part, option_part, command_part, text_part, usage_part, SiteSaid}
+use Rattle.description_hints.specs.Content.{key, index, Path, PartSaid, application_part, option_part, positional_part, command_part, text_part, usage_part, SiteSaid}
 use Rattle.description_hints.specs.Names.{level_words}
+use Rattle.description_hints.specs.declared.sites.Standing.{Standing}
+use Rattle.description_hints.specs.declared.sites.Standing.TheVariants.{ForHelp, InUsage, OutsideUsage}
 
 -- what comes of each of a list, by its number, one behind the other
 abbrev pub numbered : {A B : Type 0} → (ℕ → A → List B) → ℕ → List A → List B
@@ -50,30 +52,38 @@ abbrev pub own_texts : Path → LevelSaid → List SiteSaid
 own_texts path (level texts required options choices gs positionals subcommands) =
     texts_sites path texts (level_words (level texts required options choices gs positionals subcommands))
 
--- whether a usage is made of the level, since no text stands in its place
-abbrev pub makes_usage : LevelSaid → Bool
-makes_usage (level texts required options choices gs positionals subcommands) = is_none texts.usage
+-- where the options of a level stand: in the usage that is made of it, unless a text stands in its place
+abbrev pub standing_by : (usage : Option (List ℕ)) → Standing
+standing_by None = InUsage
+standing_by (Some text) = OutsideUsage
+
+abbrev pub standing_of : LevelSaid → Standing
+standing_of (level texts required options choices gs positionals subcommands) = standing_by texts.usage
 
 -- ---- what a level has
 
 -- an option, and its help
-abbrev pub option_sites : (in_usage : Bool) → Path → OptSaid → List SiteSaid
-option_sites in_usage path o = site path (option_part o in_usage) ∷ text_sites path (codes "help") o.help
+abbrev pub option_sites : Standing → Path → OptSaid → List SiteSaid
+option_sites standing path o = site path (option_part o standing) ∷ text_sites path (codes "help") o.help
 
-abbrev pub listed_option : (in_usage : Bool) → Path → (list : List ℕ) → ℕ → OptSaid → List SiteSaid
-listed_option in_usage path list n o = option_sites in_usage (table_in path list n) o
+abbrev pub listed_option : Standing → Path → (list : List ℕ) → ℕ → OptSaid → List SiteSaid
+listed_option standing path list n o = option_sites standing (table_in path list n) o
 
-abbrev pub options_sites : (in_usage : Bool) → Path → (list : List ℕ) → List OptSaid → List SiteSaid
-options_sites in_usage path list options = numbered (listed_option in_usage path list) 0 options
+abbrev pub options_sites : Standing → Path → (list : List ℕ) → List OptSaid → List SiteSaid
+options_sites standing path list options = numbered (listed_option standing path list) 0 options
 
-abbrev pub choice_sites : (in_usage : Bool) → Path → ℕ → ChoiceSaid → List SiteSaid
-choice_sites in_usage path n choice = options_sites in_usage (table_in path (codes "choice") n) (codes "option") choice.options
+abbrev pub choice_sites : Standing → Path → ℕ → ChoiceSaid → List SiteSaid
+choice_sites standing path n choice = options_sites standing (table_in path (codes "choice") n) (codes "option") choice.options
 
-abbrev pub choices_sites : (in_usage : Bool) → Path → List ChoiceSaid → List SiteSaid
-choices_sites in_usage path choices = numbered (choice_sites in_usage path) 0 choices
+abbrev pub choices_sites : Standing → Path → List ChoiceSaid → List SiteSaid
+choices_sites standing path choices = numbered (choice_sites standing path) 0 choices
+
+-- a positional value, and its help
+abbrev pub value_sites : Path → PositionalSaid → List SiteSaid
+value_sites path p = site path (positional_part p.hidden p.value) ∷ text_sites path (codes "help") p.help
 
 abbrev pub positional_sites : Path → ℕ → PositionalSaid → List SiteSaid
-positional_sites path n positional = text_sites (table_in path (codes "positional") n) (codes "help") positional.help
+positional_sites path n positional = value_sites (table_in path (codes "positional") n) positional
 
 abbrev pub positionals_sites : Path → List PositionalSaid → List SiteSaid
 positionals_sites path positionals = numbered (positional_sites path) 0 positionals
@@ -87,18 +97,18 @@ abbrev mutual
   pub level_sites : Path → LevelSaid → List SiteSaid
   level_sites path (level texts required options choices gs positionals subcommands) =
       own_texts path (level texts required options choices gs positionals subcommands)
-      ++ options_sites (is_none texts.usage) path (codes "option") options ++ choices_sites (is_none texts.usage) path choices
-      ++ groups_sites (is_none texts.usage) path 0 gs ++ positionals_sites path positionals ++ commands_sites path 0 subcommands
+      ++ options_sites (standing_by texts.usage) path (codes "option") options ++ choices_sites (standing_by texts.usage) path choices
+      ++ groups_sites (standing_by texts.usage) path 0 gs ++ positionals_sites path positionals ++ commands_sites path 0 subcommands
       ++ topics_sites path texts.topics
 
-  pub groups_sites : (in_usage : Bool) → Path → ℕ → GroupsSaid → List SiteSaid
-  groups_sites in_usage path n no_groups = []
-  groups_sites in_usage path n (groups first others) =
-      group_sites in_usage (table_in path (codes "group") n) first ++ groups_sites in_usage path (n + 1) others
+  pub groups_sites : Standing → Path → ℕ → GroupsSaid → List SiteSaid
+  groups_sites standing path n no_groups = []
+  groups_sites standing path n (groups first others) =
+      group_sites standing (table_in path (codes "group") n) first ++ groups_sites standing path (n + 1) others
 
-  pub group_sites : (in_usage : Bool) → Path → GroupSaid → List SiteSaid
-  group_sites in_usage path (group title options choices positionals subcommands) =
-      options_sites in_usage path (codes "option") options ++ choices_sites in_usage path choices
+  pub group_sites : Standing → Path → GroupSaid → List SiteSaid
+  group_sites standing path (group title options choices positionals subcommands) =
+      options_sites standing path (codes "option") options ++ choices_sites standing path choices
       ++ positionals_sites path positionals ++ commands_sites path 0 subcommands
 
   pub commands_sites : Path → ℕ → CommandsSaid → List SiteSaid
@@ -112,4 +122,4 @@ abbrev mutual
 
 -- the application, the options that ask for help, which stand in no usage, and what the top level has
 abbrev pub sites : DescriptionSaid → List SiteSaid
-sites d = site [] (application_part (about_of d.level)) ∷ options_sites false [] (codes "help_option") d.help_options ++ level_sites [] d.level
+sites d = site [] (application_part (about_of d.level)) ∷ options_sites ForHelp [] (codes "help_option") d.help_options ++ level_sites [] d.level

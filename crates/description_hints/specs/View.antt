@@ -6,7 +6,7 @@ use Rattle.keyed.specs.declared.step.Step.{Step}
 use Rattle.keyed.specs.declared.step.Step.TheVariants.{Key, Index}
 use Rattle.description.specs.View.{opt_said, text_of}
 use Rattle.description.specs.Words as of_words
-use Rattle.description_hints.specs.Content.{Around, HelpSaid, StepSaid, key, index, Path, HintSaid, no_help, nothing_said, no_about, two_sentences, wide_summary, no_such_option, plain_link, wide_item, not_on_level, different_help, no_file_name, alike_name, PageSaid, WarningSaid, PartSaid, application_part, option_part, command_part, text_part, usage_part, SiteSaid}
+use Rattle.description_hints.specs.Content.{Around, HelpSaid, StepSaid, key, index, Path, HintSaid, no_help, nothing_said, no_about, two_sentences, wide_summary, no_such_option, plain_link, wide_item, not_on_level, different_help, no_file_name, alike_name, help_name, marked_value, bracketed_name, PageSaid, WarningSaid, PartSaid, application_part, option_part, positional_part, command_part, text_part, usage_part, SiteSaid}
 use Rattle.description_hints.specs.declared.around.Around as of_around
 use Rattle.description_hints.specs.declared.helps.NamedHelp.{NamedHelp}
 use Rattle.description_hints.specs.declared.hints.Hint.{Hint}
@@ -41,13 +41,17 @@ hint_said (hint.NotOnLevel word) = not_on_level word.now
 hint_said (hint.DifferentHelp name first) = different_help name.now (path_said first.now)
 hint_said (hint.NoFileName name) = no_file_name name.now
 hint_said (hint.AlikeName name) = alike_name name.now
+hint_said (hint.HelpName name) = help_name name.now
+hint_said (hint.MarkedValue word) = marked_value word.now
+hint_said (hint.BracketedName word) = bracketed_name word.now
 
 abbrev pub warning_said : Warning → WarningSaid
 warning_said w = record { path = path_said w.path.now; hint = hint_said w.hint }
 
 abbrev pub part_said : Part → PartSaid
 part_said (part.Application about) = application_part (text_of about)
-part_said (part.Option o in_usage) = option_part (opt_said o) in_usage
+part_said (part.Option o standing) = option_part (opt_said o) standing
+part_said (part.Positional hidden word) = positional_part hidden word.now
 part_said (part.Command hidden help about) = command_part hidden (text_of help) (text_of about)
 part_said (part.Text said) = text_part said.now
 part_said (part.Usage said own) = usage_part said.now (words_said own.now)
@@ -60,7 +64,7 @@ abbrev pub holds : Known → (word : List ℕ) → Bool
 holds known word = list_any (λ held. bytes_eq word held.now) known.words.keys
 
 abbrev pub around_said : of_around.Around → Around
-around_said a = record { fixed = of_words.words_said a.fixed; has = holds a.known; asks = holds a.asking }
+around_said a = record { fixed = of_words.words_said a.fixed; has = holds a.known; asks = holds a.asking; helping = holds a.helping }
 
 abbrev pub help_said : NamedHelp → HelpSaid
 help_said h = record { name = h.name.now; help = h.help.now; path = path_said h.path.now }

@@ -2,24 +2,26 @@
 ghost use Rattle.std.specs.Prelude.{◌≡◌, ℕ, List, map, IfOk};
 ghost use Rattle.description.specs.View.{description_said};
 ghost use Rattle.description_hints.specs.Hints.{around};
-ghost use Rattle.description_hints.specs.Names.{is_among, options_words};
+ghost use Rattle.description_hints.specs.Names.{is_among, options_names, options_words};
 ghost use Rattle.description_hints.specs.Sites.{sites};
 ghost use Rattle.description_hints.specs.View.{around_said, holds, site_said};
 
 use crate::known::{Known, Words, known_in};
 use crate::level_words::push_options;
+use crate::shared::push_names;
 use crate::sites::Site;
 use bumpalo::Bump;
 use description::{Description, FixedWords};
 use std::alloc::{AllocError, Allocator};
 
-/// The fixed words of a description, the words that its options are called by, and those of the options that ask for
-/// help.
+/// The fixed words of a description, the words that its options are called by, those of the options that ask for help,
+/// and the names under which pages show these.
 #[derive(Drop)]
 pub struct Around<'p> {
     pub fixed: FixedWords<'p>,
     pub known: Known<'p>,
     pub asking: Known<'p>,
+    pub helping: Known<'p>,
 }
 
 // The words of the options that ask for help.
@@ -35,6 +37,19 @@ fn asking_in<'p, 'a: 'p, C: Allocator>(
     known_in(arena, words.as_slice())
 }
 
+// The names under which pages show the options that ask for help.
+fn helping_in<'p, 'a: 'p, C: Allocator>(
+    arena: &'p Bump,
+    description: &'p Description<'a, C>,
+) -> Result<Known<'p>, AllocError>
+    ensures { IfOk result (λ helping. (name : List ℕ) → holds helping name
+        ≡ is_among (options_names (description_said description.now).help_options) name) }
+{
+    let mut names: Words<'p> = Vec::new(arena);
+    push_names(arena, &mut names, description.help_options.as_slice())?;
+    known_in(arena, names.as_slice())
+}
+
 /// What hints look at of a description that has these parts. An error comes only where an allocation failed.
 pub fn around_of<'p, 'a: 'p, C: Allocator>(
     arena: &'p Bump,
@@ -46,9 +61,11 @@ pub fn around_of<'p, 'a: 'p, C: Allocator>(
 {
     let known = Known::of(arena, parts)?;
     let asking = asking_in(arena, description)?;
+    let helping = helping_in(arena, description)?;
     Ok(Around {
         fixed: description.words,
         known,
         asking,
+        helping,
     })
 }

@@ -31,7 +31,8 @@ type Helps<'p> = Vec<NamedHelp<'p>, &'p Bump>;
 
 // ---- what an option is called
 
-fn short_name<'p>(arena: &'p Bump, short: char) -> Result<&'p str, AllocError>
+/// A short name with its dash. An error comes only where an allocation failed.
+pub fn short_name<'p>(arena: &'p Bump, short: char) -> Result<&'p str, AllocError>
     ensures { IfOk result (λ name. name.now ≡ codes "-" ++ encode_utf8 short) }
 {
     let mut name = String::new(arena);
@@ -40,7 +41,8 @@ fn short_name<'p>(arena: &'p Bump, short: char) -> Result<&'p str, AllocError>
     arena.try_alloc_str(name.as_str())
 }
 
-fn long_name<'p>(arena: &'p Bump, long: &str) -> Result<&'p str, AllocError>
+/// A long name with its dashes. An error comes only where an allocation failed.
+pub fn long_name<'p>(arena: &'p Bump, long: &str) -> Result<&'p str, AllocError>
     ensures { IfOk result (λ name. name.now ≡ codes "--" ++ long.now) }
 {
     let mut name = String::new(arena);
@@ -109,7 +111,11 @@ fn push_site<'p>(arena: &'p Bump, helps: &mut Helps<'p>, site: &Site<'p>) -> Res
 {
     match site.part {
         Part::Option(option, _) => push_option(arena, helps, site.path, option),
-        Part::Application(_) | Part::Command(_, _, _) | Part::Text(_) | Part::Usage(_, _) => Ok(()),
+        Part::Application(_)
+        | Part::Positional(_, _)
+        | Part::Command(_, _, _)
+        | Part::Text(_)
+        | Part::Usage(_, _) => Ok(()),
     }
 }
 

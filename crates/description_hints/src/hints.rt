@@ -34,6 +34,12 @@ pub enum Hint<'a> {
     NoFileName(&'a str),
     /// Some folders take the page of this name for one before it.
     AlikeName(&'a str),
+    /// An option that asks for help is shown under this name too.
+    HelpName(&'a str),
+    /// The word for a value has brackets or dots around it, which pages set by themselves.
+    MarkedValue(&'a str),
+    /// This long name has a bracket.
+    BracketedName(&'a str),
 }
 
 impl Display for Hint<'_> {
@@ -61,6 +67,19 @@ impl Display for Hint<'_> {
             Hint::NoFileName(name) => write!(f, "no file may be called {}", Brief(*name)),
             Hint::AlikeName(name) => {
                 write!(f, "some folders take its page {} for another", Brief(*name))
+            }
+            Hint::HelpName(name) => write!(f, "a help option is called {} too", Brief(*name)),
+            Hint::MarkedValue(word) => write!(
+                f,
+                "{} needs no brackets or dots: pages set them, by required and repeated",
+                Brief(*word)
+            ),
+            Hint::BracketedName(word) => {
+                write!(
+                    f,
+                    "the name {} has a bracket; write it as syntax",
+                    Brief(*word)
+                )
             }
         }
     }

@@ -4,7 +4,7 @@ ghost use Rattle.std.specs.Prelude.{IfOk, MatchOption, OnOk};
 ghost use Rattle.std.specs.Char.{encode_utf8, is_ascii_alphabetic};
 ghost use Rattle.std.specs.List.{list_all, position_or_len, prefix_len, slice_split};
 ghost use Rattle.description.specs.View.{name_said, spelling_said};
-ghost use Rattle.description_hints.specs.Names.{begins, is_among, is_dash, is_equals, is_known, is_long_form};
+ghost use Rattle.description_hints.specs.Names.{begins, is_among, is_bracket, is_dash, is_equals, is_known, is_long_form};
 ghost use Rattle.description_hints.specs.Names.{is_no_option, is_separator, is_short_form, is_word, is_word_byte};
 ghost use Rattle.description_hints.specs.Names.{known_words, looks_like_option, name_in, name_words, part_words};
 ghost use Rattle.description_hints.specs.Names.{spelling_words, syntax_words, without_dashes};
@@ -15,6 +15,13 @@ use bumpalo::Bump;
 use description::{Name, Spelling};
 use std::alloc::AllocError;
 use std::collections::BTreeSet;
+
+/// Whether a byte is one of `[ ] ( ) < > { }`.
+pub fn is_bracket(byte: u8) -> bool
+    ensures { result ≡ is_bracket byte }
+{
+    matches!(byte, b'[' | b']' | b'(' | b')' | b'<' | b'>' | b'{' | b'}')
+}
 
 fn is_separator(byte: u8) -> bool
     ensures { result ≡ is_separator byte }
@@ -132,7 +139,11 @@ fn push_part<'p>(arena: &'p Bump, words: &mut Words<'p>, part: Part<'p>) -> Resu
 {
     match part {
         Part::Option(option, _) => push_spelling(arena, words, option.spelling),
-        Part::Application(_) | Part::Command(_, _, _) | Part::Text(_) | Part::Usage(_, _) => Ok(()),
+        Part::Application(_)
+        | Part::Positional(_, _)
+        | Part::Command(_, _, _)
+        | Part::Text(_)
+        | Part::Usage(_, _) => Ok(()),
     }
 }
 

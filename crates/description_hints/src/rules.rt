@@ -6,7 +6,8 @@ ghost use Rattle.description.specs.View.{opt_said, text_of};
 ghost use Rattle.description_hints.specs.Hints.{about_path, application_warnings, command_warnings, hint_if};
 ghost use Rattle.description_hints.specs.Hints.{forms_hints, help_hints, is_missing, is_plain, item_columns};
 ghost use Rattle.description_hints.specs.Hints.{item_pieces, option_hints, part_warnings, piece_hints, summary_hints};
-ghost use Rattle.description_hints.specs.Hints.{summary_warnings, text_hints, usage_hints, usage_piece_hints, width_hints};
+ghost use Rattle.description_hints.specs.Hints.{level_name_hints, option_warnings, shared_hints, summary_warnings, text_hints, usage_hints};
+ghost use Rattle.description_hints.specs.Hints.{item_hints, usage_piece_hints, width_hints};
 ghost use Rattle.description_hints.specs.Texts.{blocks_of};
 ghost use Rattle.description_hints.specs.View.{around_said, hint_said, holds, part_said, path_said, warning_said};
 ghost use Rattle.description_hints.specs.View.{words_said};
@@ -14,8 +15,10 @@ ghost use Rattle.description_hints.specs.View.{words_said};
 use crate::around::Around;
 use crate::hints::{Hint, Warning};
 use crate::known::{Known, known_in};
+use crate::marks::{push_marks, push_word};
 use crate::pieces::{item_pieces, pieces_of};
-use crate::sites::{Part, under};
+use crate::shared::shared_name;
+use crate::sites::{Part, Standing, under};
 use crate::texts::{has_turn, line_text, paragraph_text};
 use bumpalo::Bump;
 use description::Opt;
@@ -260,22 +263,73 @@ fn item_columns<'p>(arena: &'p Bump, option: &Opt<'p>) -> Result<usize, AllocErr
     Ok(text.width())
 }
 
+fn push_item<'p>(
+    arena: &'p Bump,
+    found: &mut Warnings<'p>,
+    path: &'p [Step<'p>],
+    option: &Opt<'p>,
+) -> Result<(), AllocError>
+    ensures { OnOk result (map warning_said found.new.items ≡ map warning_said found.old.items
+        ++ about_path (path_said path.now) (item_hints (opt_said option.now))) }
+{
+    if option.hidden {
+        return Ok(());
+    }
+    let columns = item_columns(arena, option)?;
+    push_if(found, path, columns > 60, Hint::WideItem(columns))
+}
+
 fn push_width<'p>(
     arena: &'p Bump,
     found: &mut Warnings<'p>,
     path: &'p [Step<'p>],
     option: &Opt<'p>,
-    in_usage: bool,
+    standing: Standing,
 ) -> Result<(), AllocError>
     ensures { OnOk result (map warning_said found.new.items ≡ map warning_said found.old.items
-        ++ about_path (path_said path.now) (width_hints in_usage (opt_said option.now))) }
+        ++ about_path (path_said path.now) (width_hints standing (opt_said option.now))) }
 {
-    let is_shown = in_usage && !option.hidden;
-    if !is_shown {
-        return Ok(());
+    match standing {
+        Standing::InUsage => push_item(arena, found, path, option),
+        Standing::ForHelp | Standing::OutsideUsage => Ok(()),
     }
-    let columns = item_columns(arena, option)?;
-    push_if(found, path, columns > 60, Hint::WideItem(columns))
+}
+
+// ---- names that an option shares with one that asks for help
+
+fn push_level_name<'p>(
+    arena: &'p Bump,
+    found: &mut Warnings<'p>,
+    helping: &Known<'p>,
+    path: &'p [Step<'p>],
+    option: &Opt<'p>,
+) -> Result<(), AllocError>
+    ensures { OnOk result (map warning_said found.new.items ≡ map warning_said found.old.items
+        ++ about_path (path_said path.now) (level_name_hints (holds helping.now) (opt_said option.now))) }
+{
+    match shared_name(arena, helping, option)? {
+        Some(name) => push_if(found, path, true, Hint::HelpName(name)),
+        None => Ok(()),
+    }
+}
+
+fn push_shared<'p>(
+    arena: &'p Bump,
+    found: &mut Warnings<'p>,
+    helping: &Known<'p>,
+    path: &'p [Step<'p>],
+    option: &Opt<'p>,
+    standing: Standing,
+) -> Result<(), AllocError>
+    ensures { OnOk result (map warning_said found.new.items ≡ map warning_said found.old.items
+        ++ about_path (path_said path.now) (shared_hints (holds helping.now) standing (opt_said option.now))) }
+{
+    match standing {
+        Standing::ForHelp => Ok(()),
+        Standing::InUsage | Standing::OutsideUsage => {
+            push_level_name(arena, found, helping, path, option)
+        }
+    }
 }
 
 // ---- all of them
@@ -293,19 +347,36 @@ fn push_application<'p>(
     push_about(arena, found, path, about)
 }
 
-fn push_option<'p>(
+fn push_own<'p>(
     arena: &'p Bump,
     found: &mut Warnings<'p>,
+    around: &Around<'p>,
     path: &'p [Step<'p>],
     option: &Opt<'p>,
-    in_usage: bool,
+    standing: Standing,
 ) -> Result<(), AllocError>
     ensures { OnOk result (map warning_said found.new.items ≡ map warning_said found.old.items
-        ++ about_path (path_said path.now) (option_hints in_usage (opt_said option.now))) }
+        ++ about_path (path_said path.now) (option_hints (around_said around.now) standing (opt_said option.now))) }
 {
     let is_missing = !option.hidden && is_missing(option.help);
     push_if(found, path, is_missing, Hint::NoHelp)?;
-    push_width(arena, found, path, option, in_usage)
+    push_width(arena, found, path, option, standing)?;
+    push_shared(arena, found, &around.helping, path, option, standing)
+}
+
+fn push_option<'p>(
+    arena: &'p Bump,
+    found: &mut Warnings<'p>,
+    around: &Around<'p>,
+    path: &'p [Step<'p>],
+    option: &Opt<'p>,
+    standing: Standing,
+) -> Result<(), AllocError>
+    ensures { OnOk result (map warning_said found.new.items ≡ map warning_said found.old.items
+        ++ option_warnings (around_said around.now) (path_said path.now) standing (opt_said option.now)) }
+{
+    push_own(arena, found, around, path, option, standing)?;
+    push_marks(arena, found, path, option)
 }
 
 fn push_command<'p>(
@@ -337,7 +408,10 @@ pub fn push_part<'p>(
 {
     match part {
         Part::Application(about) => push_application(arena, found, path, about),
-        Part::Option(option, in_usage) => push_option(arena, found, path, &option, in_usage),
+        Part::Option(option, standing) => {
+            push_option(arena, found, around, path, &option, standing)
+        }
+        Part::Positional(is_hidden, word) => push_word(arena, found, path, is_hidden, word),
         Part::Command(is_hidden, help, about) => {
             push_command(arena, found, path, is_hidden, help, about)
         }

@@ -8,7 +8,7 @@ ghost use Rattle.description_hints.specs.Names.{level_words};
 ghost use Rattle.description_hints.specs.Sites.{choice_sites, choices_sites, command_sites, commands_sites};
 ghost use Rattle.description_hints.specs.Sites.{group_sites, groups_sites, level_sites, option_sites, options_sites};
 ghost use Rattle.description_hints.specs.Sites.{positional_sites, positionals_sites, sites, table_in, text_sites, topics_sites, under};
-ghost use Rattle.description_hints.specs.Sites.{makes_usage, own_texts, usage_sites};
+ghost use Rattle.description_hints.specs.Sites.{own_texts, standing_of, usage_sites, value_sites};
 ghost use Rattle.description_hints.specs.View.{part_said, path_said, site_said};
 
 use crate::level_words::level_words;
@@ -18,13 +18,26 @@ use description::{Choice, Command, Description, Group, Level, Opt, Positional, T
 use keyed::Step;
 use std::alloc::{AllocError, Allocator};
 
+/// Where an option stands.
+#[derive(Clone, Copy)]
+pub enum Standing {
+    /// Among those that ask for help.
+    ForHelp,
+    /// In the usage that is made of its level.
+    InUsage,
+    /// On a level that has a text in place of such a usage.
+    OutsideUsage,
+}
+
 /// A part of a description that hints may be about.
 #[derive(Clone, Copy)]
 pub enum Part<'p> {
     /// The application, by what is said about it.
     Application(Option<&'p str>),
-    /// An option, and whether it stands in the usage that is made of a level.
-    Option(Opt<'p>, bool),
+    /// An option, and where it stands.
+    Option(Opt<'p>, Standing),
+    /// A positional value, by whether it is hidden, and its word.
+    Positional(bool, &'p str),
     /// A command, by whether it is hidden, its help, and what is said about it.
     Command(bool, Option<&'p str>, Option<&'p str>),
     Text(&'p str),
@@ -148,14 +161,14 @@ fn push_topics<'p>(
 fn push_option<'p>(
     arena: &'p Bump,
     sites: &mut Sites<'p>,
-    in_usage: bool,
+    standing: Standing,
     path: &'p [Step<'p>],
     option: &Opt<'p>,
 ) -> Result<(), AllocError>
     ensures { OnOk result (map site_said sites.new.items
-        ≡ map site_said sites.old.items ++ option_sites in_usage (path_said path.now) (opt_said option.now)) }
+        ≡ map site_said sites.old.items ++ option_sites standing (path_said path.now) (opt_said option.now)) }
 {
-    let part = Part::Option(*option, in_usage);
+    let part = Part::Option(*option, standing);
     sites.push(Site { path, part })?;
     push_text(arena, sites, path, "help", option.help)
 }
@@ -163,17 +176,17 @@ fn push_option<'p>(
 fn push_options<'p>(
     arena: &'p Bump,
     sites: &mut Sites<'p>,
-    in_usage: bool,
+    standing: Standing,
     path: &[Step<'p>],
     list: &'static str,
     options: &[Opt<'p>],
 ) -> Result<(), AllocError>
     ensures { OnOk result (map site_said sites.new.items ≡ map site_said sites.old.items
-        ++ options_sites in_usage (path_said path.now) list.now (map opt_said options.now)) }
+        ++ options_sites standing (path_said path.now) list.now (map opt_said options.now)) }
 {
     for (at, option) in options.iter().enumerate() {
         let path = table_in(arena, path, list, at)?;
-        push_option(arena, sites, in_usage, path, option)?;
+        push_option(arena, sites, standing, path, option)?;
     }
     Ok(())
 }
@@ -181,19 +194,33 @@ fn push_options<'p>(
 fn push_choices<'p, 'a: 'p, C: Allocator>(
     arena: &'p Bump,
     sites: &mut Sites<'p>,
-    in_usage: bool,
+    standing: Standing,
     path: &[Step<'p>],
     choices: &'p [Choice<'a, C>],
 ) -> Result<(), AllocError>
     ensures { OnOk result (map site_said sites.new.items ≡ map site_said sites.old.items
-        ++ choices_sites in_usage (path_said path.now) (map choice_said choices.now)) }
+        ++ choices_sites standing (path_said path.now) (map choice_said choices.now)) }
 {
     for (at, choice) in choices.iter().enumerate() {
         let path = table_in(arena, path, "choice", at)?;
         let options = choice.options.as_slice();
-        push_options(arena, sites, in_usage, path, "option", options)?;
+        push_options(arena, sites, standing, path, "option", options)?;
     }
     Ok(())
+}
+
+fn push_value<'p>(
+    arena: &'p Bump,
+    sites: &mut Sites<'p>,
+    path: &'p [Step<'p>],
+    positional: &Positional<'p>,
+) -> Result<(), AllocError>
+    ensures { OnOk result (map site_said sites.new.items ≡ map site_said sites.old.items
+        ++ value_sites (path_said path.now) (positional_said positional.now)) }
+{
+    let part = Part::Positional(positional.hidden, positional.value);
+    sites.push(Site { path, part })?;
+    push_text(arena, sites, path, "help", positional.help)
 }
 
 fn push_positional<'p>(
@@ -207,7 +234,7 @@ fn push_positional<'p>(
         ++ positional_sites (path_said path.now) at (positional_said positional.now)) }
 {
     let path = table_in(arena, path, "positional", at)?;
-    push_text(arena, sites, path, "help", positional.help)
+    push_value(arena, sites, path, positional)
 }
 
 fn push_positionals<'p>(
@@ -225,12 +252,12 @@ fn push_positionals<'p>(
     Ok(())
 }
 
-fn makes_usage<C: Allocator>(level: &Level<'_, C>) -> bool
-    ensures { result ≡ makes_usage (level_said level.now) }
+fn standing_of<C: Allocator>(level: &Level<'_, C>) -> Standing
+    ensures { result ≡ standing_of (level_said level.now) }
 {
     match level.usage {
-        Some(_) => false,
-        None => true,
+        Some(_) => Standing::OutsideUsage,
+        None => Standing::InUsage,
     }
 }
 
@@ -244,18 +271,18 @@ fn push_level<'p, 'a: 'p, C: Allocator>(
     ensures { OnOk result (map site_said sites.new.items
         ≡ map site_said sites.old.items ++ level_sites (path_said path.now) (level_said level.now)) }
 {
-    let in_usage = makes_usage(level);
+    let standing = standing_of(level);
     push_own_texts(arena, sites, path, level)?;
     push_options(
         arena,
         sites,
-        in_usage,
+        standing,
         path,
         "option",
         level.options.as_slice(),
     )?;
-    push_choices(arena, sites, in_usage, path, level.choices.as_slice())?;
-    push_groups(arena, sites, in_usage, path, &level.groups)?;
+    push_choices(arena, sites, standing, path, level.choices.as_slice())?;
+    push_groups(arena, sites, standing, path, &level.groups)?;
     push_positionals(arena, sites, path, level.positionals.as_slice())?;
     push_commands(arena, sites, path, &level.commands)?;
     push_topics(arena, sites, path, level.topics.as_slice())
@@ -265,16 +292,16 @@ fn push_level<'p, 'a: 'p, C: Allocator>(
 fn push_groups<'p, 'a: 'p, C: Allocator>(
     arena: &'p Bump,
     sites: &mut Sites<'p>,
-    in_usage: bool,
+    standing: Standing,
     path: &'p [Step<'p>],
     groups: &'p Vec<Group<'a, C>, C>,
 ) -> Result<(), AllocError>
     ensures { OnOk result (map site_said sites.new.items ≡ map site_said sites.old.items
-        ++ groups_sites in_usage (path_said path.now) 0 (groups_said groups.now.items)) }
+        ++ groups_sites standing (path_said path.now) 0 (groups_said groups.now.items)) }
 {
     for (at, group) in groups.iter().enumerate() {
         let path = table_in(arena, path, "group", at)?;
-        push_group(arena, sites, in_usage, path, group)?;
+        push_group(arena, sites, standing, path, group)?;
     }
     Ok(())
 }
@@ -283,22 +310,22 @@ fn push_groups<'p, 'a: 'p, C: Allocator>(
 fn push_group<'p, 'a: 'p, C: Allocator>(
     arena: &'p Bump,
     sites: &mut Sites<'p>,
-    in_usage: bool,
+    standing: Standing,
     path: &'p [Step<'p>],
     group: &'p Group<'a, C>,
 ) -> Result<(), AllocError>
     ensures { OnOk result (map site_said sites.new.items
-        ≡ map site_said sites.old.items ++ group_sites in_usage (path_said path.now) (group_said group.now)) }
+        ≡ map site_said sites.old.items ++ group_sites standing (path_said path.now) (group_said group.now)) }
 {
     push_options(
         arena,
         sites,
-        in_usage,
+        standing,
         path,
         "option",
         group.options.as_slice(),
     )?;
-    push_choices(arena, sites, in_usage, path, group.choices.as_slice())?;
+    push_choices(arena, sites, standing, path, group.choices.as_slice())?;
     push_positionals(arena, sites, path, group.positionals.as_slice())?;
     push_commands(arena, sites, path, &group.commands)
 }
@@ -348,7 +375,14 @@ pub fn sites<'p, 'a: 'p, C: Allocator>(
     let part = Part::Application(description.level.about);
     found.push(Site { path, part })?;
     let help_options = description.help_options.as_slice();
-    push_options(arena, &mut found, false, path, "help_option", help_options)?;
+    push_options(
+        arena,
+        &mut found,
+        Standing::ForHelp,
+        path,
+        "help_option",
+        help_options,
+    )?;
     push_level(arena, &mut found, path, &description.level)?;
     Ok(found)
 }

@@ -1062,7 +1062,7 @@ values = ['x']
 long = 'b'
 value = 'V'
 default = 1.0
-=> option 1 (--b): default is no text and no whole number
+=> option 1 (--b): default is no text and no whole number; write it in quotes
 
 [[option]]
 long = 'b'
@@ -1098,6 +1098,12 @@ values = ['x', '']
 long = 'b'
 value = 'V'
 values = ['x', 1]
+=> option 1 (--b): values is no array of texts; write each in quotes
+
+[[option]]
+long = 'b'
+value = 'V'
+values = ['x', ['y']]
 => option 1 (--b): values is no array of texts
 
 [[option]]
@@ -1210,7 +1216,7 @@ aliases = 'c'
 [[command]]
 name = 'b'
 aliases = ['c', 1]
-=> command 1 (b): aliases is no array of texts
+=> command 1 (b): aliases is no array of texts; write each in quotes
 
 [[command]]
 name = 'b'
@@ -1263,7 +1269,7 @@ usgae = 'U'
 
 [words]
 title = 'T'
-=> words: no key title is known here; a key of the top stands before the first table
+=> words: no key title is known here; keys are usage, arguments, options, commands, contents, notes, default, possible_values, env, aliases, command, name, synopsis, description and see_also
 
 [words]
 usage = 1
@@ -1390,6 +1396,13 @@ command 1 (b): no key summary is known here; it is called about
 short = 'b'
 about = 'A'
 => option 1 (-b): no key about is known here; a key of the top stands before the first table
+
+# But the title, which is more likely meant for the table.
+[[choice]]
+title = 'T'
+[[choice.option]]
+short = 'b'
+=> choice 1: no key title is known here; keys are option and required
 
 # One that is near another of its table, or that is the array of a table, is no such key.
 [[option]]
@@ -1523,7 +1536,7 @@ repeated = 1
 option 1: long is no text
 option 1: syntax is no text
 option 1: value is no text
-option 1: default is no text and no whole number
+option 1: default is no text and no whole number; write it in quotes
 option 1: values is no array of texts
 option 1: hint is no text
 option 1: help is no text
@@ -1543,7 +1556,7 @@ required = 1
 repeated = 1
 strict = 1
 => positional 1: value is missing
-positional 1: default is no text and no whole number
+positional 1: default is no text and no whole number; write it in quotes
 positional 1: values is no array of texts
 positional 1: hint is no text
 positional 1: help is no text

@@ -44,6 +44,11 @@ text = '- <http://e.f>'
 [[command]]
 name = 'RUN'
 help = 'Runs'
+[[command.option]]
+short = 'h'
+long = 'l[x]'
+value = '[V]'
+help = 'L'
 ";
 
 const HINTS: &str = "about - the first paragraph is the summary, and has more than one sentence
@@ -56,6 +61,9 @@ group 0 positional 0 help - the link http://c.d is not https
 command 0 - neither help nor about says what the command does
 command 0 usage - no option here is called --none
 command 0 topic 0 text - the link http://e.f is not https
+command 1 option 0 - a help option is called -h too
+command 1 option 0 long - the name l[x] has a bracket; write it as syntax
+command 1 option 0 value - [V] needs no brackets or dots: pages set them, by required and repeated
 command 0 option 0 - --two has a different help beside option 1 
 command 1 - some folders take its page app-RUN for another
 ";

@@ -147,7 +147,34 @@ pub const HELPS: &[Row<'static>] = &[
     // A hidden one, one without a help and one of another name say nothing; those that ask for help do.
     (
         "name = 'a'\nabout = 'A'\n[[help_option]]\nlong = 'help'\nhelp = 'H'\n[[option]]\nlong = 'x'\nhelp = 'One'\nhidden = true\n[[option]]\nshort = 'y'\nhelp = 'One'\n[[command]]\nname = 'c'\nhelp = 'C'\n[[command.option]]\nlong = 'x'\nhelp = 'Two'\n[[command.option]]\nlong = 'y'\nhelp = 'Two'\n[[command.option]]\nshort = 'y'\n[[command.option]]\nlong = 'help'\nhelp = 'I'\n",
-        "command 0 option 2 - no help says what the option does\ncommand 0 option 3 - --help has a different help beside help_option 0 \n",
+        "command 0 option 2 - no help says what the option does\ncommand 0 option 3 - a help option is called --help too\ncommand 0 option 3 - --help has a different help beside help_option 0 \n",
+    ),
+];
+
+/// Names that an option shares with one that asks for help.
+pub const HELP_NAMES: &[Row<'static>] = &[
+    // The first name alone, on each level, in a choice, in a group, and beside a text in place of a usage.
+    (
+        "name = 'a'\nabout = 'A'\n[[help_option]]\nshort = 'h'\nlong = 'help'\nhelp = 'H'\n[[option]]\nshort = 'h'\nlong = 'human'\nvalue = 'N'\nhelp = 'X'\n[[choice]]\n[[choice.option]]\nlong = 'help'\nhelp = 'H'\n[[command]]\nname = 'c'\nhelp = 'C'\nusage = 'c'\n[[command.group]]\ntitle = 'G'\n[[command.group.option]]\nshort = 'h'\nlong = 'help'\nhelp = 'H'\n",
+        "option 0 - a help option is called -h too\nchoice 0 option 0 - a help option is called --help too\ncommand 0 group 0 option 0 - a help option is called -h too\n",
+    ),
+    // A hidden option, `--h` beside `-h`, and a syntax share none.
+    (
+        "name = 'a'\nabout = 'A'\n[[help_option]]\nshort = 'h'\nhelp = 'H'\n[[help_option]]\nsyntax = '--help[=ALL]'\nhelp = 'H'\n[[option]]\nlong = 'h'\nhelp = 'X'\n[[option]]\nlong = 'help'\nhelp = 'X'\n[[command]]\nname = 'c'\nhelp = 'C'\n[[command.option]]\nshort = 'h'\nhidden = true\n[[command]]\nname = 'd'\nhelp = 'D'\n[[command.option]]\nsyntax = '-h[=N]'\nhelp = 'X'\n",
+        "",
+    ),
+];
+
+/// Brackets and dots that pages set by themselves, and those of names.
+pub const MARKS: &[Row<'static>] = &[
+    (
+        "name = 'a'\nabout = 'A'\n[[help_option]]\nlong = 'help'\nvalue = '[T]'\nhelp = 'H'\n[[option]]\nshort = 'x'\nlong = '[no-]x'\nvalue = '<V>'\nhelp = 'X'\n[[positional]]\nvalue = 'FILE...'\n[[group]]\ntitle = 'G'\n[[group.positional]]\nvalue = '[P]...'\n",
+        "help_option 0 value - [T] needs no brackets or dots: pages set them, by required and repeated\noption 0 long - the name [no-]x has a bracket; write it as syntax\noption 0 value - <V> needs no brackets or dots: pages set them, by required and repeated\ngroup 0 positional 0 value - [P]... needs no brackets or dots: pages set them, by required and repeated\npositional 0 value - FILE... needs no brackets or dots: pages set them, by required and repeated\n",
+    ),
+    // Those of a part of the word, of a list, of a syntax, and of what is hidden.
+    (
+        "name = 'a'\nabout = 'A'\n[[option]]\nlong = 'x'\nvalue = 'HOST[:PORT]'\nhelp = 'X'\n[[option]]\nlong = 'y'\nvalue = '[USER@]HOST[:PORT]'\nhelp = 'X'\n[[option]]\nlong = 'z'\nvalue = 'A,B,...'\nhelp = 'X'\n[[option]]\nsyntax = '--[no-]s=[V]'\nhelp = 'X'\n[[option]]\nlong = '[h]'\nvalue = '[V]'\nhidden = true\n[[positional]]\nvalue = '<P>'\nhidden = true\n",
+        "",
     ),
 ];
 

@@ -84,10 +84,13 @@ fn is_between(first: u32, last: u32, character: char) -> bool
     first <= code && code <= last
 }
 
+// Most characters are ASCII, for which no table is asked.
+#[tactic(auto, using(crate::proofs::Ascii::ascii_joins_nothing))]
 fn is_joiner(character: char) -> bool
     ensures { result ≡ is_joiner character }
 {
-    is_between(0x200C, 0x200F, character) || is_variation_selector(character)
+    !character.is_ascii()
+        && (is_between(0x200C, 0x200F, character) || is_variation_selector(character))
 }
 
 fn is_hidden(character: char) -> bool

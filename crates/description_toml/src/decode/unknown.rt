@@ -39,13 +39,12 @@ const OTHER_HINTS: [(&str, &str); 6] = [
     ("username", "user"),
 ];
 
-// The keys of the top that are no tables.
-const TOP_KEYS: [&str; 11] = [
+// The keys of the top that are no tables, but the title, which is more likely meant for the table, as for a group.
+const TOP_KEYS: [&str; 10] = [
     "name",
     "section",
     "date",
     "vendor",
-    "title",
     "language",
     "about",
     "header",

@@ -216,7 +216,8 @@ fn word_in<'a, A: Allocator + Copy>(
             let text = checked_in(teller, text.as_str(), key, kind)?;
             lasting(teller, names, text)
         }
-        _ => Err(teller.tell(key, " is no array of texts")),
+        Value::Array(_) | Value::Table(_) => Err(teller.tell(key, " is no array of texts")),
+        _ => Err(teller.tell(key, " is no array of texts; write each in quotes")),
     }
 }
 
@@ -241,7 +242,13 @@ pub fn default_at<'a, A: Allocator + Copy>(
             let text = number_text(teller, names, *number)?;
             Ok(Some(checked(teller, text, "default", Kind::Line)?))
         }
-        Some(_) => Err(teller.tell("default", " is no text and no whole number")),
+        Some(Value::Array(_) | Value::Table(_)) => {
+            Err(teller.tell("default", " is no text and no whole number"))
+        }
+        Some(_) => Err(teller.tell(
+            "default",
+            " is no text and no whole number; write it in quotes",
+        )),
     }
 }
 

@@ -8,4 +8,5 @@ returns g c = λ i. record {
   fixed = words_said c.args.description.now.words;
   has = λ word. (c.in_ok-known.ensures word ∙ ap (λ sites. is_among (known_words sites) word) c.requires) i;
   asks = λ word. c.in_ok-asking.ensures word i;
+  helping = λ name. c.in_ok-helping.ensures name i;
 }

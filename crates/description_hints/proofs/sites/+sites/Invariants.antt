@@ -6,8 +6,8 @@ use Rattle.description_hints.proofs.sites.+sites.Given as goal
 
 abbrev pub invariant-push_groups-loop-at : goal.invariant-push_groups-loop-at
 invariant-push_groups-loop-at g l =
-    map site_said l.sites.items ++ groups_sites l.in_usage (path_said l.path) l.at (groups_said (drop l.at l.group-items))
-    ≡ map site_said l.fn.sites.items ++ groups_sites l.in_usage (path_said l.path) 0 (groups_said l.groups.items)
+    map site_said l.sites.items ++ groups_sites l.standing (path_said l.path) l.at (groups_said (drop l.at l.group-items))
+    ≡ map site_said l.fn.sites.items ++ groups_sites l.standing (path_said l.path) 0 (groups_said l.groups.items)
 
 abbrev pub invariant-push_commands-loop-at : goal.invariant-push_commands-loop-at
 invariant-push_commands-loop-at g l =

@@ -6,5 +6,5 @@ use Rattle.description_hints.proofs.sites.push_choices.Given as goal
 
 abbrev pub invariant-loop-at : goal.invariant-loop-at
 invariant-loop-at g l =
-    map site_said l.sites.items ++ numbered (choice_sites l.in_usage (path_said l.fn.path)) l.at (map choice_said (drop l.at l.choices))
-    ≡ map site_said l.fn.sites.items ++ numbered (choice_sites l.in_usage (path_said l.fn.path)) 0 (map choice_said l.choices)
+    map site_said l.sites.items ++ numbered (choice_sites l.standing (path_said l.fn.path)) l.at (map choice_said (drop l.at l.choices))
+    ≡ map site_said l.fn.sites.items ++ numbered (choice_sites l.standing (path_said l.fn.path)) 0 (map choice_said l.choices)
