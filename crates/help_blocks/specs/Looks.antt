@@ -122,9 +122,14 @@ is_prompt _ = false
 abbrev pub is_code : (text : List ℕ) → Bool
 is_code cs = is_prompt cs || has_columns cs
 
+abbrev pub ends_with_dot : (line : List ℕ) → Bool
+ends_with_dot line = last_ink 32 line == 46
+
+-- a sentence has none
 abbrev pub subject_of : (title : List ℕ) → Subject
 subject_of title =
-    if has_word (codes "command") title then subject.Commands
+    if ends_with_dot title then subject.Unsaid
+    else if has_word (codes "command") title then subject.Commands
     else if has_word (codes "argument") title || has_word (codes "args") title then subject.Values
     else if has_word (codes "example") title then subject.Examples
     else if has_word (codes "option") title || has_word (codes "flag") title then subject.Options

@@ -56,16 +56,13 @@ abbrev pub is_command_kind : Kind → Bool
 is_command_kind kind.Command = true
 is_command_kind _ = false
 
--- a word at the indent of the command above
+-- a word directly below a command, at its indent
 abbrev pub is_further_command : Option Open → (here : Shape) → Bool
 is_further_command None here = false
 is_further_command (Some o) here = (is_command_kind o.kind && here.is_word) && nat_le o.indent here.indent
 
-abbrev pub listed_value : Option Open → (here : Shape) → Option Kind
-listed_value o here =
-    if is_further_command o here then Some kind.Command
-    else if is_in_list o then Some kind.Value
-    else None
+abbrev pub listed_value : Option Open → Option Kind
+listed_value o = if is_in_list o then Some kind.Value else None
 
 abbrev pub leads : (here next : Shape) → Bool
 leads here next = nat_lt here.indent next.indent && not next.is_empty
@@ -76,7 +73,7 @@ is_plain_title after here next = (after && leads here next) && ((next.is_option 
 
 abbrev pub listed_by : Subject → Place → (here : Shape) → Option Kind
 listed_by subject.Commands p here = if here.is_word then Some kind.Command else None
-listed_by subject.Values p here = listed_value p.block here
+listed_by subject.Values p here = listed_value p.block
 listed_by subject.Examples p here = Some kind.Code
 listed_by subject.Options p here = None
 listed_by subject.Unsaid p here = None
@@ -106,8 +103,8 @@ kind_of p here next =
     if here.is_empty then kind.Text
     else if here.is_usage then kind.Usage
     else if here.is_option then kind.Option
-    else if is_in_choice p.block here then kind.Command
-    else if here.ends_with_colon && (p.is_after_blank || leads here next) then kind.Title
+    else if is_in_choice p.block here || is_further_command p.block here then kind.Command
+    else if here.ends_with_colon && (p.is_after_blank || (leads here next || next.is_option)) then kind.Title
     else unmarked_kind p here next
 
 abbrev pub is_text : Kind → Bool

@@ -88,16 +88,10 @@ fn is_further_command(block: Option<Open>, here: Shape) -> bool
     }
 }
 
-fn listed_value(block: Option<Open>, here: Shape) -> Option<Kind>
-    ensures { result ≡ rules.listed_value block here }
+fn listed_value(block: Option<Open>) -> Option<Kind>
+    ensures { result ≡ rules.listed_value block }
 {
-    if is_further_command(block, here) {
-        Some(Kind::Command)
-    } else if is_in_list(block) {
-        Some(Kind::Value)
-    } else {
-        None
-    }
+    is_in_list(block).then_some(Kind::Value)
 }
 
 fn leads(here: Shape, next: Shape) -> bool
@@ -123,7 +117,7 @@ fn listed(place: Place, here: Shape) -> Option<Kind>
     }
     match place.subject {
         Subject::Commands if here.is_word => Some(Kind::Command),
-        Subject::Values => listed_value(place.block, here),
+        Subject::Values => listed_value(place.block),
         Subject::Examples => Some(Kind::Code),
         _ => None,
     }
@@ -159,9 +153,11 @@ fn kind(place: Place, here: Shape, next: Shape) -> Kind
         Kind::Usage
     } else if here.is_option {
         Kind::Option
-    } else if is_in_choice(place.block, here) {
+    } else if is_in_choice(place.block, here) || is_further_command(place.block, here) {
         Kind::Command
-    } else if here.ends_with_colon && (place.is_after_blank || leads(here, next)) {
+    } else if here.ends_with_colon
+        && (place.is_after_blank || leads(here, next) || next.is_option)
+    {
         Kind::Title
     } else {
         unmarked_kind(place, here, next)

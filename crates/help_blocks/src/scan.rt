@@ -96,9 +96,9 @@ pub fn behind_name(text: &[u8]) -> &[u8]
     rest
 }
 
-/// Whether the last that is not a blank is a colon.
-pub fn ends_with_colon(line: &[u8]) -> bool
-    ensures { result ≡ looks.ends_with_colon line.now }
+// The last that is not a blank, and a blank where there is none.
+fn last_ink(line: &[u8]) -> u8
+    ensures { result ≡ looks.last_ink 32 line.now }
 {
     let mut last = b' ';
     let mut rest = line;
@@ -108,7 +108,21 @@ pub fn ends_with_colon(line: &[u8]) -> bool
         }
         rest = more;
     }
-    last == b':'
+    last
+}
+
+/// Whether the last that is not a blank is a colon.
+pub fn ends_with_colon(line: &[u8]) -> bool
+    ensures { result ≡ looks.ends_with_colon line.now }
+{
+    last_ink(line) == b':'
+}
+
+/// Whether it is a dot, as in a sentence.
+pub fn ends_with_dot(line: &[u8]) -> bool
+    ensures { result ≡ looks.ends_with_dot line.now }
+{
+    last_ink(line) == b'.'
 }
 
 fn is_small(byte: u8) -> bool

@@ -3,7 +3,7 @@
 ghost use Rattle.std.specs.Prelude.{◌≡◌};
 ghost use Rattle.help_blocks.specs.Looks as looks;
 
-use crate::scan::has_word;
+use crate::scan::{ends_with_dot, has_word};
 
 /// What stands below a title, by its words: `Unsaid` if none of them tells.
 #[derive(Clone, Copy)]
@@ -20,7 +20,9 @@ impl Subject {
     pub fn of(title: &[u8]) -> Self
         ensures { result ≡ looks.subject_of title.now }
     {
-        if has_word(title, b"command") {
+        if ends_with_dot(title) {
+            Subject::Unsaid
+        } else if has_word(title, b"command") {
             Subject::Commands
         } else if has_word(title, b"argument") || has_word(title, b"args") {
             Subject::Values

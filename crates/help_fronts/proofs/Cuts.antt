@@ -1,11 +1,10 @@
 -- The first piece of a text, and the pieces of what stands behind it.
-use Rattle.std.proofs.Common.{◌≡◌, ℕ, suc, zero, ◌+◌, ◌-◌, ◌<◌, ◌≤◌, ◌==◌, Bool, true, false, ◌&&◌, ◌||◌, cond, List, [], ◌∷◌, ◌++◌, length, drop, take, get_or, refl, sym, ap, ◌∙◌, subst, arith, one-add, ◌⊎◌, inl, inr}
+use Rattle.std.proofs.Common.{◌≡◌, ℕ, suc, ◌+◌, ◌<◌, ◌≤◌, Bool, true, false, cond, List, [], ◌∷◌, length, drop, take, get_or, refl, sym, ap, ◌∙◌, subst, arith, one-add, ◌⊎◌, inl, inr}
 use Rattle.std.specs.List.{onto_first}
-use Rattle.std.proofs.lemmas.Bool.Decides.{eqb_tells, nat_tests}
+use Rattle.std.proofs.lemmas.Bool.Decides.{nat_tests}
 use Rattle.std.specs.Str.{IsCharBoundary}
 use Rattle.std.proofs.lemmas.Str.{IsCharBoundary-end, IsCharBoundary-before_ascii}
 use Rattle.std.proofs.lemmas.Bool.{cases_lt}
-use Rattle.help_fronts.specs.Bytes.{is_blank, is_dash, is_divider}
 use Rattle.help_fronts.specs.Pieces.{deeper, is_cut, onto_pieces, pieces, pieces_behind, rest_len}
 
 pub rest_within : (depth before : ℕ) (bs : List ℕ) → rest_len depth before bs ≤ length bs

@@ -1,6 +1,6 @@
 -- What stands before the rest of a text.
 use Rattle.std.proofs.lemmas.Grind.{common_steps}
-use Rattle.std.proofs.Common.{◌≡◌, ℕ, ◌+◌, ◌-◌, ◌≤◌, Bool, List, [], ◌∷◌, ◌++◌, map, drop, length, take, refl, sym, ap, ◌∙◌, append_assoc, append-nil, arith, length-append, Option, subst}
+use Rattle.std.proofs.Common.{◌≡◌, ℕ, ◌+◌, ◌-◌, Bool, List, [], ◌∷◌, ◌++◌, map, length, take, sym, ap, ◌∙◌, append_assoc, append-nil, arith, length-append, Option, subst}
 use Rattle.std.specs.List.{concat}
 use Rattle.std.specs.Option.{option_map}
 use Rattle.std.proofs.lemmas.List.{map-append}
@@ -8,7 +8,7 @@ use Rattle.std.specs.Str.{IsCharBoundary, IsUtf8}
 use Rattle.std.proofs.lemmas.Str.{IsCharBoundary-at_seam}
 use Rattle.help_fronts.specs.Pieces.{pieces, word}
 use Rattle.help_fronts.specs.Words.{value_word}
-use Rattle.help_fronts.specs.Fronts.{behind_front, belonging, first_value, front_from, front_said, FrontSaid, gap_of, help_of, is_value_optional, names}
+use Rattle.help_fronts.specs.Fronts.{behind_front, belonging, first_joint, first_value, from_last, front_from, front_said, FrontSaid, gap_of, help_of, is_value_optional, names, values}
 use Rattle.help_fronts.specs.declared.front.Kind.{Kind}
 
 abbrev pub front_of : (text rest : List ℕ) → List ℕ
@@ -72,7 +72,7 @@ cut_whole k text first behind rest before e whole h =
 
 -- ---- what is said of a front
 
-pub said_is : (front : List (List ℕ)) (text written gap help : List ℕ) (ns : List (List ℕ)) (v w : Option (List ℕ)) (o : Bool) → ns ≡ names (map word front) → v ≡ first_value (map word front) → w ≡ option_map value_word v
+pub said_is : (front : List (List ℕ)) (text written gap help : List ℕ) (ns vs : List (List ℕ)) (j : ℕ) (v w : Option (List ℕ)) (o : Bool) → ns ≡ names (map word front) → vs ≡ values (from_last (map word front)) → j ≡ first_joint (from_last (map word front)) → v ≡ first_value (values (from_last (map word front))) → w ≡ option_map value_word v
     → o ≡ is_value_optional v → written ≡ concat front → gap ≡ gap_of (behind_front front text) → help ≡ help_of (behind_front front text)
-    → (let f : FrontSaid = record { names = ns; value = w; is_optional = o; written = written; gap = gap; help = help } in f) ≡ front_said front (behind_front front text)
-said_is front text written gap help ns v w o hn hv hw ho hf hg hh = cc
+    → (let f : FrontSaid = record { names = ns; values = vs; joint = j; value = w; is_optional = o; written = written; gap = gap; help = help } in f) ≡ front_said front (behind_front front text)
+said_is front text written gap help ns vs j v w o hn hs hj hv hw ho hf hg hh = cc

@@ -1,5 +1,5 @@
 -- What bytes of a line are.
-use Rattle.std.specs.Prelude.{ℕ, ◌-◌, ◌==◌, ◌||◌, ◌&&◌, Bool, false, not, List, drop, take, length, nat_lt}
+use Rattle.std.specs.Prelude.{ℕ, ◌-◌, ◌==◌, ◌||◌, ◌&&◌, Bool, not, List, drop, take, length, nat_lt}
 use Rattle.std.specs.List.{prefix_len, slice_index, suffix_len}
 use Rattle.help_fronts.specs.declared.bytes.Class.{Class}
 use Rattle.help_fronts.specs.declared.bytes.Class.TheVariants as class

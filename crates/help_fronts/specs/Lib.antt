@@ -4,3 +4,4 @@ pub mod Words
 pub mod Fronts
 pub mod View
 pub mod Usages
+pub mod Lines

@@ -8,6 +8,8 @@ use Rattle.help_fronts.specs.Fronts.{CommandSaid, FrontSaid}
 abbrev pub said : {A : Type 0} → OptionFront A → FrontSaid
 said f = record {
   names = map (λ n. n.now) f.names.items;
+  values = map (λ v. v.now) f.values.items;
+  joint = f.joint;
   value = option_map (λ v. v.now) f.value;
   is_optional = f.is_optional;
   written = f.written.now;
@@ -19,6 +21,7 @@ abbrev pub command_said : {A : Type 0} → CommandFront A → CommandSaid
 command_said f = record {
   name = f.name.now;
   aliases = map (λ n. n.now) f.aliases.items;
+  says_else = f.says_else;
   written = f.written.now;
   gap = f.gap.now;
   help = f.help.now;

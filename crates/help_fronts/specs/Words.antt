@@ -1,5 +1,5 @@
 -- What a word of a line is: a name, a word that joins two names, or what says a value.
-use Rattle.std.specs.Prelude.{ℕ, ◌+◌, ◌==◌, ◌||◌, ◌&&◌, Bool, false, not, List, [], bytes_eq, codes, drop, find, length, map, nat_le, take, if◌then◌else◌, Option, None, Some}
+use Rattle.std.specs.Prelude.{ℕ, ◌+◌, ◌==◌, ◌||◌, ◌&&◌, Bool, false, not, List, [], ◌∷◌, bytes_eq, codes, drop, length, nat_le, take, if◌then◌else◌}
 use Rattle.std.specs.Char.{is_ascii_alphanumeric, is_ascii_lowercase, is_ascii_uppercase}
 use Rattle.std.specs.List.{count_by, list_all, list_any, slice_index}
 use Rattle.help_fronts.specs.declared.bytes.Class.TheVariants as class
@@ -77,9 +77,22 @@ is_optional text = (first text == 91 && last text == 93) && count_by (λ b. b ==
 abbrev pub is_bare_name : List ℕ → Bool
 is_bare_name w = is_name w && length (without_joints (attached w)) == 0
 
+-- up to the first bracket
 abbrev pub has_small_letter : List ℕ → Bool
-has_small_letter = list_any is_ascii_lowercase
+has_small_letter [] = false
+has_small_letter (b ∷ bs) = if is_opening b then false else (is_ascii_lowercase b || has_small_letter bs)
 
--- it begins with a bracket, or with a capital, and then has no small letter
+-- it begins with a capital, and has no small letter before a bracket
+abbrev pub is_in_capitals : List ℕ → Bool
+is_in_capitals w = is_ascii_uppercase (first w) && not (has_small_letter w)
+
 abbrev pub has_form_of_value : List ℕ → Bool
-has_form_of_value w = is_opening (first w) || (is_ascii_uppercase (first w) && not (has_small_letter w))
+has_form_of_value w = is_opening (first w) || is_in_capitals w
+
+-- in brackets, but in parentheses only a choice
+abbrev pub is_bracketed : List ℕ → Bool
+is_bracketed w = is_opening (first w) && (not (first w == 40) || list_any (λ b. b == 124) w)
+
+-- `...`, also before a comma
+abbrev pub is_dots : List ℕ → Bool
+is_dots w = bytes_eq w (codes "...") || bytes_eq w (codes "...,")

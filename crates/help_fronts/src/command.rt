@@ -1,5 +1,6 @@
 //! What the front of a command says.
-ghost use Rattle.std.specs.Prelude.{◌≡◌, ◌++◌, map, IfOk, IfSome, OnOk};
+ghost use Rattle.std.specs.Prelude.{◌≡◌, ◌++◌, map, not, IfOk, IfSome, OnOk};
+ghost use Rattle.std.specs.List.{list_any};
 ghost use Rattle.std.specs.Option.{option_map};
 ghost use Rattle.help_fronts.specs.Pieces.{pieces};
 ghost use Rattle.help_fronts.specs.Fronts as spec;
@@ -18,6 +19,8 @@ pub struct CommandFront<'a, A: Allocator = Global> {
     pub name: &'a str,
     /// Its other names, in the order of the line.
     pub aliases: Vec<&'a str, A>,
+    /// Whether the front says more than these names, as a value does.
+    pub says_else: bool,
     /// The front as it stands in the line.
     pub written: &'a str,
     /// What stands between the front and its help.
@@ -26,21 +29,27 @@ pub struct CommandFront<'a, A: Allocator = Global> {
     pub help: &'a str,
 }
 
-fn is_alias(word: &str) -> bool
-    ensures { result ≡ spec.is_alias word.now }
+fn is_alias(name: &str, word: &str) -> bool
+    ensures { result ≡ spec.is_alias name.now word.now }
 {
-    is_command(bare_word(word)) && (byte_at(word, 0) == b'(' || !has_form_of_value(word))
+    is_command(bare_word(word))
+        && if byte_at(word, 0) == b'(' {
+            byte_at(word, 1) == byte_at(name, 0)
+        } else {
+            !has_form_of_value(word)
+        }
 }
 
 fn push_aliases<'a, A: Allocator>(
     aliases: &mut Vec<&'a str, A>,
+    name: &str,
     words: &[&'a str],
 ) -> Result<(), AllocError>
     ensures { OnOk result (map (λ a. a.now) aliases.new.items
-        ≡ map (λ a. a.now) aliases.old.items ++ spec.other_names (map (λ w. w.now) words.now)) }
+        ≡ map (λ a. a.now) aliases.old.items ++ spec.other_names name.now (map (λ w. w.now) words.now)) }
 {
     for word in words {
-        if is_alias(word) {
+        if is_alias(name, word) {
             aliases.push(bare_word(word))?;
         }
     }
@@ -54,10 +63,31 @@ fn aliases_of<'a, A: Allocator + Copy>(
     ensures { IfOk result (λ found. map (λ a. a.now) found.items ≡ spec.aliases (map (λ w. w.now) words.now)) }
 {
     let mut aliases = Vec::new(alloc);
-    if let Some((_, others)) = words.split_first() {
-        push_aliases(&mut aliases, others)?;
+    if let Some((name, others)) = words.split_first() {
+        push_aliases(&mut aliases, name, others)?;
     }
     Ok(aliases)
+}
+
+// Whether a word is none of the names.
+fn says_else(words: &[&str]) -> bool
+    ensures { result ≡ spec.says_else (map (λ w. w.now) words.now) }
+{
+    match words {
+        [] => false,
+        [name, others @ ..] => !are_aliases(name, others),
+    }
+}
+
+fn are_aliases(name: &str, words: &[&str]) -> bool
+    ensures { not result ≡ list_any (λ v. not (spec.is_alias name.now v)) (map (λ w. w.now) words.now) }
+{
+    for word in words {
+        if !is_alias(name, word) {
+            return false;
+        }
+    }
+    true
 }
 
 fn is_parted(written: &str, gap: &str, help: &str) -> bool
@@ -80,12 +110,14 @@ fn read_front<'a, A: Allocator + Copy>(
 {
     let cut = cut_front(alloc, Kind::Command, text, first, behind)?;
     let aliases = aliases_of(alloc, &cut.words)?;
+    let says_else = says_else(&cut.words);
     if !is_parted(cut.written, cut.gap, cut.help) {
         return Ok(None);
     }
     Ok(Some(CommandFront {
         name: command_name(word(first)),
         aliases,
+        says_else,
         written: cut.written,
         gap: cut.gap,
         help: cut.help,

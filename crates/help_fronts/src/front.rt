@@ -4,11 +4,11 @@ ghost use Rattle.std.specs.List.{concat};
 ghost use Rattle.help_fronts.specs.Pieces.{pieces, word};
 ghost use Rattle.help_fronts.specs.Fronts as spec;
 
-use crate::bytes::{Class, byte_at, is_blank, last_byte, without_end};
+use crate::bytes::{Class, byte_at, is_blank, is_closing, is_divider, last_byte, without_end};
 use crate::pieces::{first_piece, first_word, word};
 use crate::words::{
-    bare_word, has_form_of_value, is_bare_name, is_command, is_joiner, is_long, is_name, is_short,
-    leads_on,
+    bare_word, has_form_of_value, is_bare_name, is_bracketed, is_command, is_dots, is_in_capitals,
+    is_joiner, is_long, is_name, is_short, leads_on,
 };
 use std::alloc::{AllocError, Allocator};
 
@@ -32,8 +32,8 @@ fn is_gap(word: &str) -> bool
     first <= b' ' || (word.len() == 1 && is_mark(first))
 }
 
-fn is_last_value(word: &str, next: &str) -> bool
-    ensures { result ≡ spec.is_last_value word.now next.now }
+fn ends_with(word: &str, next: &str) -> bool
+    ensures { result ≡ spec.ends_with word.now next.now }
 {
     is_gap(next)
         || byte_at(next, 0) == b'['
@@ -41,17 +41,36 @@ fn is_last_value(word: &str, next: &str) -> bool
         || (leads_on(word) && is_name(next))
 }
 
+fn is_last_value(word: &str, next: &str) -> bool
+    ensures { result ≡ spec.is_last_value word.now next.now }
+{
+    byte_at(word, 0) != b'(' && ends_with(word, next)
+}
+
+fn is_marked_value(before: &str, word: &str, next: &str) -> bool
+    ensures { result ≡ spec.is_marked_value before.now word.now next.now }
+{
+    is_bracketed(word) || (is_in_capitals(word) && (!is_closing(last_byte(before)) || is_gap(next)))
+}
+
+fn is_repetition(before: &str, word: &str) -> bool
+    ensures { result ≡ spec.is_repetition before.now word.now }
+{
+    is_dots(word) && !(is_bare_name(before) || is_joiner(before))
+}
+
 fn is_value(before: &str, word: &str, next: &str) -> bool
     ensures { result ≡ spec.is_value before.now word.now next.now }
 {
     !leads_on(before)
-        && (has_form_of_value(word) || (is_bare_name(before) && is_last_value(word, next)))
+        && (is_marked_value(before, word, next)
+            || (is_bare_name(before) && is_last_value(word, next)))
 }
 
 fn is_other_name(before: &str, word: &str) -> bool
     ensures { result ≡ spec.is_other_name before.now word.now }
 {
-    leads_on(before) || (is_short(before) && is_long(word))
+    leads_on(before) || before.is_empty() || (is_short(before) && is_long(word))
 }
 
 fn fits_option(before: &str, word: &str, next: &str) -> bool
@@ -59,6 +78,8 @@ fn fits_option(before: &str, word: &str, next: &str) -> bool
 {
     if is_name(word) {
         is_other_name(before, word)
+    } else if is_repetition(before, word) {
+        true
     } else if is_joiner(word) {
         is_name(next)
     } else {
@@ -86,10 +107,21 @@ fn fits(kind: Kind, before: &str, word: &str, next: &str) -> bool
     }
 }
 
-fn belongs(kind: Kind, before: &str, word: &str, next: &str) -> bool
+fn is_second_blank(kind: Kind, before: &str, word: &str, next: &str) -> bool
+    ensures { result ≡ spec.is_second_blank kind before.now word.now next.now }
+{
+    match kind {
+        Kind::Option => word.is_empty() && is_divider(last_byte(before)) && is_name(next),
+        Kind::Command => false,
+    }
+}
+
+/// Whether a word belongs to a front, by the words beside it.
+pub fn belongs(kind: Kind, before: &str, word: &str, next: &str) -> bool
     ensures { result ≡ spec.belongs kind before.now word.now next.now }
 {
-    !is_gap(word) && last_byte(before) != b':' && fits(kind, before, word, next)
+    is_second_blank(kind, before, word, next)
+        || (!is_gap(word) && last_byte(before) != b':' && fits(kind, before, word, next))
 }
 
 // The first piece, if it belongs to the front, and what stands behind it.

@@ -4,11 +4,14 @@
 mod bytes;
 mod command;
 mod front;
+mod line;
 mod names;
 mod option;
 mod pieces;
 mod words;
 
 pub use command::{CommandFront, command_front};
+pub use line::option_names;
 pub use names::usage_names;
 pub use option::{OptionFront, option_front};
+pub use words::value_word;

@@ -1,16 +1,18 @@
 //! What the front of an option says.
-ghost use Rattle.std.specs.Prelude.{◌≡◌, ◌++◌, [], map, IfOk, IfSome, MatchOption, OnOk};
+ghost use Rattle.std.specs.Prelude.{◌≡◌, ◌++◌, [], filter, map, IfOk, IfSome, MatchOption, OnOk};
 ghost use Rattle.std.specs.Option.{option_map};
 ghost use Rattle.help_fronts.specs.Pieces.{pieces};
-ghost use Rattle.help_fronts.specs.Words as words;
+ghost use Rattle.help_fronts.specs.Words.{value_text, value_word, without_joints};
 ghost use Rattle.help_fronts.specs.declared.front.Kind.TheVariants as kind;
 ghost use Rattle.help_fronts.specs.Fronts as spec;
 ghost use Rattle.help_fronts.specs.View.{said};
 
-use crate::bytes::{Class, without_front};
+use crate::bytes::{Class, byte_at, without_front};
 use crate::front::{Kind, cut_front, first_of_front};
 use crate::names::push_name;
-use crate::words::{is_optional, value_text, value_word};
+use crate::words::{
+    attached, is_dots, is_name, is_optional, value_text, value_word, without_joints,
+};
 use std::alloc::{AllocError, Allocator, Global};
 
 /// The front of a line that begins with an option.
@@ -18,9 +20,13 @@ use std::alloc::{AllocError, Allocator, Global};
 pub struct OptionFront<'a, A: Allocator = Global> {
     /// With their dashes, in the order of the line.
     pub names: Vec<&'a str, A>,
-    /// The word for the value, mostly without brackets.
+    /// What is said of each value of the last name that has any, with brackets: `<MIN>` and `[MAX]` of `--of <MIN> [MAX]`.
+    pub values: Vec<&'a str, A>,
+    /// The byte directly after the name, as `=` or a bracket, if the first value is in one word with it; else a blank.
+    pub joint: u8,
+    /// The word for the first value, mostly without brackets.
     pub value: Option<&'a str>,
-    /// Whether the value stands in square brackets.
+    /// Whether the first value stands in square brackets.
     pub is_optional: bool,
     /// The front as it stands in the line.
     pub written: &'a str,
@@ -43,16 +49,119 @@ fn push_names<'a, A: Allocator>(
     Ok(())
 }
 
-fn first_value<'a>(words: &[&'a str]) -> Option<&'a str>
-    ensures { option_map (λ v. v.now) result ≡ spec.first_value (map (λ w. w.now) words.now) }
+fn says_value(word: &str) -> bool
+    ensures { result ≡ spec.says_value word.now }
+{
+    !value_word(value_text(word)).is_empty()
+}
+
+fn says_more(word: &str) -> bool
+    ensures { result ≡ spec.says_more word.now }
+{
+    says_value(word) || is_dots(word)
+}
+
+fn joint(word: &str) -> u8
+    ensures { result ≡ spec.joint word.now }
+{
+    if is_name(word) {
+        byte_at(attached(word), 0)
+    } else {
+        b' '
+    }
+}
+
+// What stands before the first value.
+fn first_joint(words: &[&str]) -> u8
+    ensures { result ≡ spec.first_joint (map (λ w. w.now) words.now) }
 {
     for word in words {
-        let text = value_text(word);
-        if !value_word(text).is_empty() {
-            return Some(text);
+        if says_value(word) {
+            return joint(word);
         }
     }
-    None
+    b' '
+}
+
+// Puts what is said of further values, up to the next name.
+fn push_further_values<'a, A: Allocator>(
+    values: &mut Vec<&'a str, A>,
+    words: &[&'a str],
+) -> Result<(), AllocError>
+    ensures { OnOk result (map (λ v. v.now) values.new.items
+        ≡ map (λ v. v.now) values.old.items ++ map without_joints (filter spec.says_more (spec.before_name (map (λ w. w.now) words.now)))) }
+{
+    for word in words {
+        if is_name(word) {
+            return Ok(());
+        }
+        if says_more(word) {
+            values.push(without_joints(word))?;
+        }
+    }
+    Ok(())
+}
+
+// What is said of the values of the first name that has any.
+fn values_of<'a, A: Allocator>(alloc: A, words: &[&'a str]) -> Result<Vec<&'a str, A>, AllocError>
+    ensures { IfOk result (λ values. map (λ v. v.now) values.items ≡ spec.values (map (λ w. w.now) words.now)) }
+{
+    let mut values = Vec::new(alloc);
+    let mut rest = words;
+    while let [word, others @ ..] = rest {
+        if says_value(word) {
+            values.push(value_text(word))?;
+            push_further_values(&mut values, others)?;
+            return Ok(values);
+        }
+        rest = others;
+    }
+    Ok(values)
+}
+
+// Whether there is a value before the next name.
+fn has_value(words: &[&str]) -> bool
+    ensures { result ≡ spec.has_value (map (λ w. w.now) words.now) }
+{
+    for word in words {
+        if is_name(word) {
+            return false;
+        }
+        if says_value(word) {
+            return true;
+        }
+    }
+    false
+}
+
+fn is_valued(word: &str, others: &[&str]) -> bool
+    ensures { result ≡ spec.is_valued word.now (map (λ w. w.now) others.now) }
+{
+    is_name(word) && (says_value(word) || has_value(others))
+}
+
+// The words from the last name on that has a value.
+fn from_last<'a, 'b>(words: &'b [&'a str]) -> &'b [&'a str]
+    ensures { map (λ w. w.now) result.now ≡ spec.from_last (map (λ w. w.now) words.now) }
+{
+    let mut found: &[&str] = &[];
+    let mut rest = words;
+    while let [word, others @ ..] = rest {
+        if is_valued(word, others) {
+            found = rest;
+        }
+        rest = others;
+    }
+    found
+}
+
+fn first_value<'a>(values: &[&'a str]) -> Option<&'a str>
+    ensures { option_map (λ v. v.now) result ≡ spec.first_value (map (λ v. v.now) values.now) }
+{
+    match values {
+        [] => None,
+        [first, ..] => Some(first),
+    }
 }
 
 fn is_value_optional(value: Option<&str>) -> bool
@@ -65,7 +174,7 @@ fn is_value_optional(value: Option<&str>) -> bool
 }
 
 fn word_of_value(value: Option<&str>) -> Option<&str>
-    ensures { option_map (λ v. v.now) result ≡ option_map words.value_word (option_map (λ v. v.now) value.entry) }
+    ensures { option_map (λ v. v.now) result ≡ option_map value_word (option_map (λ v. v.now) value.entry) }
 {
     match value {
         None => None,
@@ -87,11 +196,15 @@ fn read_front<'a, A: Allocator + Copy>(
     let cut = cut_front(alloc, Kind::Option, text, first, behind)?;
     let mut names = Vec::new(alloc);
     push_names(&mut names, &cut.words)?;
-    let value = first_value(&cut.words);
+    let valued = from_last(&cut.words);
+    let values = values_of(alloc, valued)?;
+    let value = first_value(&values);
     Ok(OptionFront {
         names,
         value: word_of_value(value),
         is_optional: is_value_optional(value),
+        joint: first_joint(valued),
+        values,
         written: cut.written,
         gap: cut.gap,
         help: cut.help,

@@ -54,7 +54,8 @@ pub fn name(word: &str) -> &str
     without_end(name, Class::Dot)
 }
 
-fn attached(word: &str) -> &str
+/// What directly follows a name.
+pub fn attached(word: &str) -> &str
     requires { spec.is_name word.now ≡ true }
     ensures { result.now ≡ spec.attached word.now }
 {
@@ -109,7 +110,8 @@ pub fn is_command(word: &str) -> bool
 
 // ---- values
 
-fn without_joints(text: &str) -> &str
+/// A text without `,`, `|`, `/`, `=` and `:` at its ends.
+pub fn without_joints(text: &str) -> &str
     ensures { result.now ≡ spec.without_joints text.now }
 {
     without_end(without_front(text, Class::Joint), Class::Joint)
@@ -170,15 +172,51 @@ pub fn is_bare_name(word: &str) -> bool
     is_name(word) && without_joints(attached(word)).is_empty()
 }
 
-fn has_small_letter(text: &str) -> bool
-    ensures { result ≡ spec.has_small_letter text.now }
+// Whether there is a small letter before the first bracket.
+fn has_small_letter(bytes: &[u8]) -> bool
+    ensures { result ≡ spec.has_small_letter bytes.now }
 {
-    text.as_bytes().iter().any(|byte| byte.is_ascii_lowercase())
+    for byte in bytes {
+        if is_opening(*byte) {
+            return false;
+        }
+        if byte.is_ascii_lowercase() {
+            return true;
+        }
+    }
+    false
+}
+
+/// Whether a word begins with a capital, and has no small letter before a bracket.
+pub fn is_in_capitals(word: &str) -> bool
+    ensures { result ≡ spec.is_in_capitals word.now }
+{
+    byte_at(word, 0).is_ascii_uppercase() && !has_small_letter(word.as_bytes())
 }
 
 pub fn has_form_of_value(word: &str) -> bool
     ensures { result ≡ spec.has_form_of_value word.now }
 {
+    is_opening(byte_at(word, 0)) || is_in_capitals(word)
+}
+
+fn has_choice(word: &str) -> bool
+    ensures { result ≡ list_any (λ b. b == 124) word.now }
+{
+    word.as_bytes().iter().any(|byte| *byte == b'|')
+}
+
+/// Whether a word stands in brackets; in parentheses only if it is a choice.
+pub fn is_bracketed(word: &str) -> bool
+    ensures { result ≡ spec.is_bracketed word.now }
+{
     let first = byte_at(word, 0);
-    is_opening(first) || (first.is_ascii_uppercase() && !has_small_letter(word))
+    is_opening(first) && (first != b'(' || has_choice(word))
+}
+
+/// Whether a word is `...`, also before a comma.
+pub fn is_dots(word: &str) -> bool
+    ensures { result ≡ spec.is_dots word.now }
+{
+    word == "..." || word == "...,"
 }

@@ -113,12 +113,15 @@ fn is_between(first: char, last: char, character: char) -> bool
 
 /// Whether nothing is seen of a character where it stands: a font may leave it out, it is a mark of notes between lines,
 /// or it is the pattern of Braille without a dot.
+#[tactic(auto, using(crate::proofs::Ascii::ascii_is_seen))]
 pub fn is_unseen(character: char) -> bool
     ensures { result ≡ is_unseen character }
 {
-    is_default_ignorable_code_point(character)
-        || is_between('\u{fff9}', '\u{fffb}', character)
-        || character == '\u{2800}'
+    // Most characters are ASCII, for which no table is asked.
+    !character.is_ascii()
+        && (is_default_ignorable_code_point(character)
+            || is_between('\u{fff9}', '\u{fffb}', character)
+            || character == '\u{2800}')
 }
 
 fn is_separator(character: char) -> bool

@@ -1,7 +1,7 @@
-use Rattle.std.proofs.Common.{◌≡◌, ◌++◌, ◌∷◌, ◌-◌, ◌∙◌, ap, drop, length, map, rules, sym, take}
+use Rattle.std.proofs.Common.{◌++◌, ◌∷◌, ◌∙◌, ap, drop, map, rules, take}
 use Rattle.std.specs.List.{concat}
 use Rattle.help_fronts.specs.Pieces.{pieces, word}
-use Rattle.help_fronts.specs.Fronts.{belonging, front_from, gap_len, gap_of, help_of}
+use Rattle.help_fronts.specs.Fronts.{belonging, front_from, gap_of, help_of}
 use Rattle.help_fronts.proofs.Boundaries.{behind_gap}
 use Rattle.help_fronts.proofs.Ends.{cut_whole, front_ends, front_is, front_len, whole_front, words_all}
 use Rattle.help_fronts.proofs.front.cut_front.Goals as goal

@@ -1,6 +1,6 @@
-use Rattle.std.proofs.Common.{◌≡◌, ◌++◌, ◌∷◌, ◌∙◌, ap, map, refl, rules, sym}
+use Rattle.std.proofs.Common.{◌≡◌, ◌++◌, ◌∷◌, ◌∙◌, ap, refl, rules, sym}
 use Rattle.std.specs.List.{concat}
-use Rattle.help_fronts.specs.Pieces.{pieces, word}
+use Rattle.help_fronts.specs.Pieces.{pieces}
 use Rattle.help_fronts.specs.Fronts.{belonging}
 use Rattle.help_fronts.proofs.Ends.{end_more, front_whole, pieces_done, pieces_more, whole_end, words_more}
 use Rattle.help_fronts.proofs.front.push_words.Goals as goal

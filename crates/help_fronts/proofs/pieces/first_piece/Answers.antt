@@ -1,5 +1,5 @@
-use Rattle.std.proofs.Common.{◌≡◌, ◌+◌, ◌≤◌, ◌∷◌, ◌∙◌, ap, arith, drop, length, rules, sym}
-use Rattle.help_fronts.specs.Pieces.{deeper, pieces, rest_len}
+use Rattle.std.proofs.Common.{◌≡◌, ◌+◌, ◌∷◌, ◌∙◌, ap, drop, length, rules, sym}
+use Rattle.help_fronts.specs.Pieces.{deeper, pieces}
 use Rattle.help_fronts.proofs.Cuts.{first_cut, piece_ends, rest_within}
 use Rattle.help_fronts.proofs.pieces.first_piece.Goals as goal
 

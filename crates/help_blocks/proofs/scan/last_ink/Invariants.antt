@@ -1,6 +1,6 @@
 use Rattle.std.proofs.Common.{◌≡◌, length}
 use Rattle.help_blocks.specs.Looks as looks
-use Rattle.help_blocks.proofs.scan.ends_with_colon.Given as goal
+use Rattle.help_blocks.proofs.scan.last_ink.Given as goal
 
 abbrev pub invariant-loop-rest : goal.invariant-loop-rest
 invariant-loop-rest l = looks.last_ink l.last l.rest ≡ looks.last_ink 32 l.line
