@@ -67,6 +67,15 @@ pub mod option_of;
 // help_blocks
 pub mod help_lines;
 
+// help_differences
+pub mod help_unlike;
+
+// toml_pieces
+pub mod toml_name;
+
+// drafts
+pub mod draft_for;
+
 // web_page
 pub mod note;
 

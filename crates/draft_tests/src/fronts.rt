@@ -5,7 +5,47 @@ use std::alloc::{AllocError, Allocator, Global};
 use std::process::Abort;
 
 // A line; its names with a blank between two, its value and whether that is optional, the gap, and the help.
-const OPTIONS: [(&str, &str, &str, bool, &str, &str); 29] = [
+const OPTIONS: [(&str, &str, &str, bool, &str, &str); 34] = [
+    (
+        "  -t,  --tries=NUMBER   set it",
+        "-t --tries",
+        "NUMBER",
+        false,
+        "   ",
+        "set it",
+    ),
+    (
+        "--data-binary <data> HTTP POST data",
+        "--data-binary",
+        "data",
+        false,
+        " ",
+        "HTTP POST data",
+    ),
+    (
+        "--help, -h (*)  show it",
+        "--help -h",
+        "",
+        false,
+        " ",
+        "(*)  show it",
+    ),
+    (
+        "-f FILE ..., --file N[bcw] ...  read",
+        "-f --file",
+        "N[bcw]",
+        false,
+        "  ",
+        "read",
+    ),
+    (
+        "-j[N], --jobs[=N]  so many",
+        "-j --jobs",
+        "N",
+        true,
+        "  ",
+        "so many",
+    ),
     (
         "  -o, --output=FILE   write it",
         "-o --output",
@@ -193,7 +233,7 @@ fn other_lines_have_no_options(rt: HostRuntime) {
 }
 
 // A line; the name of the command, its other names with a blank behind each, and the help.
-const COMMANDS: [(&str, &str, &str, &str); 8] = [
+const COMMANDS: [(&str, &str, &str, &str); 9] = [
     (
         "    clone    Clone a repository",
         "clone",
@@ -202,6 +242,7 @@ const COMMANDS: [(&str, &str, &str, &str); 8] = [
     ),
     ("  build, b   Compile it", "build", "b ", "Compile it"),
     ("  go (g)     run", "go", "g ", "run"),
+    ("  run (default)  it", "run", "", "it"),
     ("list - list packages", "list", "", "list packages"),
     ("auth:  Log in", "auth", "", "Log in"),
     (

@@ -7,3 +7,7 @@ mod blocks;
 mod fronts;
 #[cfg(test)]
 mod letters;
+#[cfg(test)]
+mod names;
+#[cfg(test)]
+mod written;

@@ -1,0 +1,171 @@
+//! Drafts: each row is what a program printed, and the draft of it.
+use bumpalo::Bump;
+use drafts::{DraftError, draft};
+use std::alloc::{Allocator, Global};
+use std::process::Abort;
+
+const ROWS: &[(&str, &str)] = &[
+    // a text before the usage, forms, and a usual title
+    (
+        "Cuts lines.\n\nUsage: /bin/cut [-b LIST]\n            [FILE]...\n  or:  cut --help\n\nOptions:\n  -b, --bytes=LIST   select bytes\n                     of each line\n      --only[=N]     the rest\n",
+        "name = \"cut\"\nabout = \"Cuts lines.\"\nusage = \"\"\"\n/bin/cut [-b LIST] [FILE]...\ncut --help\"\"\"\n\n# Options:\n\n[[option]]\nshort = \"b\"\nlong = \"bytes\"\nvalue = \"LIST\"\nhelp = \"\"\"\nselect bytes\nof each line\"\"\"\n\n[[option]]\nsyntax = \"--only[=N]\"\nhelp = \"the rest\"\n\n[[option]]\nlong = \"help\"\n",
+    ),
+    // a text next to the usage, one before the entries, and one below them
+    (
+        "usage: a\nOne.\n\nTwo \"\" \\.\n -x  more\n\nThree.\n\n  a   b\n",
+        "name = \"a\"\nabout = \"One.\"\nusage = \"a\"\nheader = \"Two \\\"\\\" \\\\.\"\nfooter = \"\"\"\nThree.\n\n      a   b\"\"\"\n\n[[option]]\nshort = \"x\"\nhelp = \"more\"\n",
+    ),
+    // a group with commands, one of them twice, and a topic
+    (
+        "usage: a\n\nMain commands:\n  go (g)   run\n  g        again\n\nNotes:\n  See \"a\".\n",
+        "name = \"a\"\nusage = \"a\"\n\n[[group]]\ntitle = \"Main commands\"\n\n[[group.command]]\nname = \"go\"\naliases = [\"g\"]\nhelp = \"run\"\n# left out:   g        again\n\n[[topic]]\ntitle = \"Notes\"\ntext = \"See \\\"a\\\".\"\n",
+    ),
+    // a group without members
+    (
+        "usage: a\n\nEmpty:\n  -x\u{200b}  unseen\n",
+        "name = \"a\"\nusage = \"a\"\n# left out: Empty:\n# left out:   -x\u{200b}  unseen\n",
+    ),
+    // positional values
+    (
+        "usage: a\n\npositional arguments:\n  <file>...  some files\n",
+        "name = \"a\"\nusage = \"a\"\n\n# positional arguments:\n\n[[positional]]\nvalue = \"file\"\nhelp = \"some files\"\nrequired = false\nrepeated = true\n",
+    ),
+    // some options on a line, and others only in the usage
+    (
+        "usage: a [-z] [-t N]\n  -t N -far\n  -z -y  last\n",
+        "name = \"a\"\nusage = \"a [-z] [-t N]\"\n\n[[option]]\nshort = \"t\"\nvalue = \"N\"\n\n[[option]]\nsyntax = \"-far\"\n\n[[option]]\nshort = \"z\"\n\n[[option]]\nshort = \"y\"\nhelp = \"last\"\n",
+    ),
+    (
+        "usage: a [-b] [--far <x>] [-b]\n\nText.\n",
+        "name = \"a\"\nabout = \"Text.\"\nusage = \"a [-b] [--far <x>] [-b]\"\n\n[[option]]\nshort = \"b\"\n\n[[option]]\nlong = \"far\"\n",
+    ),
+    // values as they stand
+    (
+        "usage: a\n  -P <MIN> [MAX]  from\n  -j[N], --jobs[=N]\n  --in FILE ...  read\n  --all {a,b}\n  -c, -C, --set K=V\n  -s=X|Y, -S\n",
+        "name = \"a\"\nusage = \"a\"\n\n[[option]]\nsyntax = \"-P <MIN> [MAX]\"\nhelp = \"from\"\n\n[[option]]\nsyntax = \"-j, --jobs[=N]\"\n\n[[option]]\nsyntax = \"--in FILE ...\"\nhelp = \"read\"\n\n[[option]]\nsyntax = \"--all {a,b}\"\n\n[[option]]\nsyntax = \"-c, -C, --set K=V\"\n\n[[option]]\nsyntax = \"-s, -S=<X|Y>\"\n",
+    ),
+    // the usage of a program in Go, and letters that are a name
+    (
+        "Usage of ./tool:\n  -host NAME\n\tthe host\nusage: tool [-host NAME]\n",
+        "name = \"tool\"\nusage = \"\"\"\n./tool\ntool [-host NAME]\"\"\"\n\n[[option]]\nsyntax = \"-host NAME\"\nhelp = \"the host\"\n",
+    ),
+    // a word in parentheses that is no name
+    (
+        "usage: a\n\nCommands:\n  go (g)  run\n  list (default)  show\n",
+        "name = \"a\"\nusage = \"a\"\n\n# Commands:\n\n[[command]]\nname = \"go\"\naliases = [\"g\"]\nhelp = \"run\"\n\n[[command]]\n# left out: list (default)\nname = \"list\"\nhelp = \"show\"\n",
+    ),
+    // a sentence, a text at the left edge below a topic, and letters of options in another order
+    (
+        "usage: a [-yx]\n\nMandatory arguments are mandatory.\n  -x  more\n  -y, --at=<k>[,..]  place\n\nExit status:\n 0  if OK,\n\nSee more.\n",
+        "name = \"a\"\nusage = \"a [-yx]\"\nheader = \"Mandatory arguments are mandatory.\"\nfooter = \"See more.\"\n\n[[option]]\nshort = \"x\"\nhelp = \"more\"\n\n[[option]]\nsyntax = \"-y, --at=<k>[,..]\"\nhelp = \"place\"\n\n[[topic]]\ntitle = \"Exit status\"\ntext = \"\"\"\n     0  if OK,\"\"\"\n",
+    ),
+    // commands below a choice of them, under any title
+    (
+        "usage: a\n\noptions:\n  -h  help\n\nActions:\n  {go,stop}  what\n    go    start\n    stop  end\n",
+        "name = \"a\"\nusage = \"a\"\n\n# options:\n\n[[option]]\nshort = \"h\"\nhelp = \"help\"\n\n[[group]]\ntitle = \"Actions\"\n# left out:   {go,stop}  what\n\n[[group.command]]\nname = \"go\"\nhelp = \"start\"\n\n[[group.command]]\nname = \"stop\"\nhelp = \"end\"\n",
+    ),
+    // a name that stands twice on a line
+    (
+        "usage: a\n  -x, --far -x  more\n  -y  less\n",
+        "name = \"a\"\nusage = \"a\"\n# left out:   -x, --far -x  more\n\n[[option]]\nshort = \"y\"\nhelp = \"less\"\n",
+    ),
+    // letters that stand together
+    (
+        "usage: a [-bC4] [-Cb] [-bC]\n",
+        "name = \"a\"\nusage = \"a [-bC4] [-Cb] [-bC]\"\n\n[[option]]\nsyntax = \"-bC4\"\n\n[[option]]\nsyntax = \"-Cb\"\n\n[[option]]\nshort = \"b\"\n\n[[option]]\nshort = \"C\"\n",
+    ),
+    // a title that is a sentence, and a line that leads to what follows
+    (
+        "usage: a\nThese are all:\n\nAll are short.\n  -x  more\n",
+        "name = \"a\"\nusage = \"a\"\nheader = \"\"\"\nThese are all:\n\nAll are short.\"\"\"\n\n[[option]]\nshort = \"x\"\nhelp = \"more\"\n",
+    ),
+    // a syntax
+    (
+        "usage: a\n  -q, --[no-]quiet   say less\n  -std=<x>\n",
+        "name = \"a\"\nusage = \"a\"\n\n[[option]]\nsyntax = \"-q, --[no-]quiet\"\nhelp = \"say less\"\n\n[[option]]\nsyntax = \"-std=<x>\"\n",
+    ),
+];
+
+fn is_drafted(out: Global, row: &(&str, &str)) -> bool {
+    is_that(out, row.0, row.1) == Some(true)
+}
+
+#[test]
+fn drafts_are_made(rt: HostRuntime) {
+    for row in ROWS {
+        assert!(rt; is_drafted(rt.alloc(), row));
+    }
+}
+
+fn has_no_name(out: Global, printed: &str) -> bool {
+    match draft(out, None, printed) {
+        Err(DraftError::NoName) => true,
+        _ => false,
+    }
+}
+
+fn has_no_name_but(out: Global, given: &str, printed: &str) -> bool {
+    match draft(out, Some(given), printed) {
+        Err(DraftError::NoName) => true,
+        _ => false,
+    }
+}
+
+#[test]
+fn a_name_is_given_or_in_a_usage(rt: HostRuntime) {
+    assert!(rt; has_no_name(rt.alloc(), "-x  more\n"));
+    assert!(rt; has_no_name(rt.alloc(), "usage: -x\n"));
+    assert!(rt; has_no_name_but(rt.alloc(), "", "usage: a\n"));
+    assert!(rt; has_no_name_but(rt.alloc(), "-b", "usage: a\n"));
+    match draft(rt.alloc(), Some("b"), "usage: a\n") {
+        Ok(text) => assert!(rt; text.as_str() == "name = \"b\"\nusage = \"a\"\n"),
+        Err(_) => assert!(rt; false),
+    }
+}
+
+// How many bytes an arena has: more than the draft takes.
+const BYTES: usize = 65536;
+
+// Whether the draft is what is wanted. None where a growth is refused.
+fn is_that<A: Allocator + Copy>(alloc: A, printed: &str, wanted: &str) -> Option<bool> {
+    match draft(alloc, None, printed) {
+        Ok(text) => Some(text.as_str() == wanted),
+        Err(DraftError::NoName) => Some(false),
+        Err(DraftError::Memory(_)) => None,
+    }
+}
+
+// Whether it is there in so much room. None where a growth is refused.
+fn is_made_in(
+    rt: &impl Abort,
+    out: Global,
+    printed: &str,
+    wanted: &str,
+    room: usize,
+) -> Option<bool> {
+    let arena = Bump::try_with_capacity(out, BYTES).expect(rt, "an arena");
+    arena.set_allocation_limit(Some(0));
+    let taken = arena.chunk_capacity().saturating_sub(room);
+    let _rest: Vec<u8, &Bump> = Vec::with_capacity(&arena, taken).expect(
+        rt,
+        "the rest of an arena",
+    );
+    is_that(&arena, printed, wanted)
+}
+
+// Whether it is there in some room, and not before with less of it.
+fn is_made_with_more(rt: &impl Abort, out: Global, row: &(&str, &str)) -> bool {
+    for step in 0..4096 {
+        if let Some(is_that) = is_made_in(rt, out, row.0, row.1, step * 8) {
+            return is_that && step > 0;
+        }
+    }
+    false
+}
+
+#[test]
+fn drafts_are_made_with_more_room(rt: HostRuntime) {
+    for row in ROWS {
+        assert!(rt; is_made_with_more(&rt, rt.alloc(), row));
+    }
+}

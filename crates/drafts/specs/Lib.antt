@@ -1,0 +1,10 @@
+pub mod Seen
+pub mod Passages
+pub mod Texts
+pub mod Options
+pub mod Entries
+pub mod Places
+pub mod Usages
+pub mod Strays
+pub mod Drafts
+pub mod View

@@ -1,0 +1,4 @@
+pub mod Blocks
+pub mod Merged
+pub mod Sorted
+pub mod Levels

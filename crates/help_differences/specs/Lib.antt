@@ -1,0 +1,7 @@
+pub mod Names
+pub mod View
+pub mod Help
+pub mod Differences
+pub mod Steps
+pub mod Level
+pub mod Texts

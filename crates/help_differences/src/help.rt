@@ -1,0 +1,126 @@
+//! The names that a help text has.
+ghost use Rattle.std.specs.Prelude.{◌≡◌, ◌++◌, map, IfOk, OnOk};
+ghost use Rattle.help_differences.specs.View.{name_said};
+ghost use Rattle.help_differences.specs.Help as spec;
+
+use crate::names::{Kind, Name, push_names};
+use help_blocks::{Block, blocks};
+use help_fronts::{command_front, option_names, usage_names};
+use std::alloc::{AllocError, Allocator};
+
+fn push_usage<'a, A: Allocator + Copy>(
+    alloc: A,
+    names: &mut Vec<Name<'a>, A>,
+    lines: &[&'a str],
+) -> Result<(), AllocError>
+    ensures { OnOk result (map name_said names.new.items
+        ≡ map name_said names.old.items ++ spec.names_of_usage (map (λ line. line.now) lines.now)) }
+{
+    for line in lines {
+        let found = usage_names(alloc, line)?;
+        push_names(names, Kind::Option, &found)?;
+    }
+    Ok(())
+}
+
+fn push_option<'a, A: Allocator + Copy>(
+    alloc: A,
+    names: &mut Vec<Name<'a>, A>,
+    line: &'a str,
+) -> Result<(), AllocError>
+    ensures { OnOk result (map name_said names.new.items
+        ≡ map name_said names.old.items ++ spec.names_of_option line.now) }
+{
+    let found = option_names(alloc, line)?;
+    push_names(names, Kind::Option, &found)
+}
+
+fn push_command<'a, A: Allocator + Copy>(
+    alloc: A,
+    names: &mut Vec<Name<'a>, A>,
+    line: &'a str,
+) -> Result<(), AllocError>
+    ensures { OnOk result (map name_said names.new.items
+        ≡ map name_said names.old.items ++ spec.names_of_command line.now) }
+{
+    if let Some(front) = command_front(alloc, line)? {
+        push_names(names, Kind::Command, &[front.name])?;
+        push_names(names, Kind::Command, &front.aliases)?;
+    }
+    Ok(())
+}
+
+// The first of some lines; an empty one, if there is none.
+fn first_line<'a>(lines: &[&'a str]) -> &'a str
+    ensures { result.now ≡ spec.first_line (map (λ line. line.now) lines.now) }
+{
+    match lines {
+        [] => "",
+        [line, ..] => line,
+    }
+}
+
+fn push_block<'a, A: Allocator + Copy>(
+    alloc: A,
+    names: &mut Vec<Name<'a>, A>,
+    kind: help_blocks::Kind,
+    lines: &[&'a str],
+) -> Result<(), AllocError>
+    ensures { OnOk result (map name_said names.new.items
+        ≡ map name_said names.old.items ++ spec.names_of_block kind (map (λ line. line.now) lines.now)) }
+{
+    match kind {
+        help_blocks::Kind::Usage => push_usage(alloc, names, lines),
+        help_blocks::Kind::Option => push_option(alloc, names, first_line(lines)),
+        help_blocks::Kind::Command => push_command(alloc, names, first_line(lines)),
+        help_blocks::Kind::Title
+        | help_blocks::Kind::Value
+        | help_blocks::Kind::Text
+        | help_blocks::Kind::Code => Ok(()),
+    }
+}
+
+// The lines of a block.
+#[tactic(auto, using(crate::proofs::Blocks::lines_of_map))]
+fn lines_of<'l, 'a>(lines: &'l [&'a str], block: &Block) -> &'l [&'a str]
+    ensures { map (λ line. line.now) result.now
+        ≡ spec.lines_from (map (λ line. line.now) lines.now) block.now.first block.now.end }
+{
+    let (_, rest) = lines.split_at(block.first.min(lines.len()));
+    let len = block.end.saturating_sub(block.first).min(rest.len());
+    let (own, _) = rest.split_at(len);
+    own
+}
+
+fn push_blocks<'a, A: Allocator + Copy>(
+    alloc: A,
+    names: &mut Vec<Name<'a>, A>,
+    lines: &[&'a str],
+    found: &[Block],
+) -> Result<(), AllocError>
+    ensures { OnOk result (map name_said names.new.items
+        ≡ map name_said names.old.items ++ spec.names_of_blocks (map (λ line. line.now) lines.now) found.now) }
+{
+    for block in found {
+        push_block(alloc, names, block.kind, lines_of(lines, block))?;
+    }
+    Ok(())
+}
+
+/// The names that a help text has, in order: of options in its usage, and of the entries that are options and commands.
+/// The lines have no escape sequences.
+///
+/// # Errors
+///
+/// Memory.
+pub fn names_of_help<'a, A: Allocator + Copy>(
+    alloc: A,
+    lines: &[&'a str],
+) -> Result<Vec<Name<'a>, A>, AllocError>
+    ensures { IfOk result (λ names. map name_said names.items ≡ spec.names_in (map (λ line. line.now) lines.now)) }
+{
+    let found = blocks(alloc, lines)?;
+    let mut names = Vec::new(alloc);
+    push_blocks(alloc, &mut names, lines, &found)?;
+    Ok(names)
+}

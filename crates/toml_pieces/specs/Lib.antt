@@ -1,0 +1,2 @@
+pub mod Toml
+pub mod View
