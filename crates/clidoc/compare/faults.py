@@ -77,7 +77,7 @@ def values(table, kind, alternative):
             return
     if not alternative:
         yield {"default": "x", "required": True}, [], "required is true beside a default"
-    for text, said in [("a\nb", "holds a control character"), ("a\ufffeb", "holds a noncharacter"), (True, "is no text and no whole number"), (1.5, "is no text and no whole number")]:
+    for text, said in [("a\nb", "holds a control character"), ("a\ufffeb", "holds a noncharacter"), (True, "is no text and no whole number; write it in quotes"), (1.5, "is no text and no whole number; write it in quotes")]:
         yield {"default": text}, [], f"default {said}"
     yield from arrays("values")
     yield {"values": ["x", ""]}, [], "values holds an empty text"

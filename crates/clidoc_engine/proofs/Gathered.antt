@@ -42,5 +42,5 @@ differs : (xs ys : List ℕ) → xs ≢ ys → bytes_eq xs ys ≡ false
 differs xs ys h = grind (arith, bytes_eq-Decides xs ys, false≢true)
 
 -- a word that is no option of its own
-pub other_word : (word : List ℕ) → word ≢ codes "--" → word ≢ codes "--deep" → word ≢ codes "--command" → word ≢ codes "--width" → word ≢ codes "--into" → word ≢ codes "--date" → word ≢ codes "--vendor" → word ≢ codes "--fragment" → word ≢ codes "--strict" → kind_of word ≡ other_kind word
-other_word word dashes deep command width folder date vendor fragment strict = grind (arith, differs word (codes "--") dashes, differs word (codes "--deep") deep, differs word (codes "--command") command, differs word (codes "--width") width, differs word (codes "--into") folder, differs word (codes "--date") date, differs word (codes "--vendor") vendor, differs word (codes "--fragment") fragment, differs word (codes "--strict") strict)
+pub other_word : (word : List ℕ) → word ≢ codes "--" → word ≢ codes "--deep" → word ≢ codes "--command" → word ≢ codes "--width" → word ≢ codes "--into" → word ≢ codes "--date" → word ≢ codes "--vendor" → word ≢ codes "--name" → word ≢ codes "--fragment" → word ≢ codes "--strict" → kind_of word ≡ other_kind word
+other_word word dashes deep command width folder date vendor name fragment strict = grind (arith, differs word (codes "--") dashes, differs word (codes "--deep") deep, differs word (codes "--command") command, differs word (codes "--width") width, differs word (codes "--into") folder, differs word (codes "--date") date, differs word (codes "--vendor") vendor, differs word (codes "--name") name, differs word (codes "--fragment") fragment, differs word (codes "--strict") strict)

@@ -11,8 +11,9 @@ use Rattle.html_page.specs.declared.frame.Extent.{Extent}
 use Rattle.command_pages.specs.Html.{IsHtmlOf}
 use Rattle.command_pages.specs.Readings.{IsManualOf, IsMarkdownOf}
 use Rattle.clidoc_engine.specs.Rendering.{IsExact, IsPage, IsRendering}
-use Rattle.clidoc_engine.specs.Words.{PageSaid, completion, console, html, in_json, man, markdown}
+use Rattle.clidoc_engine.specs.Words.{PageSaid, completion, console, differences, html, in_json, man, markdown}
 use Rattle.json_of_descriptions.specs.Descriptions.{IsReadBack, json_of, json_text}
+use Rattle.help_differences.specs.Texts.{HelpSaid, IsComparison}
 use Rattle.completions.specs.Scripts.{IsScript}
 use Rattle.completions.specs.declared.shells.Shell.{Shell}
 
@@ -38,3 +39,6 @@ module _ {A : Type 0} (commands : List (List ℕ)) (d : DescriptionSaid) (s : Su
 
   pub a_markdown : (depth : Depth) → IsMarkdownOf depth d.words s (string_bytes text) → string_bytes text ≡ markdown_page depth d.words s → IsPage (markdown commands depth) d (string_bytes text)
   a_markdown depth reads exact = a_page (markdown commands depth) d text (s, led, reads) (ap (option_map (markdown_page depth d.words)) led ∙ ap Some (sym exact))
+
+  pub a_comparison : (compared : HelpSaid) → IsComparison compared s.help_options s.level (string_bytes text) → IsPage (differences compared commands) d (string_bytes text)
+  a_comparison compared found = a_page (differences compared commands) d text (s, led, found) tt

@@ -4,7 +4,7 @@ use Rattle.clidoc_engine.specs.declared.reading.Given as of_given
 use Rattle.clidoc_engine.specs.declared.reading.Kind as of_kind
 use Rattle.clidoc_engine.specs.declared.reading.Kind.TheVariants as kinds
 use Rattle.clidoc_engine.specs.declared.reading.WordFault.{WordFault}
-use Rattle.clidoc_engine.specs.declared.reading.WordFault.TheVariants.{NoForm, NoSuchForm, FormBehind, NoSuchOption, NoValue, NoColumns, NoFolder, NoShell, NoSuchShell, Twice, TooMany, NotWith, NotAlone, Refused}
+use Rattle.clidoc_engine.specs.declared.reading.WordFault.TheVariants.{NoForm, NoSuchForm, FormBehind, NoSuchOption, NoValue, NoColumns, NoFolder, NoShell, NoSuchShell, NoHelp, Twice, TooMany, NotWith, NotAlone, Refused}
 use Rattle.clidoc_engine.specs.Chosen.{words_said}
 use Rattle.clidoc_engine.specs.declared.reading.Next.{Next}
 use Rattle.clidoc_engine.specs.declared.reading.Next.TheVariants.{Any, Value, File}
@@ -18,6 +18,7 @@ given_of g = record {
   folders = words_said g.folders.items;
   dates = words_said g.dates.items;
   vendors = words_said g.vendors.items;
+  names = words_said g.names.items;
   deeps = words_said g.deeps.items;
   fragments = words_said g.fragments.items;
   stricts = words_said g.stricts.items;
@@ -45,6 +46,7 @@ IsRefused (NoValue word) = ⊥
 IsRefused (NoColumns word) = ⊥
 IsRefused NoFolder = ⊥
 IsRefused NoShell = ⊥
+IsRefused NoHelp = ⊥
 IsRefused (NoSuchShell word) = ⊥
 IsRefused (Twice option) = ⊥
 IsRefused (TooMany word command) = ⊥
@@ -60,6 +62,7 @@ together g h = record {
   folders = g.folders ++ h.folders;
   dates = g.dates ++ h.dates;
   vendors = g.vendors ++ h.vendors;
+  names = g.names ++ h.names;
   deeps = g.deeps ++ h.deeps;
   fragments = g.fragments ++ h.fragments;
   stricts = g.stricts ++ h.stricts;

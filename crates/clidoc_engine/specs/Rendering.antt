@@ -10,8 +10,9 @@ use Rattle.command_pages.specs.Pages.{console_page, console_page_fault, level_at
 use Rattle.command_pages.specs.Html.{IsHtmlOf, html_page_fault}
 use Rattle.command_pages.specs.Readings.{IsManualOf, IsMarkdownOf}
 use Rattle.completions.specs.Scripts.{IsScript}
+use Rattle.help_differences.specs.Texts.{IsComparison}
 use Rattle.json_of_descriptions.specs.Descriptions.{IsReadBack, json_of, json_text}
-use Rattle.clidoc_engine.specs.Words.{PageSaid, console, html, markdown, man, completion, in_json}
+use Rattle.clidoc_engine.specs.Words.{PageSaid, console, html, markdown, man, completion, in_json, differences}
 
 -- ---- of a page
 
@@ -19,7 +20,8 @@ use Rattle.clidoc_engine.specs.Words.{PageSaid, console, html, markdown, man, co
 abbrev pub AtLevel : (commands : List (List ℕ)) → DescriptionSaid → (SubjectSaid → Type 0) → Type 0
 AtLevel commands d P = (s : SubjectSaid) × (level_at commands d ≡ Some s) × P s
 
--- What a reader of the page's medium reads in the bytes: what the page says. None reads a page on a console.
+-- What a reader of the page's medium reads in the bytes: what the page says. None reads a page on a console. Of differences it is which
+-- names there are.
 abbrev pub IsRendering : PageSaid → DescriptionSaid → List ℕ → Type 0
 IsRendering (console form commands width) d output = ⊤
 IsRendering (html extent commands given) d output = AtLevel commands d (λ s. IsHtmlOf d extent given s output)
@@ -27,6 +29,7 @@ IsRendering (markdown commands depth) d output = AtLevel commands d (λ s. IsMar
 IsRendering (man commands depth given) d output = AtLevel commands d (λ s. IsManualOf d depth given s output)
 IsRendering (completion shell) d output = IsScript shell d output
 IsRendering in_json d output = IsReadBack output (json_of d)
+IsRendering (differences text commands) d output = AtLevel commands d (λ s. IsComparison text s.help_options s.level output)
 
 -- exactly these bytes. Of a page in HTML its tree says all but how it is spelled.
 abbrev pub IsExact : PageSaid → DescriptionSaid → List ℕ → Type 0
@@ -36,6 +39,7 @@ IsExact (markdown commands depth) d output = option_map (markdown_page depth d.w
 IsExact (man commands depth given) d output = option_map (manual_page d depth given) (level_at commands d) ≡ Some output
 IsExact (completion shell) d output = ⊤
 IsExact in_json d output = output ≡ json_text d
+IsExact (differences text commands) d output = ⊤
 
 -- this page of the description: a text of which both hold
 pub record IsPage (p : PageSaid) (d : DescriptionSaid) (output : List ℕ) : Type 0 where
@@ -57,3 +61,4 @@ IsUnwritable (markdown commands depth) d error = AtLevel commands d (λ s. HasCh
 IsUnwritable (man commands depth given) d error = AtLevel commands d (λ s. HasCharacter (manual_page_fault d depth given s) error)
 IsUnwritable (completion shell) d error = ⊥
 IsUnwritable in_json d error = ⊥
+IsUnwritable (differences text commands) d error = ⊥

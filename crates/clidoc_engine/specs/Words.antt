@@ -9,14 +9,16 @@ use Rattle.command_pages.specs.Pages.{TitleGiven}
 use Rattle.command_pages.specs.declared.given.ConsoleForm.{ConsoleForm}
 use Rattle.command_pages.specs.declared.given.ConsoleForm.TheVariants.{Usage, Full, Brief}
 use Rattle.clidoc_engine.specs.declared.reading.Valued.{Valued}
-use Rattle.clidoc_engine.specs.declared.reading.Valued.TheVariants.{Command, Width, Into, Date, Vendor}
+use Rattle.clidoc_engine.specs.declared.reading.Valued.TheVariants.{Command, Width, Into, Date, Vendor, Name}
+use Rattle.help_differences.specs.Texts.{HelpSaid}
 use Rattle.completions.specs.declared.shells.Shell.{Shell}
 use Rattle.completions.specs.declared.shells.Shell.TheVariants.{Bash, Zsh, Fish}
 
 -- ---- what is chosen
 
 -- a page of what some commands lead to: on the console, of a width; in HTML, of that level and of those below it, complete or what stands in its
--- body; in markdown, or as a manual page, of that level alone, or of those below it too; and what completes the words of the program in a shell
+-- body; in markdown, or as a manual page, of that level alone, or of those below it too; and what completes the words of the program in a shell; the
+-- description in JSON; and the names that either that level or a help text has alone
 pub data PageSaid : Type 0 where
   console : ConsoleForm → (commands : List (List ℕ)) → (width : ℕ) → PageSaid
   html : Extent → (commands : List (List ℕ)) → TitleGiven → PageSaid
@@ -24,11 +26,14 @@ pub data PageSaid : Type 0 where
   man : (commands : List (List ℕ)) → Depth → TitleGiven → PageSaid
   completion : Shell → PageSaid
   in_json : PageSaid
+  differences : HelpSaid → (commands : List (List ℕ)) → PageSaid
 
 pub data ChoiceSaid : Type 0 where
   page : PageSaid → (file : Option (List ℕ)) → ChoiceSaid
   check : (is_strict : Bool) → (file : Option (List ℕ)) → ChoiceSaid
   all : (folder : List ℕ) → TitleGiven → (file : Option (List ℕ)) → ChoiceSaid
+  draft : (name file : Option (List ℕ)) → ChoiceSaid
+  against : (printed : List ℕ) → (commands : List (List ℕ)) → (file : Option (List ℕ)) → ChoiceSaid
   help : ChoiceSaid
   version : ChoiceSaid
 
@@ -42,13 +47,14 @@ pub record Given : Type 0 where
   pub folders : List (List ℕ)
   pub dates : List (List ℕ)
   pub vendors : List (List ℕ)
+  pub names : List (List ℕ)
   pub deeps : List (List ℕ)
   pub fragments : List (List ℕ)
   pub stricts : List (List ℕ)
   pub files : List (List ℕ)
 
 abbrev pub only_files : List (List ℕ) → Given
-only_files words = record { plain = []; commands = []; widths = []; folders = []; dates = []; vendors = []; deeps = []; fragments = []; stricts = []; files = words }
+only_files words = record { plain = []; commands = []; widths = []; folders = []; dates = []; vendors = []; names = []; deeps = []; fragments = []; stricts = []; files = words }
 
 abbrev pub with_plain : List ℕ → Given → Given
 with_plain word g = record g { plain = word ∷ g.plain }
@@ -68,6 +74,7 @@ with_value Width value g = record g { widths = value ∷ g.widths }
 with_value Into value g = record g { folders = value ∷ g.folders }
 with_value Date value g = record g { dates = value ∷ g.dates }
 with_value Vendor value g = record g { vendors = value ∷ g.vendors }
+with_value Name value g = record g { names = value ∷ g.names }
 
 abbrev pub option_word : Valued → List ℕ
 option_word Command = codes "--command"
@@ -75,6 +82,7 @@ option_word Width = codes "--width"
 option_word Into = codes "--into"
 option_word Date = codes "--date"
 option_word Vendor = codes "--vendor"
+option_word Name = codes "--name"
 
 pub data Kind : Type 0 where
   dashes : Kind
@@ -104,7 +112,7 @@ joined_kind (o ∷ os) word = joined_to o (behind (option_word o ++ codes "=") w
 -- a word that is no option of its own
 abbrev pub other_kind : List ℕ → Kind
 other_kind word =
-    if bytes_eq word (codes "-") || not (slice_index word 0 == 45) then plain else joined_kind (Command ∷ Width ∷ Into ∷ Date ∷ Vendor ∷ []) word
+    if bytes_eq word (codes "-") || not (slice_index word 0 == 45) then plain else joined_kind (Command ∷ Width ∷ Into ∷ Date ∷ Vendor ∷ Name ∷ []) word
 
 -- a word that begins with `-` is `--`, or `-` alone, or `--deep`, or `--fragment`, or `--strict`, or an option with a value, which stands behind `=` or is the next word, whatever
 -- that is; any other such word is unknown
@@ -119,6 +127,7 @@ kind_of word =
     if bytes_eq word (option_word Into) then apart Into else
     if bytes_eq word (option_word Date) then apart Date else
     if bytes_eq word (option_word Vendor) then apart Vendor else
+    if bytes_eq word (option_word Name) then apart Name else
     other_kind word
 
 -- what a word gives: alone, before what the others give, or with the next one
@@ -201,9 +210,9 @@ HasNoTitle g = (g.dates ≡ []) × (g.vendors ≡ [])
 abbrev pub HasNoLevel : Given → Type 0
 HasNoLevel g = (g.commands ≡ []) × (g.widths ≡ []) × (g.deeps ≡ []) × (g.fragments ≡ [])
 
--- no word says where pages are written, or how a description is judged
+-- no word says where pages are written, how a description is judged, or what a program is called
 abbrev pub HasNoWork : Given → Type 0
-HasNoWork g = (g.folders ≡ []) × (g.stricts ≡ [])
+HasNoWork g = (g.folders ≡ []) × (g.stricts ≡ []) × (g.names ≡ [])
 
 -- the word, and the options that stand with it, name this page
 abbrev pub NamesPage : (terminal : ℕ) → (word : List ℕ) → Given → PageSaid → Type 0
@@ -217,6 +226,7 @@ NamesPage terminal word g (man commands depth title) =
     (word ≡ codes "man") × (commands ≡ g.commands) × (g.widths ≡ []) × IsDepth g.deeps depth × (g.fragments ≡ []) × IsTitle g title
 NamesPage terminal word g (completion shell) = ⊥
 NamesPage terminal word g in_json = ⊥
+NamesPage terminal word g (differences text commands) = ⊥
 
 abbrev pub shell_word : Shell → List ℕ
 shell_word Bash = codes "bash"
@@ -232,16 +242,23 @@ abbrev pub IsPageOf : (terminal : ℕ) → (word : List ℕ) → (behind : List 
 IsPageOf terminal word behind g p file = (behind ≡ option_to_list file) × NamesPage terminal word g p × HasNoWork g
 
 abbrev pub IsCheck : (behind : List (List ℕ)) → Given → (is_strict : Bool) → (file : Option (List ℕ)) → Type 0
-IsCheck behind g is_strict file = (behind ≡ option_to_list file) × HasNoLevel g × HasNoTitle g × (g.folders ≡ []) × IsStrict g.stricts is_strict
+IsCheck behind g is_strict file = (behind ≡ option_to_list file) × HasNoLevel g × HasNoTitle g × (g.folders ≡ []) × (g.names ≡ []) × IsStrict g.stricts is_strict
 
 abbrev pub IsAll : (behind : List (List ℕ)) → Given → (folder : List ℕ) → TitleGiven → (file : Option (List ℕ)) → Type 0
-IsAll behind g folder title file = (behind ≡ option_to_list file) × HasNoLevel g × IsTitle g title × (g.folders ≡ folder ∷ []) × (g.stricts ≡ [])
+IsAll behind g folder title file = (behind ≡ option_to_list file) × HasNoLevel g × IsTitle g title × (g.folders ≡ folder ∷ []) × (g.stricts ≡ []) × (g.names ≡ [])
 
 abbrev pub IsComplete : (behind : List (List ℕ)) → Given → Shell → (file : Option (List ℕ)) → Type 0
 IsComplete behind g shell file = (behind ≡ shell_word shell ∷ option_to_list file) × HasNoOption g
 
 abbrev pub IsJson : (behind : List (List ℕ)) → Given → (file : Option (List ℕ)) → Type 0
 IsJson behind g file = (behind ≡ option_to_list file) × HasNoOption g
+
+abbrev pub IsDraft : (behind : List (List ℕ)) → Given → (name file : Option (List ℕ)) → Type 0
+IsDraft behind g name file = (behind ≡ option_to_list file) × HasNoLevel g × HasNoTitle g × (g.folders ≡ []) × (g.stricts ≡ []) × (g.names ≡ option_to_list name)
+
+abbrev pub IsAgainst : (behind : List (List ℕ)) → Given → (printed : List ℕ) → (commands : List (List ℕ)) → (file : Option (List ℕ)) → Type 0
+IsAgainst behind g printed commands file =
+    (behind ≡ printed ∷ option_to_list file) × (commands ≡ g.commands) × (g.widths ≡ []) × (g.deeps ≡ []) × (g.fragments ≡ []) × HasNoTitle g × HasNoWork g
 
 -- the word, those behind it, and the options choose this work
 abbrev pub Takes : (terminal : ℕ) → (word : List ℕ) → (behind : List (List ℕ)) → Given → ChoiceSaid → Type 0
@@ -250,6 +267,8 @@ Takes terminal word behind g (page in_json file) = (word ≡ codes "json") × Is
 Takes terminal word behind g (page p file) = IsPageOf terminal word behind g p file
 Takes terminal word behind g (check is_strict file) = (word ≡ codes "check") × IsCheck behind g is_strict file
 Takes terminal word behind g (all folder title file) = (word ≡ codes "all") × IsAll behind g folder title file
+Takes terminal word behind g (draft name file) = (word ≡ codes "draft") × IsDraft behind g name file
+Takes terminal word behind g (against printed commands file) = (word ≡ codes "against") × IsAgainst behind g printed commands file
 Takes terminal word behind g help = ⊥
 Takes terminal word behind g version = ⊥
 

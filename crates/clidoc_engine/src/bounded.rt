@@ -10,6 +10,7 @@ use std::io::{ErrorKind, Read, Write};
 #[derive(Drop)]
 pub struct Bounded<E> {
     inner: E,
+    most: usize,
     left: usize,
     is_over: bool,
 }
@@ -19,9 +20,15 @@ impl<E> Bounded<E> {
     pub fn new(inner: E, most: usize) -> Bounded<E> {
         Bounded {
             inner,
+            most,
             left: most,
             is_over: false,
         }
+    }
+
+    /// How many bytes it gave or took.
+    pub fn moved(&self) -> usize {
+        self.most.saturating_sub(self.left)
     }
 
     /// Whether there were more bytes than it may give or take.

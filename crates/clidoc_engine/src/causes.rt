@@ -13,6 +13,8 @@ pub enum Cause {
     Open { place: Place, mark: &'static str },
     /// The error is a header that has to stand before another.
     Late { header: String, other: String },
+    /// The error is something that is no value, as a text without quotes is.
+    Bare,
 }
 
 /// What else can be said of an error with this message at this place. `AllocError` where an allocation failed.
@@ -25,6 +27,9 @@ pub(crate) fn cause_of(
     if text.trim_end().len() <= place {
         return Ok(open_cause(text.as_bytes()));
     }
+    if is_bare(text.as_bytes(), place, message) {
+        return Ok(Cause::Bare);
+    }
     if message != "duplicate key" {
         return Ok(Cause::Unknown);
     }
@@ -35,6 +40,15 @@ pub(crate) fn cause_of(
         }),
         None => Ok(Cause::Unknown),
     }
+}
+
+// Whether something stands where a value is expected.
+fn is_bare(text: &[u8], place: usize, message: &str) -> bool {
+    message.starts_with("invalid value, expected a string")
+        && match text.get(place) {
+            None | Some(b' ' | b'\t' | b'\n' | b'#' | b',' | b'=' | b']' | b'}') => false,
+            Some(_) => true,
+        }
 }
 
 fn open_cause(text: &[u8]) -> Cause {

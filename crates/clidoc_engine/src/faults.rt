@@ -77,6 +77,10 @@ impl Display for Told<'_> {
                 cause,
             } => match cause {
                 Cause::Unknown => write!(f, "{file}:{place}: {}", error.message()),
+                Cause::Bare => {
+                    let words = error.message();
+                    write!(f, "{file}:{place}: {words}; a text stands in quotes")
+                }
                 Cause::Open { place, mark } => write!(f, "{file}:{place}: {mark} is not closed"),
                 Cause::Late { header, other } => {
                     let (header, other) = (header.as_str(), other.as_str());

@@ -7,6 +7,7 @@ mod beside;
 pub mod bounded;
 pub mod causes;
 pub mod described;
+pub mod drafted;
 pub mod echoed;
 pub mod engine;
 pub mod faults;

@@ -16,7 +16,9 @@ clidoc FORM [--command NAME]... [--deep] [--width COLUMNS] [--fragment] [--date 
 clidoc complete SHELL [FILE]
 clidoc json [FILE]
 clidoc all --into FOLDER [--date DATE] [--vendor TEXT] [FILE]
-clidoc check [--strict] [FILE]"""
+clidoc check [--strict] [FILE]
+clidoc draft [--name NAME] [FILE]
+clidoc against HELP [--command NAME]... [FILE]"""
 footer = """
 The status is 0 if the page was written, 2 if the words are wrong, and 1 if anything else went wrong, which a line on standard error tells.
 
@@ -49,7 +51,7 @@ hint = "none"
 help = """
 Show this command, by any of its names.
 
-It is given once for each level down. It goes with `usage`, `full`, `brief`, `man`, `markdown` and `html`."""
+It is given once for each level down. It goes with `usage`, `full`, `brief`, `man`, `markdown`, `html` and `against`."""
 repeated = true
 
 [[option]]
@@ -111,9 +113,18 @@ Name this vendor on manual and HTML pages, and not that of the description.
 
 It goes with `man`, `html` and `all`."""
 
+[[option]]
+long = "name"
+value = "NAME"
+hint = "none"
+help = """
+Call the program of a draft so, and not as its usage does.
+
+It goes with `draft`."""
+
 [[positional]]
 value = "FORM"
-values = ["usage", "full", "brief", "man", "markdown", "html", "complete", "json", "check", "all"]
+values = ["usage", "full", "brief", "man", "markdown", "html", "complete", "json", "check", "all", "draft", "against"]
 help = """
 What is made of the description.
 
@@ -126,7 +137,9 @@ What is made of the description.
 - `complete`: a script that completes the words of the program in SHELL, which is `bash`, `zsh` or `fish`.
 - `json`: the description itself in JSON, without what is a default.
 - `check`: no page. It is told whether FILE is a description, and what it would better say.
-- `all`: the manual page and the page in markdown of each level, and the HTML page, as files of `--into`."""
+- `all`: the manual page and the page in markdown of each level, and the HTML page, as files of `--into`.
+- `draft`: a first description, of a help text in FILE.
+- `against`: no page, but each name of an option or a command that either the help text HELP or the description has alone."""
 
 [[positional]]
 value = "FILE"
@@ -165,5 +178,10 @@ Completions for bash, in a file that `~/.bashrc` reads, or that stands where bas
 Whether it is a description that nothing is to be said about, and all pages at once:
 
     clidoc check --strict greet.toml
-    clidoc all --into=pages greet.toml"""
+    clidoc all --into=pages greet.toml
+
+A first description of a program that has none, and whether program and description still agree:
+
+    greet --help | clidoc draft > greet.toml
+    greet --help | clidoc against - greet.toml"""
 "#;

@@ -5,11 +5,12 @@ ghost use Rattle.description.specs.View.{description_said};
 ghost use Rattle.description_pages.specs.LevelsView.{subject_of};
 ghost use Rattle.command_pages.specs.Pages.{level_at};
 ghost use Rattle.command_pages.specs.View.{title_said};
+ghost use Rattle.help_differences.specs.View.{help_said};
 ghost use Rattle.clidoc_engine.specs.Chosen.{console_said, page_said};
 ghost use Rattle.clidoc_engine.specs.Chosen.{words_said as names_said};
 ghost use Rattle.clidoc_engine.specs.Rendering.{IsPage};
 ghost use Rattle.clidoc_engine.specs.Steps.{IsLost, IsNoCommand, IsUnmade};
-ghost use Rattle.clidoc_engine.specs.Words.{completion, html, in_json, man, markdown};
+ghost use Rattle.clidoc_engine.specs.Words.{completion, differences, html, in_json, man, markdown};
 
 use crate::faults::Fault;
 use crate::meant::meant_by;
@@ -23,6 +24,7 @@ use command_pages::{
 use completions::{Shell, completion_script};
 use description::Description;
 use description_pages::subjects::enter;
+use help_differences::{HelpText, difference_text};
 use json_of_descriptions::json_text;
 use std::alloc::{AllocError, Allocator, Global};
 
@@ -69,6 +71,9 @@ fn rendered_in<'p, 'a: 'p, A: Allocator + Copy, B: Allocator>(
         } => as_manual(alloc, arena, global, commands, *depth, *title, description),
         Page::Completion(shell) => completing(alloc, arena, *shell, description),
         Page::Json => as_json(alloc, description),
+        Page::Differences { help, commands } => {
+            compared(alloc, arena, global, help.lent(), commands, description)
+        }
     }
 }
 
@@ -227,4 +232,25 @@ fn as_json<A: Allocator + Copy>(alloc: A, description: &Description<'_>) -> Resu
     ensures unmade { IfErr result (IsUnmade in_json (description_said description.now)) }
 {
     Ok(json_text(alloc, description)?)
+}
+
+// ---- beside a help text
+
+#[tactic(auto, using(crate::proofs::Led::lost_unmade, crate::proofs::Made::a_comparison))]
+fn compared<'p, 'a: 'p, A: Allocator + Copy>(
+    alloc: A,
+    arena: &'p Bump,
+    global: Global,
+    help: HelpText<'_>,
+    commands: &[&str],
+    description: &'p Description<'a>,
+) -> Result<String<A>, Fault>
+    ensures page { IfOk result (λ made. IsPage (differences (help_said help.entry) (names_said commands.now))
+        (description_said description.now) (string_bytes made)) }
+    ensures unmade { IfErr result (IsUnmade (differences (help_said help.entry) (names_said commands.now))
+        (description_said description.now)) }
+{
+    let level = level_at(arena, global, commands, description)?;
+    let text = difference_text(alloc, arena, help, level.help_options, level.level)?;
+    Ok(text)
 }

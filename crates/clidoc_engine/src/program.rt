@@ -5,6 +5,7 @@ ghost use Rattle.watched.specs.Watched.{IsUnmarked};
 use crate::all::make_files;
 use crate::bounded::Bounded;
 use crate::described::Lines;
+use crate::drafted::draft_of;
 use crate::echoed::Echoed;
 use crate::engine::{check_description, page_of, run_description};
 use crate::faults::Fault;
@@ -12,7 +13,10 @@ use crate::files::{PageFile, check_names};
 use crate::meant::Named;
 use crate::own::{DESCRIPTION, VERSION};
 use crate::reading::WordFault;
-use crate::words::{Choice, Console, ConsoleForm, Page, TitleGiven, choose, terminal_width};
+use crate::utf8::text_from;
+use crate::words::{
+    Choice, Console, ConsoleForm, HelpGiven, Page, TitleGiven, choose, terminal_width,
+};
 use crate::wrong::line_of;
 use folder::{enter, tell_left, tell_written, write_files};
 use limits::{Limit, Limits};
@@ -89,8 +93,8 @@ impl From<AllocError> for Failure {
 
 /// Does what the words after the program's name choose, and answers the status: success, `WRONG_WORDS` where they
 /// choose nothing, and failure where the run failed. On standard error it says why it was no success. The words,
-/// what is read and the pages are kept in the runtime's memory, and all else in `global`. No clause can say what a runtime
-/// reads and prints.
+/// what is read and the pages are kept in the runtime's memory, and all else in `global`, also a help text that is
+/// compared. No clause can say what a runtime reads and prints.
 pub fn run<R: Alloc + Env + Files + Input + Print + Eprint + RandomSource>(
     rt: &R,
     global: Global,
@@ -133,10 +137,7 @@ where
         return usage(rt, global, terminal);
     }
     match choose(global, terminal, words) {
-        Ok(choice) => {
-            perform(rt, global, terminal, &choice)?;
-            Ok(ExitCode::SUCCESS)
-        }
+        Ok(choice) => perform(rt, global, terminal, &choice),
         Err(fault) => refuse(rt, global, &fault),
     }
 }
@@ -180,35 +181,50 @@ fn perform<R: Alloc + Env + Files + Input + Print + Eprint + RandomSource>(
     global: Global,
     terminal: usize,
     choice: &Choice<'_, Global>,
-) -> Result<(), Failure>
+) -> Result<ExitCode, Failure>
 where
     R::A: Copy,
 {
     match choice {
-        Choice::Page(page, file) => write_page_of(rt, global, page, *file),
-        Choice::Check { strict, file } => check_file(rt, global, *strict, *file),
+        Choice::Page(page, file) => drop(write_page_of(rt, global, page, *file)?),
+        Choice::Check { strict, file } => check_file(rt, global, *strict, *file)?,
         Choice::All {
             folder,
             title,
             file,
-        } => write_all_of(rt, global, (*folder, *title), *file),
-        Choice::Help => {
-            let page = own_page(global, ConsoleForm::Full, terminal);
-            let input = (STANDARD_INPUT, DESCRIPTION.as_bytes());
-            let written = write_page(rt, global, Limits::USUAL, &page, input);
-            drop(page);
-            written
-        }
-        Choice::Version => write_version(rt),
+        } => write_all_of(rt, global, (*folder, *title), *file)?,
+        Choice::Draft { name, file } => write_draft_of(rt, global, *name, *file)?,
+        Choice::Against {
+            help,
+            commands,
+            file,
+        } => return compare(rt, global, (*help, commands), *file),
+        Choice::Help => write_help(rt, global, terminal)?,
+        Choice::Version => write_version(rt)?,
     }
+    Ok(ExitCode::SUCCESS)
 }
 
+// Writes what the program says of itself.
+fn write_help<R: Alloc + Print>(rt: &R, global: Global, terminal: usize) -> Result<(), Failure>
+where
+    R::A: Copy,
+{
+    let page = own_page(global, ConsoleForm::Full, terminal);
+    let input = (STANDARD_INPUT, DESCRIPTION.as_bytes());
+    let written = write_page(rt, global, Limits::USUAL, &page, input);
+    drop(page);
+    written?;
+    Ok(())
+}
+
+// Writes the page, and answers how many bytes it has.
 fn write_page_of<R: Alloc + Env + Files + Input + Print>(
     rt: &R,
     global: Global,
     page: &Page<'_, Global>,
     file: Option<&str>,
-) -> Result<(), Failure>
+) -> Result<usize, Failure>
 where
     R::A: Copy,
 {
@@ -224,6 +240,125 @@ where
         }
     }
 }
+
+// ---- help texts
+
+// Writes the names that either the help text or the description has alone. If there are any, that is a failure.
+fn compare<R: Alloc + Env + Files + Input + Print + Eprint>(
+    rt: &R,
+    global: Global,
+    (help, commands): (&str, &[&str]),
+    file: Option<&str>,
+) -> Result<ExitCode, Failure>
+where
+    R::A: Copy,
+{
+    if named(Some(help)).is_none() && named(file).is_none() {
+        let line = "clidoc: HELP and FILE are both standard input";
+        return Ok(expecting(rt, line));
+    }
+    let page = Page::Differences {
+        help: HelpGiven {
+            printed: help_text(rt, global, help)?,
+            name: name_of(global, named(Some(help)))?,
+            file: name_of(global, named(file))?,
+        },
+        commands: Vec::from_slice(global, commands)?,
+    };
+    let written = write_page_of(rt, global, &page, file);
+    drop(page);
+    match written? {
+        0 => Ok(ExitCode::SUCCESS),
+        _ => Ok(ExitCode::FAILURE),
+    }
+}
+
+// What a file is called in a line.
+fn name_of(global: Global, file: Option<&str>) -> Result<String, AllocError> {
+    match file {
+        Some(file) => format!(in global; "{}", Echoed(file)),
+        None => String::from_str(global, "standard input"),
+    }
+}
+
+// All that stands in the file.
+fn help_text<R: Alloc + Env + Files + Input>(
+    rt: &R,
+    global: Global,
+    file: &str,
+) -> Result<String, Failure> {
+    let limits = Limits::said(rt, global)?;
+    match named(Some(file)) {
+        None => read_text(global, limits, (STANDARD_INPUT, rt.reader())),
+        Some(file) => {
+            let input = opened(rt, global, file)?;
+            read_text(global, limits, (file, input))
+        }
+    }
+}
+
+fn read_text<S: Read + Drop>(
+    global: Global,
+    limits: Limits,
+    (file, input): (&str, S),
+) -> Result<String, Failure> {
+    let mut reader = bounded(input, limits.input);
+    let outcome = text_from(global, &mut reader);
+    within(global, limits.input, outcome, file, reader)
+}
+
+fn write_draft_of<R: Alloc + Env + Files + Input + Print>(
+    rt: &R,
+    global: Global,
+    name: Option<&str>,
+    file: Option<&str>,
+) -> Result<(), Failure>
+where
+    R::A: Copy,
+{
+    let limits = Limits::said(rt, global)?;
+    match named(file) {
+        None => write_draft(rt, global, limits, name, (STANDARD_INPUT, rt.reader())),
+        Some(file) => {
+            let input = opened(rt, global, file)?;
+            write_draft(rt, global, limits, name, (file, input))
+        }
+    }
+}
+
+fn write_draft<R: Alloc + Print, S: Read + Drop>(
+    rt: &R,
+    global: Global,
+    limits: Limits,
+    name: Option<&str>,
+    (file, input): (&str, S),
+) -> Result<(), Failure>
+where
+    R::A: Copy,
+{
+    let mut reader = bounded(input, limits.input);
+    let outcome = draft_of(rt.alloc(), name, &mut reader);
+    match within(global, limits.input, outcome, file, reader)? {
+        Some(text) => write_text(rt, text.as_str()),
+        None => Err(Failure::Told(nameless(global, name, file)?)),
+    }
+}
+
+// Why a draft has no name.
+fn nameless(global: Global, name: Option<&str>, file: &str) -> Result<String, AllocError> {
+    match name {
+        None => format!(in global;
+            "{}: no usage names the program; --name NAME does",
+            Echoed(file)
+        ),
+        Some(name) => format!(in global;
+            "clidoc: {} may not be the name of a program",
+            Named(name)
+        ),
+    }
+}
+
+// ---- judging
 
 fn check_file<R: Alloc + Env + Files + Input + Eprint>(
     rt: &R,
@@ -327,7 +462,7 @@ fn write_page<R: Alloc + Print, S: Read + Drop>(
     limits: Limits,
     page: &Page<'_, Global>,
     (file, input): (&str, S),
-) -> Result<(), Failure>
+) -> Result<usize, Failure>
 where
     R::A: Copy,
 {
@@ -336,7 +471,8 @@ where
     let mut reader = bounded(input, limits.input);
     let mut writer = bounded(io::writer(rt), limits.output);
     let outcome = run_description(&texts, room, page, file, &mut reader, &mut writer);
-    if writer.into_inner().is_over() {
+    let writer = writer.into_inner();
+    if writer.is_over() {
         drop(outcome);
         return Err(too_much(global, "the page is", limits.output));
     }
@@ -344,7 +480,8 @@ where
         drop(outcome);
         return Err(too_much(global, "the page with what it is made of is", limits.output));
     }
-    within(global, limits.input, outcome, file, reader)
+    within(global, limits.input, outcome, file, reader)?;
+    Ok(writer.moved())
 }
 
 // An end of no more bytes than this.
@@ -489,8 +626,12 @@ fn own_page(global: Global, form: ConsoleForm, width: usize) -> Page<'static, Gl
 }
 
 fn write_version<R: Print>(rt: &R) -> Result<(), Failure> {
+    write_text(rt, VERSION)
+}
+
+fn write_text<R: Print>(rt: &R, text: &str) -> Result<(), Failure> {
     let mut writer = Watched::new(io::writer(rt));
-    match writer.write_all(VERSION.as_bytes()) {
+    match writer.write_all(text.as_bytes()) {
         Ok(()) => Ok(()),
         Err(_) => Err(Failure::Write),
     }

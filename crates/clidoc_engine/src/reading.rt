@@ -6,7 +6,7 @@ ghost use Rattle.clidoc_engine.specs.Chosen.{words_said};
 ghost use Rattle.clidoc_engine.specs.Reading.{IsRefused, before, given_after, given_of, kind_said, together};
 ghost use Rattle.clidoc_engine.specs.Words.{behind, given_in, joined_kind, kind_of, only_files, other_kind};
 ghost use Rattle.clidoc_engine.specs.Words.{with_value};
-ghost use Rattle.clidoc_engine.specs.declared.reading.Valued.TheVariants.{Command, Date, Into, Vendor, Width};
+ghost use Rattle.clidoc_engine.specs.declared.reading.Valued.TheVariants.{Command, Date, Into, Name, Vendor, Width};
 
 use std::alloc::{AllocError, Allocator};
 
@@ -23,6 +23,8 @@ pub enum Valued {
     Date,
     /// `--vendor`
     Vendor,
+    /// `--name`
+    Name,
 }
 
 /// An option.
@@ -59,6 +61,8 @@ pub enum WordFault<'w> {
     NoShell,
     /// This is no shell.
     NoSuchShell(&'w str),
+    /// There is no help text to compare with.
+    NoHelp,
     /// There is no folder to write all pages into.
     NoFolder,
     /// This option is given more than once.
@@ -97,6 +101,7 @@ pub(crate) struct Given<'w, A: Allocator> {
     pub folders: Vec<&'w str, A>,
     pub dates: Vec<&'w str, A>,
     pub vendors: Vec<&'w str, A>,
+    pub names: Vec<&'w str, A>,
     pub deeps: Vec<&'w str, A>,
     pub fragments: Vec<&'w str, A>,
     pub stricts: Vec<&'w str, A>,
@@ -149,6 +154,7 @@ pub(crate) fn given_in<'w, A: Allocator + Copy>(
         folders: Vec::new(alloc),
         dates: Vec::new(alloc),
         vendors: Vec::new(alloc),
+        names: Vec::new(alloc),
         deeps: Vec::new(alloc),
         fragments: Vec::new(alloc),
         stricts: Vec::new(alloc),
@@ -231,6 +237,7 @@ fn put_value<'w, A: Allocator>(
         Valued::Into => put(&mut given.folders, value),
         Valued::Date => put(&mut given.dates, value),
         Valued::Vendor => put(&mut given.vendors, value),
+        Valued::Name => put(&mut given.names, value),
     }
 }
 
@@ -252,6 +259,7 @@ fn kind_of(word: &str) -> Kind<'_>
         "--into" => Kind::Apart(Valued::Into),
         "--date" => Kind::Apart(Valued::Date),
         "--vendor" => Kind::Apart(Valued::Vendor),
+        "--name" => Kind::Apart(Valued::Name),
         "--deep" => Kind::Deep,
         "--fragment" => Kind::Fragment,
         "--strict" => Kind::Strict,
@@ -274,7 +282,7 @@ fn other_kind(word: &str) -> Kind<'_>
 
 // An option with its value.
 fn joined(word: &str) -> Kind<'_>
-    ensures { kind_said result ≡ joined_kind (Command ∷ Width ∷ Into ∷ Date ∷ Vendor ∷ []) word.now }
+    ensures { kind_said result ≡ joined_kind (Command ∷ Width ∷ Into ∷ Date ∷ Vendor ∷ Name ∷ []) word.now }
 {
     if let Some(value) = behind(word, "--command=") {
         Kind::Joined(Valued::Command, value)
@@ -286,6 +294,8 @@ fn joined(word: &str) -> Kind<'_>
         Kind::Joined(Valued::Date, value)
     } else if let Some(value) = behind(word, "--vendor=") {
         Kind::Joined(Valued::Vendor, value)
+    } else if let Some(value) = behind(word, "--name=") {
+        Kind::Joined(Valued::Name, value)
     } else {
         Kind::Unknown
     }

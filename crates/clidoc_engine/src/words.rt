@@ -3,11 +3,12 @@
 ghost use Rattle.std.specs.Prelude.{◌≡◌, ◌≢◌, ◌⊎◌, ◌++◌, ◌∷◌, [], IfErr, IfOk, Some, codes, option_to_list};
 ghost use Rattle.description.specs.View.{text_of};
 ghost use Rattle.command_pages.specs.View.{title_said};
-ghost use Rattle.clidoc_engine.specs.Chosen.{choice_said, page_said, words_said};
+ghost use Rattle.clidoc_engine.specs.Chosen.{choice_said, help_given, page_said, words_said};
+ghost use Rattle.help_differences.specs.View.{help_said};
 ghost use Rattle.clidoc_engine.specs.Reading.{IsRefused, given_of};
 ghost use Rattle.clidoc_engine.specs.Words.{ChoiceSaid, Chooses, ChoosesWork, HasNoLevel, HasNoOption, HasNoTitle};
 ghost use Rattle.clidoc_engine.specs.Words.{HasNoWork, IsAll, IsCheck, IsColumns, IsComplete, IsDepth, IsExtent};
-ghost use Rattle.clidoc_engine.specs.Words.{IsJson};
+ghost use Rattle.clidoc_engine.specs.Words.{IsAgainst, IsDraft, IsJson};
 ghost use Rattle.clidoc_engine.specs.Words.{IsPageOf, IsStrict, IsTerminalWidth, IsTitle};
 ghost use Rattle.clidoc_engine.specs.Words.{IsWidth, NamesPage, PageSaid, Takes, form_word, is_one_of, shell_word};
 
@@ -16,6 +17,7 @@ use crate::wrong::is_form;
 pub use command_pages::{ConsoleForm, Extent, TitleGiven};
 pub use completions::Shell;
 use description_pages::Depth;
+use help_differences::HelpText;
 use std::alloc::Allocator;
 
 // The columns of a terminal of which nothing is said.
@@ -32,6 +34,27 @@ pub struct Console<'w, A: Allocator> {
     pub commands: Vec<&'w str, A>,
     /// The columns of a line.
     pub width: usize,
+}
+
+/// A help text, and what it and the description are called in lines.
+#[derive(Drop)]
+pub struct HelpGiven<A: Allocator> {
+    pub printed: String<A>,
+    pub name: String<A>,
+    pub file: String<A>,
+}
+
+impl<A: Allocator> HelpGiven<A> {
+    /// The same, lent.
+    pub fn lent(&self) -> HelpText<'_>
+        ensures { help_said result ≡ help_given self.now }
+    {
+        HelpText {
+            printed: self.printed.as_str(),
+            name: self.name.as_str(),
+            file: self.file.as_str(),
+        }
+    }
 }
 
 /// Which page of a description. The commands of a page lead to the level that it shows.
@@ -58,6 +81,11 @@ pub enum Page<'w, A: Allocator> {
     Completion(Shell),
     /// The description itself, in JSON.
     Json,
+    /// The names that either the level or a help text has alone.
+    Differences {
+        help: HelpGiven<A>,
+        commands: Vec<&'w str, A>,
+    },
 }
 
 /// What the program does.
@@ -74,6 +102,19 @@ pub enum Choice<'w, A: Allocator> {
     All {
         folder: &'w str,
         title: TitleGiven<'w>,
+        file: Option<&'w str>,
+    },
+    /// Writes a first description of what a program prints for help, which is in a file, or on standard input. The
+    /// program has this name, or that of its usage.
+    Draft {
+        name: Option<&'w str>,
+        file: Option<&'w str>,
+    },
+    /// Compares the names in a help text with those of the level that the commands lead to, of the description in a
+    /// file, or on standard input.
+    Against {
+        help: &'w str,
+        commands: Vec<&'w str, A>,
         file: Option<&'w str>,
     },
     /// Writes its own help page.
@@ -169,7 +210,7 @@ fn first_word<'w, A: Allocator + Copy>(
 }
 
 // What the word chooses with those behind it and the options.
-#[tactic(auto, using(crate::proofs::Choosing::only_check, crate::proofs::Choosing::only_all, crate::proofs::Choosing::only_completion, crate::proofs::Choosing::only_json, crate::proofs::Choosing::only_page))]
+#[tactic(auto, using(crate::proofs::Choosing::only_check, crate::proofs::Choosing::only_all, crate::proofs::Choosing::only_completion, crate::proofs::Choosing::only_json, crate::proofs::Choosing::only_draft, crate::proofs::Choosing::only_against, crate::proofs::Choosing::only_page))]
 fn taken<'w, A: Allocator>(
     terminal: usize,
     word: &'w str,
@@ -186,6 +227,8 @@ fn taken<'w, A: Allocator>(
         "all" => all_written(word, behind, given),
         "complete" => completed(word, behind, given),
         "json" => as_json(word, behind, given),
+        "draft" => drafted(word, behind, given),
+        "against" => compared(word, behind, given),
         _ => paged(terminal, word, behind, given),
     }
 }
@@ -225,6 +268,7 @@ fn judged<'w, A: Allocator>(
     check_no_level(&given, word)?;
     check_no_title(&given, word)?;
     check_no_folder(&given, word)?;
+    check_no_name(&given, word)?;
     let strict = strictness_of(&given.stricts)?;
     Ok(Choice::Check { strict, file })
 }
@@ -254,6 +298,7 @@ fn all_written<'w, A: Allocator>(
     let file = file_alone(behind, false)?;
     check_no_level(&given, word)?;
     check_no_strict(&given, word)?;
+    check_no_name(&given, word)?;
     let title = title_of(&given)?;
     let folder = one_folder(&given.folders)?;
     Ok(Choice::All {
@@ -308,6 +353,51 @@ fn as_json<'w, A: Allocator>(
     Ok(Choice::Page(Page::Json, file))
 }
 
+fn drafted<'w, A: Allocator>(
+    word: &'w str,
+    behind: &[&'w str],
+    given: Given<'w, A>,
+) -> Result<Choice<'w, A>, WordFault<'w>>
+    ensures ok { (terminal : _) → IfOk result (λ choice.
+        Takes terminal (codes "draft") (words_said behind.now) (given_of given.entry) (choice_said choice)) }
+    ensures err { IfErr result (λ _. (name file : _)
+        → ¬ IsDraft (words_said behind.now) (given_of given.entry) name file) }
+{
+    let file = file_alone(behind, false)?;
+    check_no_level(&given, word)?;
+    check_no_title(&given, word)?;
+    check_no_folder(&given, word)?;
+    check_no_strict(&given, word)?;
+    let name = at_most_one(&given.names, Valued::Name)?;
+    Ok(Choice::Draft { name, file })
+}
+
+fn compared<'w, A: Allocator>(
+    word: &'w str,
+    behind: &[&'w str],
+    given: Given<'w, A>,
+) -> Result<Choice<'w, A>, WordFault<'w>>
+    ensures ok { (terminal : _) → IfOk result (λ choice.
+        Takes terminal (codes "against") (words_said behind.now) (given_of given.entry) (choice_said choice)) }
+    ensures err { IfErr result (λ _. (help commands file : _)
+        → ¬ IsAgainst (words_said behind.now) (given_of given.entry) help commands file) }
+{
+    let Some((help, others)) = behind.split_first() else {
+        return Err(WordFault::NoHelp);
+    };
+    let file = file_alone(others, true)?;
+    check_no_width(&given, word)?;
+    check_no_deep(&given, word)?;
+    check_no_fragment(&given, word)?;
+    check_no_title(&given, word)?;
+    check_no_work(&given, word)?;
+    Ok(Choice::Against {
+        help: *help,
+        commands: given.commands,
+        file,
+    })
+}
+
 fn shell_named(word: &str) -> Result<Shell, WordFault<'_>>
     ensures ok { IfOk result (λ shell. word.now ≡ shell_word shell) }
     ensures err { IfErr result (λ _. (shell : _) → word.now ≢ shell_word shell) }
@@ -345,7 +435,13 @@ fn paged<'w, A: Allocator>(
     ensures err { IfErr result (λ _. (p file : _)
         → ¬ IsPageOf terminal word.now (words_said behind.now) (given_of given.entry) p file) }
 {
-    let file = file_alone(behind, true)?;
+    let file = match file_alone(behind, true) {
+        Ok(file) => file,
+        Err(fault) => {
+            drop(given);
+            return Err(first_fault(word, behind, fault));
+        }
+    };
     let work = check_no_work(&given, word);
     let page = page_named(terminal, word, file, given)?;
     match work {
@@ -379,6 +475,15 @@ fn page_named<'w, A: Allocator>(
             Err(no_form(word, file))
         }
     }
+}
+
+// The fault of the words behind one, or of that one, if it is no form.
+fn first_fault<'w>(word: &'w str, behind: &[&'w str], fault: WordFault<'w>) -> WordFault<'w> {
+    if is_form(word) {
+        return fault;
+    }
+    drop(fault);
+    no_form(word, behind.first().copied())
 }
 
 // The fault of a word that is no form, behind which this one stands.
@@ -612,13 +717,21 @@ fn check_no_strict<'w, A: Allocator>(
     check_none(&given.stricts, WordOption::Strict, word)
 }
 
+fn check_no_name<'w, A: Allocator>(given: &Given<'w, A>, word: &'w str) -> Result<(), WordFault<'w>>
+    ensures ok { IfOk result (λ _. (given_of given.now).names ≡ []) }
+    ensures err { IfErr result (λ _. (given_of given.now).names ≢ []) }
+{
+    check_none(&given.names, WordOption::Valued(Valued::Name), word)
+}
+
 // Refuses options that are of no page.
 fn check_no_work<'w, A: Allocator>(given: &Given<'w, A>, word: &'w str) -> Result<(), WordFault<'w>>
     ensures ok { IfOk result (λ _. HasNoWork (given_of given.now)) }
     ensures err { IfErr result (λ _. ¬ HasNoWork (given_of given.now)) }
 {
     check_no_folder(given, word)?;
-    check_no_strict(given, word)
+    check_no_strict(given, word)?;
+    check_no_name(given, word)
 }
 
 // Refuses an option, where the word does not take it.

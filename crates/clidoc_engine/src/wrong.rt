@@ -6,13 +6,14 @@ use description_toml::words::nearest;
 use std::alloc::{AllocError, Global};
 use std::fmt::Write;
 
-const FORMS: [&str; 10] = [
+const FORMS: [&str; 12] = [
     "usage", "full", "brief", "man", "markdown", "html", "complete", "json", "check", "all",
+    "draft", "against",
 ];
 
 const SHELLS: [&str; 3] = ["bash", "zsh", "fish"];
 
-const OPTIONS: [&str; 10] = [
+const OPTIONS: [&str; 11] = [
     "--command",
     "--deep",
     "--width",
@@ -21,6 +22,7 @@ const OPTIONS: [&str; 10] = [
     "--into",
     "--date",
     "--vendor",
+    "--name",
     "--help",
     "--version",
 ];
@@ -44,6 +46,9 @@ pub fn line_of(global: Global, fault: &WordFault<'_>) -> Result<String, AllocErr
         }
         WordFault::NoShell => line.push_str("complete needs a shell")?,
         WordFault::NoSuchShell(word) => put(&mut line, "no shell ", word)?,
+        WordFault::NoHelp => {
+            line.push_str("against needs what a program prints for help: against HELP [FILE]")?
+        }
         WordFault::NoFolder => line.push_str("all needs a folder: --into FOLDER")?,
         WordFault::Twice(option) => {
             line.push_str(word_of(*option))?;
@@ -78,6 +83,7 @@ fn valued_word(option: Valued) -> &'static str {
         Valued::Into => "--into",
         Valued::Date => "--date",
         Valued::Vendor => "--vendor",
+        Valued::Name => "--name",
     }
 }
 
@@ -92,11 +98,12 @@ fn forms_of(option: WordOption) -> &'static [&'static str] {
         WordOption::Deep => &["man", "markdown"],
         WordOption::Fragment => &["html"],
         WordOption::Strict => &["check"],
-        WordOption::Valued(Valued::Command) => {
-            &["usage", "full", "brief", "man", "markdown", "html"]
-        }
+        WordOption::Valued(Valued::Command) => &[
+            "usage", "full", "brief", "man", "markdown", "html", "against",
+        ],
         WordOption::Valued(Valued::Width) => &["usage", "full", "brief"],
         WordOption::Valued(Valued::Into) => &["all"],
+        WordOption::Valued(Valued::Name) => &["draft"],
         WordOption::Valued(Valued::Date | Valued::Vendor) => &["man", "html", "all"],
     }
 }

@@ -4,6 +4,7 @@ mod echoes;
 pub mod ends;
 mod faults;
 mod folders;
+mod helps;
 mod inputs;
 pub mod json;
 pub mod pages;

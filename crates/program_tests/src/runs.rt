@@ -16,24 +16,47 @@ clidoc complete SHELL [FILE]
 clidoc json [FILE]
 clidoc all --into FOLDER [--date DATE] [--vendor TEXT] [FILE]
 clidoc check [--strict] [FILE]
+clidoc draft [--name NAME] [FILE]
+clidoc against HELP [--command NAME]... [FILE]
 
 clidoc|--width=3
-clidoc: no form; forms are usage, full, brief, man, markdown, html, complete, json, check and all
+clidoc: no form; forms are usage, full, brief, man, markdown, html, complete, json, check, all, draft and against
 
 clidoc|--|full
-clidoc: no form; forms are usage, full, brief, man, markdown, html, complete, json, check and all
+clidoc: no form; forms are usage, full, brief, man, markdown, html, complete, json, check, all, draft and against
 
 clidoc|
-clidoc: no form ''; forms are usage, full, brief, man, markdown, html, complete, json, check and all
+clidoc: no form ''; forms are usage, full, brief, man, markdown, html, complete, json, check, all, draft and against
 
 clidoc|\u{1b}[2J
-clidoc: no form \"\\u{1b}[2J\"; forms are usage, full, brief, man, markdown, html, complete, json, check and all
+clidoc: no form \"\\u{1b}[2J\"; forms are usage, full, brief, man, markdown, html, complete, json, check, all, draft and against
 
 clidoc|Full
 clidoc: no form Full; is it full?
 
+clidoc|against
+clidoc: against needs what a program prints for help: against HELP [FILE]
+
+clidoc|against|-
+clidoc: HELP and FILE are both standard input
+
+clidoc|draft|--command=add
+clidoc: --command is no option of draft; it goes with usage, full, brief, man, markdown, html and against
+
+clidoc|full|--name=a
+clidoc: --name is no option of full; it goes with draft
+
+clidoc|check|--name=a
+clidoc: --name is no option of check; it goes with draft
+
+clidoc|draft|--name=a|--name=b
+clidoc: --name stands twice
+
+clidoc|against|help.txt|--width=3
+clidoc: --width is no option of against; it goes with usage, full and brief
+
 clidoc|xml
-clidoc: no form xml; forms are usage, full, brief, man, markdown, html, complete, json, check and all
+clidoc: no form xml; forms are usage, full, brief, man, markdown, html, complete, json, check, all, draft and against
 
 clidoc|a.toml|full
 clidoc: no form a.toml; the form comes first: clidoc full a.toml
@@ -42,10 +65,10 @@ clidoc|a b.toml|--|man
 clidoc: no form \"a b.toml\"; the form comes first: clidoc man \"a b.toml\"
 
 clidoc|--command|full|a.toml
-clidoc: no form a.toml; forms are usage, full, brief, man, markdown, html, complete, json, check and all
+clidoc: no form a.toml; forms are usage, full, brief, man, markdown, html, complete, json, check, all, draft and against
 
 clidoc|a.toml|b.toml
-clidoc: no form a.toml; forms are usage, full, brief, man, markdown, html, complete, json, check and all
+clidoc: no form a.toml; forms are usage, full, brief, man, markdown, html, complete, json, check, all, draft and against
 
 clidoc|help
 clidoc: no form help; is it --help?
@@ -83,6 +106,9 @@ clidoc: one word too many: b
 clidoc|complete
 clidoc: complete needs a shell; shells are bash, zsh and fish
 
+clidoc|completion|bash|a.toml
+clidoc: no form completion; is it complete?
+
 clidoc|complete|a.toml
 clidoc: no shell a.toml; shells are bash, zsh and fish
 
@@ -90,7 +116,7 @@ clidoc|complete|fish|a|b
 clidoc: one word too many: b
 
 clidoc|complete|--command=a|zsh
-clidoc: --command is no option of complete; it goes with usage, full, brief, man, markdown and html
+clidoc: --command is no option of complete; it goes with usage, full, brief, man, markdown, html and against
 
 clidoc|json|--width=3
 clidoc: --width is no option of json; it goes with usage, full and brief
@@ -99,7 +125,7 @@ clidoc|json|a.toml|b.toml
 clidoc: one word too many: b.toml
 
 clidoc|page
-clidoc: no form page; forms are usage, full, brief, man, markdown, html, complete, json, check and all
+clidoc: no form page; forms are usage, full, brief, man, markdown, html, complete, json, check, all, draft and against
 
 clidoc|--wdth|3|full
 clidoc: no option --wdth; is it --width?
@@ -108,7 +134,7 @@ clidoc|full|--widht=80
 clidoc: no option --widht=80; is it --width?
 
 clidoc|full|-x
-clidoc: no option -x; options are --command, --deep, --width, --fragment, --strict, --into, --date, --vendor, --help and --version
+clidoc: no option -x; options are --command, --deep, --width, --fragment, --strict, --into, --date, --vendor, --name, --help and --version
 
 clidoc|full|--width|0
 clidoc: --width is a number of columns from 1 on, and not 0
@@ -126,7 +152,7 @@ clidoc|man|--width=3|--command=x
 clidoc: --width is no option of man; it goes with usage, full and brief
 
 clidoc|check|--command=x
-clidoc: --command is no option of check; it goes with usage, full, brief, man, markdown and html
+clidoc: --command is no option of check; it goes with usage, full, brief, man, markdown, html and against
 
 clidoc|html|--width=3
 clidoc: --width is no option of html; it goes with usage, full and brief
@@ -171,7 +197,7 @@ clidoc|all|--into=a|--strict
 clidoc: --strict is no option of all; it goes with check
 
 clidoc|page|--strict
-clidoc: no form page; forms are usage, full, brief, man, markdown, html, complete, json, check and all
+clidoc: no form page; forms are usage, full, brief, man, markdown, html, complete, json, check, all, draft and against
 
 clidoc|check|--strict|--strict
 clidoc: --strict stands twice
@@ -449,6 +475,8 @@ Usage: clidoc FORM [--command NAME]... [--deep] [--width COLUMNS] [--fragment] [
        clidoc json [FILE]
        clidoc all --into FOLDER [--date DATE] [--vendor TEXT] [FILE]
        clidoc check [--strict] [FILE]
+       clidoc draft [--name NAME] [FILE]
+       clidoc against HELP [--command NAME]... [FILE]
 
 The description is read from FILE, or else from standard input, in TOML or JSON, and the page is
 written to standard output. The program that is described may be written in any language.
@@ -469,9 +497,12 @@ Arguments:
                            would better say.
                          - all: the manual page and the page in markdown of each level, and the HTML
                            page, as files of --into.
+                         - draft: a first description, of a help text in FILE.
+                         - against: no page, but each name of an option or a command that either the
+                           help text HELP or the description has alone.
 
                          [possible values: usage, full, brief, man, markdown, html, complete, json,
-                         check, all]
+                         check, all, draft, against]
 
     FILE                 Where the description stands; - is standard input
 
@@ -479,7 +510,7 @@ Options:
         --command=NAME   Show this command, by any of its names.
 
                          It is given once for each level down. It goes with usage, full, brief, man,
-                         markdown and html.
+                         markdown, html and against.
 
         --deep           Show the levels below, too, each behind the one above it.
 
@@ -513,6 +544,10 @@ Options:
 
                          It goes with man, html and all.
 
+        --name=NAME      Call the program of a draft so, and not as its usage does.
+
+                         It goes with draft.
+
     -h, --help           Print this page
     -V, --version        Print the version
 
@@ -545,6 +580,11 @@ Examples:
 
         clidoc check --strict greet.toml
         clidoc all --into=pages greet.toml
+
+    A first description of a program that has none, and whether program and description still agree:
+
+        greet --help | clidoc draft > greet.toml
+        greet --help | clidoc against - greet.toml
 
 Notes:
     The status is 0 if the page was written, 2 if the words are wrong, and 1 if anything else went
@@ -724,7 +764,10 @@ clidoc complete SHELL [FILE]
 clidoc json [FILE]
 clidoc all --into FOLDER [--date DATE]
        [--vendor TEXT] [FILE]
-clidoc check [--strict] [FILE]";
+clidoc check [--strict] [FILE]
+clidoc draft [--name NAME] [FILE]
+clidoc against HELP [--command NAME]...
+       [FILE]";
 
 #[test]
 fn the_environment_says_the_columns(rt: HostRuntime) {
@@ -928,7 +971,7 @@ const FAULTY: &[Faulty] = &[
         FIRST,
         2,
         0,
-        "clidoc FORM [--command NAME]... [--deep] [--width COLUMNS] [--fragment] [--date DATE]\n       [--vendor TEXT] [FILE]\nclidoc complete SHELL [FILE]\nclidoc json [FILE]\nclidoc all --into FOLDER [--date DATE] [--vendor TEXT] [FILE]\nclidoc check [--strict] [FILE]",
+        "clidoc FORM [--command NAME]... [--deep] [--width COLUMNS] [--fragment] [--date DATE]\n       [--vendor TEXT] [FILE]\nclidoc complete SHELL [FILE]\nclidoc json [FILE]\nclidoc all --into FOLDER [--date DATE] [--vendor TEXT] [FILE]\nclidoc check [--strict] [FILE]\nclidoc draft [--name NAME] [FILE]\nclidoc against HELP [--command NAME]... [FILE]",
     ),
     (
         "clidoc|full",

@@ -14,10 +14,23 @@ name = 'app'
 name = 'b'
 
 ----
--:2:9: invalid value, expected a string, number, boolean, date-time, array or inline table
+-:2:9: invalid value, expected a string, number, boolean, date-time, array or inline table; a text stands in quotes
 ====
 name = 'app'
 about = x
+
+----
+-:2:11: invalid value, expected a string, number, boolean, date-time, array or inline table; a text stands in quotes
+====
+name = 'app'
+values = [/etc, 'a']
+
+----
+-:2:9: invalid value, expected a string, number, boolean, date-time, array or inline table
+====
+name = 'app'
+about = # It copies.
+title = 'A'
 
 ----
 -:2:15: unexpected key or value, expected newline, `#`

@@ -424,7 +424,7 @@ const FILES: &[(&str, &[u8], &str)] = &[
     (
         "clidoc|full|my.toml",
         b"name = x",
-        "my.toml:1:8: invalid value, expected a string, number, boolean, date-time, array or inline table",
+        "my.toml:1:8: invalid value, expected a string, number, boolean, date-time, array or inline table; a text stands in quotes",
     ),
     (
         "clidoc|check|--|my.toml",
