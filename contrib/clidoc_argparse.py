@@ -3,9 +3,7 @@
 What a description cannot carry is left out: the text under the title of a group, types, and prefixes but `-`.
 """
 
-import argparse
-import inspect
-import json
+import argparse, inspect, json, re, textwrap
 
 
 def dump(parser, file=None):
@@ -71,7 +69,8 @@ class Level:
     def said(self, action, optional):
         """The values, what a shell offers, the default and the help."""
         default = action.default if isinstance(action.default, (list, tuple)) else [action.default]
-        tells = optional and action.nargs != 0 and default and default[0] not in (None, argparse.SUPPRESS, "")
+        is_said = all(isinstance(one, (str, int, float)) and one not in (argparse.SUPPRESS, "") for one in default)
+        tells = optional and action.nargs != 0 and default and is_said
         return without_empty({
             "default": " ".join(map(str, default)) if tells and "%(default)" not in str(action.help) else None,
             "values": action.nargs != 0 and action.choices and [str(one) for one in action.choices],
@@ -83,11 +82,12 @@ class Level:
         return {"hidden": True} if help is argparse.SUPPRESS else {"help": self.text(help, words)}
 
     def text(self, said, words=None):
-        """A text as argparse shows it: its lines are one, unless the parser keeps them."""
+        """A text as argparse shows it: its lines are one, unless the parser keeps them, with an indent as code."""
         is_filled = said and (words is not None or "%(prog)" in said)
         filled = said % {**(words or {}), "prog": self.parser.prog} if is_filled else said or ""
         keeps = issubclass(self.parser.formatter_class, argparse.RawDescriptionHelpFormatter)
-        return inspect.cleandoc(filled) if keeps else " ".join(filled.split())
+        trimmed = inspect.cleandoc if filled.rstrip(" ").endswith("\n") else textwrap.dedent
+        return re.sub("(?m)^ ", " " * 5, trimmed(filled).strip("\n")) if keeps else " ".join(filled.split())
 
 
 def spelling(action):
