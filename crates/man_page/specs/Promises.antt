@@ -18,6 +18,6 @@ ArePermitted title parts =
 abbrev pub ReadsAs : List ℕ → Sheet → Type 0
 ReadsAs bytes sheet = read bytes ≡ Some sheet
 
--- a page with a text that no reader gives back has a fault
+-- a page with a text that is not permitted has a fault
 abbrev pub page_fault : TitleSaid → List PartSaid → Option PageFault
 page_fault title parts = fault_unless (list_all are_permitted (title_words title) && list_all is_permitted_part parts)

@@ -16,6 +16,6 @@ ArePermitted title parts = (are_permitted title ≡ true) × (list_all is_permit
 abbrev pub ReadsAs : List ℕ → List Said → Type 0
 ReadsAs bytes said = read bytes ≡ Some said
 
--- a page with a text that no reader gives back has a fault
+-- a page with a text that is not permitted has a fault
 abbrev pub page_fault : List ℕ → List PartSaid → Option PageFault
 page_fault title parts = fault_unless (are_permitted title && list_all is_permitted_part parts)

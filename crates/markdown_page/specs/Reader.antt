@@ -134,10 +134,11 @@ ampersand_byte heading line b =
     else if is_letter b then None
     else text_byte heading (with_text line Other (38 ∷ [])) Other b
 
--- a blank or an opening brace by its number
+-- a blank or an opening brace by its number, without zeros before it, since more than seven digits are none
 abbrev pub number_byte : Line → ℕ → ℕ → Option Line
 number_byte line n b =
-    if is_digit b then with_mode line (Number (n * 10 + (b - 48)))
+    if b == 48 && n == 0 then None
+    else if is_digit b then with_mode line (Number (n * 10 + (b - 48)))
     else if b == 59 && (n == blank || n == 123) then Some (with_text line Other (n ∷ []))
     else None
 

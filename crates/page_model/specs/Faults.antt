@@ -3,7 +3,7 @@ use Rattle.std.specs.Prelude.{◌≡◌, Bool, Option, Some, None, Result, Err, 
 use Rattle.page_model.specs.declared.fault.PageFault.{PageFault}
 use Rattle.page_model.specs.declared.fault.PageFault.TheVariants.{Character, Refused}
 
--- a text that no reader gives back
+-- a text that is not permitted
 abbrev pub fault_unless : (permitted : Bool) → Option PageFault
 fault_unless permitted = if permitted then None else Some Character
 

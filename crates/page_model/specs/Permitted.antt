@@ -108,6 +108,6 @@ abbrev mutual
   chapters_texts no_chapters = []
   chapters_texts (chapters one others) = chapter_texts one ++ chapters_texts others
 
--- the first text that no reader gives back
+-- the first text that is not permitted
 abbrev pub refused_in : List (List ℕ) → Option (List ℕ)
 refused_in texts = find (λ text. not (are_permitted text)) texts
