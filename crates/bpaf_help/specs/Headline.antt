@@ -35,7 +35,7 @@ pub record IsHeadline {D M A P : Type 0} (of : Sources D M) (page : Script) (mad
       (string_bytes made.manual)
   -- `shape` of `normalized`: the tree is normalized to the usage shape
   pub shape : HasUsageShape of.for_usage (tree_of made.normal)
-  -- `strict` of `normalized`: with a `--` only where the tree has one
+  -- `strict` of `normalized`: with a `--` only if the tree has one
   pub strict : KeepsStrict of.for_usage (tree_of of.tree.now) (tree_of made.normal)
   -- `shows` of `normalized`: showing exactly the same item sequences
   pub shows : ShowsSame of.for_usage (tree_of made.normal) (tree_of of.tree.now)

@@ -293,7 +293,7 @@ impl<A: Allocator> Page<A> {
     /// A page with this language, title and style, whose body is open and empty. The style is written as it is.
     ///
     /// `Language`, `Title` and `Style` come where these are not what they have to be, `Character` where the title or
-    /// the style has a character that no reader gives back, and `Refused` where an allocation failed.
+    /// the style has a character that is not permitted, and `Refused` where an allocation failed.
     pub fn new(alloc: A, language: &str, title: &str, style: &str) -> Result<Page<A>, PageError>
     where
         A: Copy,
@@ -343,7 +343,7 @@ impl<A: Allocator> Page<A> {
     /// Starts a section, a heading or a term with an id.
     ///
     /// `Id` comes where the element takes no id, or the id is empty or has white space, `Character` where it has a
-    /// character that no reader gives back, and else the errors of `start`. After an error the page is as before.
+    /// character that is not permitted, and else the errors of `start`. After an error the page is as before.
     pub fn start_with_id(&mut self, element: Element, id: &str) -> Result<(), PageError>
         ensures ok { OnOk result (self.new ≡ with_start self.old (Tag.Of element) (attribute (codes "id") id.now)) }
         ensures err { OnErr result (self.new ≡ self.old) }
@@ -360,7 +360,7 @@ impl<A: Allocator> Page<A> {
 
     /// Starts a link to this target.
     ///
-    /// `Character` comes where the target has a character that no reader gives back, and else the errors of `start`: a
+    /// `Character` comes where the target has a character that is not permitted, and else the errors of `start`: a
     /// link may not stand in a link, at any depth. After an error the page is as before.
     pub fn start_link(&mut self, target: &str) -> Result<(), PageError>
         ensures ok { OnOk result (self.new ≡ with_start self.old Tag.A (attribute (codes "href") target.now)) }
@@ -375,7 +375,7 @@ impl<A: Allocator> Page<A> {
 
     /// Starts a link to the element of this id on the page: its target is `#` and the id.
     ///
-    /// `Character` comes where the id has a character that no reader gives back, and else the errors of `start`, as of
+    /// `Character` comes where the id has a character that is not permitted, and else the errors of `start`, as of
     /// `start_link`. After an error the page is as before.
     #[tactic(auto, using(crate::proofs::Texts::written_behind_hash))]
     pub fn start_link_to_id(&mut self, id: &str) -> Result<(), PageError>
@@ -393,7 +393,7 @@ impl<A: Allocator> Page<A> {
     /// Adds a text to the innermost open element. It joins a text before it. An empty one adds nothing, and may stand
     /// where a text may.
     ///
-    /// `Character` comes where the text has a character that no reader gives back, `Misplaced` where the innermost open
+    /// `Character` comes where the text has a character that is not permitted, `Misplaced` where the innermost open
     /// element takes no text there, and `Refused` where an allocation failed. After an error the page is as before.
     pub fn text(&mut self, text: &str) -> Result<(), PageError>
         ensures ok { OnOk result (self.new ≡ with_text self.old text.now) }

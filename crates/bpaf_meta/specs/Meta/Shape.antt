@@ -105,8 +105,8 @@ abbrev mutual
   SomeHasCustomUsage no_trees = ⊥
   SomeHasCustomUsage (tree t ts) = HasCustomUsage t ⊎ SomeHasCustomUsage ts
 
--- a normal form has a Strict only where the tree has one, and wherever it has one outside usage, and in usage if the
--- tree has no CustomUsage
+-- a normal form has a Strict only if the tree has one; and if the tree has one, always outside usage, and in usage
+-- unless it has a CustomUsage
 pub record KeepsStrict (usage : Bool) (t n : Tree) : Type 0 where
   pub none_added : HasStrict n → HasStrict t
   pub none_lost : (IsTrue usage → ¬ HasCustomUsage t) → HasStrict t → HasStrict n
