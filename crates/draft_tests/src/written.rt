@@ -64,10 +64,10 @@ const ROWS: &[(&str, &str)] = &[
         "usage: a\n\noptions:\n  -h  help\n\nActions:\n  {go,stop}  what\n    go    start\n    stop  end\n",
         "name = \"a\"\nusage = \"a\"\n\n# options:\n\n[[option]]\nshort = \"h\"\nhelp = \"help\"\n\n[[group]]\ntitle = \"Actions\"\n# left out:   {go,stop}  what\n\n[[group.command]]\nname = \"go\"\nhelp = \"start\"\n\n[[group.command]]\nname = \"stop\"\nhelp = \"end\"\n",
     ),
-    // a name that stands twice on a line
+    // a name that stands twice on a line, and some that entries above have
     (
-        "usage: a\n  -x, --far -x  more\n  -y  less\n",
-        "name = \"a\"\nusage = \"a\"\n# left out:   -x, --far -x  more\n\n[[option]]\nshort = \"y\"\nhelp = \"less\"\n",
+        "usage: a\n  -x, --far, -x  more\n  -y  less\n  -y n=N, --near=N  near\n  -y  again\n  -z -y  last\n",
+        "name = \"a\"\nusage = \"a\"\n\n[[option]]\n# left out: -x, --far, -x\nshort = \"x\"\nlong = \"far\"\nhelp = \"more\"\n\n[[option]]\nshort = \"y\"\nhelp = \"less\"\n\n[[option]]\n# left out: -y n=N, --near=N\nlong = \"near\"\nvalue = \"N\"\nhelp = \"near\"\n# left out:   -y  again\n# left out:   -z -y  last\n",
     ),
     // letters that stand together
     (

@@ -7,7 +7,7 @@ use Rattle.std.proofs.lemmas.Bool.{and_parts}
 use Rattle.std.proofs.lemmas.Bool.Decides.{nat_tests}
 use Rattle.std.proofs.lemmas.Str.{IsCharBoundary-after_ascii}
 use Rattle.drafts.specs.Strays.{StraySaid, are_known, are_rising, has_letters, is_cluster, letter}
-use Rattle.drafts.specs.Places.{Has}
+use Rattle.drafts.specs.Free.{Has}
 use Rattle.help_fronts.specs.Bytes.{is_dash}
 
 letter_small : (b : ℕ) → is_ascii_alphanumeric b ≡ true → b < 128

@@ -5,7 +5,7 @@ use Rattle.std.specs.List.{list_any}
 use Rattle.std.specs.Cmp.Lexicographic.{on_texts_equal, slice_cmp, texts_ties}
 use Rattle.std.specs.Ordering.{eq_by_cmp, nat_cmp}
 use Rattle.std.specs.declared.cmp.Ordering.{Ordering}
-use Rattle.drafts.specs.Places.{Has, with_key}
+use Rattle.drafts.specs.Free.{Has, with_key}
 
 abbrev Key : Type 0
 Key = Bor (List ℕ)

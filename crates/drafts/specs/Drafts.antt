@@ -7,8 +7,9 @@ use Rattle.toml_pieces.specs.Toml.{Piece, left_out, table, text_at, word_at}
 use Rattle.drafts.specs.Seen.{title_text}
 use Rattle.drafts.specs.Passages.{PassageSaid, first_line, lines_in, passages}
 use Rattle.drafts.specs.Texts.{empty_piece, passage_pieces}
-use Rattle.drafts.specs.Entries.{entry_table}
-use Rattle.drafts.specs.Places.{Has, PlacedSaid, is_title, placed, taken_options}
+use Rattle.drafts.specs.Free.{Has, none_taken}
+use Rattle.drafts.specs.Entries.{entry_table, taken_with}
+use Rattle.drafts.specs.Places.{PlacedSaid, is_title, placed}
 use Rattle.drafts.specs.Strays.{names_in, strays}
 use Rattle.drafts.specs.Usages.{forms, program_name, usage_pieces}
 use Rattle.drafts.specs.declared.places.Role.{Role}
@@ -51,18 +52,29 @@ topic p below = titled (codes "topic") p ++ text_at (codes "text") (gathered tex
 abbrev pub usual_title : PassageSaid → List ℕ
 usual_title p = codes "\n# " ++ (trim (first_line p.lines) ++ codes "\n")
 
-abbrev pub placed_text : Role → PassageSaid → (below : List PlacedSaid) → List ℕ
-placed_text role.Topic p below = topic p below
-placed_text role.Group p below = titled (codes "group") p
-placed_text role.Usual p below = usual_title p
-placed_text role.Entry p below = entry_table false p
-placed_text role.Member p below = entry_table true p
-placed_text role.LeftOut p below = flat_map left_out p.lines
-placed_text _ p below = []
+-- `has` says which names of options are taken
+abbrev pub placed_text : Has → Role → PassageSaid → (below : List PlacedSaid) → List ℕ
+placed_text has role.Topic p below = topic p below
+placed_text has role.Group p below = titled (codes "group") p
+placed_text has role.Usual p below = usual_title p
+placed_text has role.Entry p below = entry_table has false p
+placed_text has role.Member p below = entry_table has true p
+placed_text has role.LeftOut p below = flat_map left_out p.lines
+placed_text has _ p below = []
 
-abbrev pub tables : List PlacedSaid → List ℕ
-tables [] = []
-tables (p ∷ ps) = placed_text p.role p.passage ps ++ tables ps
+abbrev pub taken_after : Has → Role → PassageSaid → Has
+taken_after has role.Entry p = taken_with has p
+taken_after has role.Member p = taken_with has p
+taken_after has _ p = has
+
+abbrev pub tables : Has → List PlacedSaid → List ℕ
+tables has [] = []
+tables has (p ∷ ps) = placed_text has p.role p.passage ps ++ tables (taken_after has p.role p.passage) ps
+
+-- what is taken after all of them
+abbrev pub taken_from : Has → List PlacedSaid → Has
+taken_from has [] = has
+taken_from has (p ∷ ps) = taken_from (taken_after has p.role p.passage) ps
 
 -- ---- the whole
 
@@ -72,19 +84,21 @@ texts ps =
     ++ (text_at (codes "usage") (usage_pieces (forms ps))
     ++ (text_at (codes "header") (gathered text.Header ps) ++ text_at (codes "footer") (gathered text.Footer ps)))
 
--- `has` says which names of options are taken
-abbrev pub draft_of : Has → List PlacedSaid → (name : List ℕ) → List ℕ
-draft_of has ps name = word_at (codes "name") name ++ (texts ps ++ (tables ps ++ strays has (names_in has (forms ps))))
+-- the options that stand in the usage alone
+abbrev pub last_tables : Has → List PlacedSaid → List ℕ
+last_tables has ps = strays has (names_in has (forms ps))
 
-abbrev pub drafted : (name : Option (List ℕ)) → Has → List PlacedSaid → Option (List ℕ)
-drafted name has ps = option_map (draft_of has ps) (program_name name (forms ps))
+abbrev pub draft_of : List PlacedSaid → (name : List ℕ) → List ℕ
+draft_of ps name =
+    word_at (codes "name") name
+    ++ (texts ps ++ (tables none_taken ps ++ last_tables (taken_from none_taken ps) ps))
 
-abbrev pub drafted_from : (name : Option (List ℕ)) → List PassageSaid → Option (List ℕ)
-drafted_from name ps = drafted name (taken_options ps) (placed ps)
+abbrev pub drafted : (name : Option (List ℕ)) → List PlacedSaid → Option (List ℕ)
+drafted name ps = option_map (draft_of ps) (program_name name (forms ps))
 
 abbrev pub printed_passages : (printed : List ℕ) → List PassageSaid
 printed_passages printed = passages (lines_in (shown_letters printed))
 
 -- none, if the name that is given may be none, or no name is given, and none stands in a usage
 abbrev pub draft_text : (name : Option (List ℕ)) → (printed : List ℕ) → Option (List ℕ)
-draft_text name printed = drafted_from name (printed_passages printed)
+draft_text name printed = drafted name (placed (printed_passages printed))

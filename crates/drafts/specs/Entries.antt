@@ -1,17 +1,18 @@
 -- Entries: an option, a command or a positional value with its help, as a table.
-use Rattle.std.specs.Prelude.{ℕ, zero, suc, ◌+◌, ◌==◌, ◌||◌, ◌&&◌, Bool, true, false, List, [], ◌∷◌, ◌++◌, bytes_eq, codes, drop, flat_map, if◌then◌else◌, length, map, take, Option, None, Some}
-use Rattle.std.specs.List.{list_all, slice_index}
+use Rattle.std.specs.Prelude.{ℕ, ◌+◌, ◌==◌, ◌||◌, ◌&&◌, Bool, true, false, not, List, [], ◌∷◌, ◌++◌, codes, drop, flat_map, if◌then◌else◌, take, Option, None, Some}
+use Rattle.std.specs.List.{list_all, list_any, slice_index}
 use Rattle.std.specs.Str.{trim}
 use Rattle.page_model.specs.Permitted.{are_permitted}
 use Rattle.help_blocks.specs.declared.place.Kind.{Kind}
 use Rattle.help_blocks.specs.declared.place.Kind.TheVariants as kind
 use Rattle.help_fronts.specs.Bytes.{is_blank}
-use Rattle.help_fronts.specs.Fronts.{CommandSaid, FrontSaid, command_front, option_front}
+use Rattle.help_fronts.specs.Fronts.{CommandSaid, FrontSaid, command_front}
 use Rattle.help_fronts.specs.Words.{value_word}
 use Rattle.toml_pieces.specs.Toml.{left_out, list_at, table, text_at, word_at}
 use Rattle.drafts.specs.Seen.{is_name, is_word}
 use Rattle.drafts.specs.Passages.{PassageSaid, first_line}
-use Rattle.drafts.specs.Options.{is_good, key, spelling}
+use Rattle.drafts.specs.Options.{is_good, spelling}
+use Rattle.drafts.specs.Free.{FreeSaid, Has, free_in, free_keys, has_name, none_taken, with_key, with_keys}
 use Rattle.drafts.specs.Texts.{help_pieces}
 
 -- ---- the front of a positional value: what stands before a tabulator or two blanks
@@ -41,23 +42,6 @@ value_front line = value_in (trim line)
 abbrev pub value_name : (front : List ℕ) → List ℕ
 value_name front = trim (value_word front)
 
--- ---- the options of a line: after one blank another may follow
-
-abbrev pub next_text : FrontSaid → List ℕ
-next_text f = if bytes_eq f.gap (codes " ") then f.help else []
-
-abbrev pub fronts_by : (more : List ℕ → List FrontSaid) → Option FrontSaid → List FrontSaid
-fronts_by more None = []
-fronts_by more (Some f) = f ∷ more (next_text f)
-
--- at most so many
-abbrev pub fronts : (most : ℕ) → (line : List ℕ) → List FrontSaid
-fronts zero line = []
-fronts (suc n) line = fronts_by (fronts n) (option_front line)
-
-abbrev pub line_fronts : (line : List ℕ) → List FrontSaid
-line_fronts line = fronts (length line) line
-
 -- ---- tables
 
 abbrev pub table_name : (in_group : Bool) → (name : List ℕ) → List ℕ
@@ -70,26 +54,28 @@ help_at first below = text_at (codes "help") (help_pieces first below)
 abbrev pub option_head : (in_group : Bool) → FrontSaid → List ℕ
 option_head in_group f = table (table_name in_group (codes "option")) ++ spelling f
 
+-- the front as it stands, if it says more
+abbrev pub left_out_if : (says_else : Bool) → (written : List ℕ) → List ℕ
+left_out_if false written = []
+left_out_if true written = left_out written
+
 -- the last option of a line has the help
 abbrev pub help_if : (is_last : Bool) → (below : List (List ℕ)) → FrontSaid → List ℕ
 help_if false below f = []
 help_if true below f = help_at f.help below
 
-unfoldable pub option_table : (in_group : Bool) → (below : List (List ℕ)) → (is_last : Bool) → FrontSaid → List ℕ
-option_table in_group below is_last f = option_head in_group f ++ help_if is_last below f
+unfoldable pub option_table : (in_group : Bool) → (below : List (List ℕ)) → (is_last : Bool) → FreeSaid → List ℕ
+option_table in_group below is_last f =
+    table (table_name in_group (codes "option")) ++ (left_out_if (not f.is_whole) f.front.written
+    ++ (spelling f.front ++ help_if is_last below f.front))
 
-abbrev pub is_none : List FrontSaid → Bool
+abbrev pub is_none : List FreeSaid → Bool
 is_none [] = true
 is_none (f ∷ fs) = false
 
-abbrev pub option_tables : (in_group : Bool) → (below : List (List ℕ)) → List FrontSaid → List ℕ
+abbrev pub option_tables : (in_group : Bool) → (below : List (List ℕ)) → List FreeSaid → List ℕ
 option_tables in_group below [] = []
 option_tables in_group below (f ∷ fs) = option_table in_group below (is_none fs) f ++ option_tables in_group below fs
-
--- a front that says more than names
-abbrev pub left_out_if : (says_else : Bool) → (written : List ℕ) → List ℕ
-left_out_if false written = []
-left_out_if true written = left_out written
 
 abbrev pub command_table : (in_group : Bool) → (below : List (List ℕ)) → Option CommandSaid → List ℕ
 command_table in_group below None = []
@@ -110,35 +96,56 @@ value_table in_group below v =
     table (table_name in_group (codes "positional")) ++ (word_at (codes "value") (value_name v.front)
     ++ (help_at v.help below ++ value_flags v.front))
 
-abbrev pub table_of : (in_group : Bool) → Kind → (lines : List (List ℕ)) → List ℕ
-table_of in_group kind.Option lines = option_tables in_group (drop 1 lines) (line_fronts (first_line lines))
-table_of in_group kind.Command lines = command_table in_group (drop 1 lines) (command_front (first_line lines))
-table_of in_group kind.Value lines = value_table in_group (drop 1 lines) (value_front (first_line lines))
-table_of in_group _ lines = []
+-- `has` says which names are taken
+abbrev pub table_of : Has → (in_group : Bool) → Kind → (lines : List (List ℕ)) → List ℕ
+table_of has in_group kind.Option lines = option_tables in_group (drop 1 lines) (free_in has (first_line lines))
+table_of has in_group kind.Command lines = command_table in_group (drop 1 lines) (command_front (first_line lines))
+table_of has in_group kind.Value lines = value_table in_group (drop 1 lines) (value_front (first_line lines))
+table_of has in_group _ lines = []
 
-abbrev pub entry_table : (in_group : Bool) → PassageSaid → List ℕ
-entry_table in_group p = table_of in_group p.kind p.lines
+abbrev pub entry_table : Has → (in_group : Bool) → PassageSaid → List ℕ
+entry_table has in_group p = table_of has in_group p.kind p.lines
 
--- ---- what no other entry of the level may have, if a description takes the entry
+-- what is taken after the table of an entry
+abbrev pub taken_in : Has → Kind → (line : List ℕ) → Has
+taken_in has kind.Option line = with_keys has (flat_map free_keys (free_in has line))
+taken_in has _ line = has
 
-abbrev pub front_keys : FrontSaid → List (List ℕ)
-front_keys f = map key f.names
+abbrev pub taken_with : Has → PassageSaid → Has
+taken_with has p = taken_in has p.kind (first_line p.lines)
 
-abbrev pub option_keys : List FrontSaid → Option (List (List ℕ))
-option_keys fs = if list_all is_good fs then Some (flat_map front_keys fs) else None
+-- ---- the names of an entry that no other of the level may have, if a description takes the entry
 
-abbrev pub command_keys : Option CommandSaid → Option (List (List ℕ))
-command_keys None = None
-command_keys (Some c) = if list_all is_name (c.name ∷ c.aliases) then Some (c.name ∷ c.aliases) else None
+-- each option has a free name
+abbrev pub is_taken : FreeSaid → Bool
+is_taken f = is_good f.front && has_name f
+
+abbrev pub option_keys : List FreeSaid → Option (List (List ℕ))
+option_keys fs = if list_all is_taken fs then Some (flat_map free_keys fs) else None
+
+-- no name stands twice
+abbrev pub are_distinct : Has → (keys : List (List ℕ)) → Bool
+are_distinct has [] = true
+are_distinct has (k ∷ ks) = not (has k) && are_distinct (with_key has k) ks
+
+abbrev pub are_free : Has → (names : List (List ℕ)) → Bool
+are_free has names = (list_all is_name names && not (list_any has names)) && are_distinct none_taken names
+
+abbrev pub free_names_of : Has → (names : List (List ℕ)) → Option (List (List ℕ))
+free_names_of has names = if are_free has names then Some names else None
+
+abbrev pub command_keys : Has → Option CommandSaid → Option (List (List ℕ))
+command_keys has None = None
+command_keys has (Some c) = free_names_of has (c.name ∷ c.aliases)
 
 abbrev pub value_keys : ValueSaid → Option (List (List ℕ))
 value_keys v = if is_word (value_name v.front) then Some [] else None
 
-abbrev pub keys_of : Kind → (line : List ℕ) → Option (List (List ℕ))
-keys_of kind.Option line = option_keys (line_fronts line)
-keys_of kind.Command line = command_keys (command_front line)
-keys_of kind.Value line = value_keys (value_front line)
-keys_of _ line = None
+abbrev pub keys_of : Has → Kind → (line : List ℕ) → Option (List (List ℕ))
+keys_of has kind.Option line = option_keys (free_in has line)
+keys_of has kind.Command line = command_keys has (command_front line)
+keys_of has kind.Value line = value_keys (value_front line)
+keys_of has _ line = None
 
-abbrev pub entry_keys : PassageSaid → Option (List (List ℕ))
-entry_keys p = if list_all are_permitted p.lines then keys_of p.kind (first_line p.lines) else None
+abbrev pub entry_keys : Has → PassageSaid → Option (List (List ℕ))
+entry_keys has p = if list_all are_permitted p.lines then keys_of has p.kind (first_line p.lines) else None

@@ -2,6 +2,7 @@ pub mod Seen
 pub mod Passages
 pub mod Texts
 pub mod Options
+pub mod Free
 pub mod Entries
 pub mod Places
 pub mod Usages

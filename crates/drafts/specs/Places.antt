@@ -1,5 +1,5 @@
 -- Where each passage of a help text goes.
-use Rattle.std.specs.Prelude.{ℕ, ◌==◌, ◌||◌, ◌&&◌, Bool, true, false, not, List, [], ◌∷◌, bytes_eq, if◌then◌else◌, length, nat_lt, Option, None, Some}
+use Rattle.std.specs.Prelude.{ℕ, ◌==◌, ◌||◌, ◌&&◌, Bool, true, false, not, List, [], ◌∷◌, if◌then◌else◌, length, nat_lt, Option, None, Some}
 use Rattle.std.specs.List.{list_all, list_any, slice_index}
 use Rattle.std.specs.Str.{trim}
 use Rattle.page_model.specs.Permitted.{are_permitted}
@@ -8,6 +8,7 @@ use Rattle.help_blocks.specs.declared.place.Kind.{Kind}
 use Rattle.help_blocks.specs.declared.place.Kind.TheVariants as kind
 use Rattle.drafts.specs.Seen.{is_heading, is_usual, last, title_text}
 use Rattle.drafts.specs.Passages.{PassageSaid, first_line}
+use Rattle.drafts.specs.Free.{Has, none_taken, with_keys}
 use Rattle.drafts.specs.Entries.{entry_keys}
 use Rattle.drafts.specs.declared.places.Part.{Part}
 use Rattle.drafts.specs.declared.places.Part.TheVariants as part
@@ -17,21 +18,7 @@ use Rattle.drafts.specs.declared.places.Above.{Above}
 use Rattle.drafts.specs.declared.places.Sought.{Sought}
 use Rattle.drafts.specs.declared.places.Sought.TheVariants as sought
 
--- ---- which entries are written: those that a description takes, and whose names no written entry above has
-
--- whether a word is taken
-abbrev pub Has : Type 0
-Has = List ℕ → Bool
-
-abbrev pub none_taken : Has
-none_taken word = false
-
-abbrev pub with_key : Has → (key : List ℕ) → Has
-with_key has k word = has word || (bytes_eq word k || false)
-
-abbrev pub with_keys : Has → (keys : List (List ℕ)) → Has
-with_keys has [] = has
-with_keys has (k ∷ ks) = with_keys (with_key has k) ks
+-- ---- which entries are written: those that a description takes with the names that are free
 
 pub record TakenSaid : Type 0 where
   pub options : Has
@@ -47,40 +34,26 @@ is_command _ = false
 abbrev pub taken_by : Kind → TakenSaid → Has
 taken_by k t = if is_command k then t.commands else t.options
 
-abbrev pub are_free : Has → Option (List (List ℕ)) → Bool
-are_free has None = false
-are_free has (Some keys) = not (list_any has keys)
+abbrev pub keys_by : TakenSaid → PassageSaid → Option (List (List ℕ))
+keys_by t p = entry_keys (taken_by p.kind t) p
 
--- no name stands twice
-abbrev pub are_distinct : Has → (keys : List (List ℕ)) → Bool
-are_distinct has [] = true
-are_distinct has (k ∷ ks) = not (has k) && are_distinct (with_key has k) ks
-
-abbrev pub distinct : Option (List (List ℕ)) → Option (List (List ℕ))
-distinct None = None
-distinct (Some keys) = if are_distinct none_taken keys then Some keys else None
+abbrev pub is_given : Option (List (List ℕ)) → Bool
+is_given None = false
+is_given (Some keys) = true
 
 abbrev pub is_written : TakenSaid → PassageSaid → Bool
-is_written t p = are_free (taken_by p.kind t) (distinct (entry_keys p))
+is_written t p = is_given (keys_by t p)
 
 abbrev pub with_entry : Has → Option (List (List ℕ)) → Has
 with_entry has None = has
-with_entry has (Some keys) = if list_any has keys then has else with_keys has keys
+with_entry has (Some keys) = with_keys has keys
 
 abbrev pub taken_with : (is_command : Bool) → Option (List (List ℕ)) → TakenSaid → TakenSaid
 taken_with true keys t = record { options = t.options; commands = with_entry t.commands keys }
 taken_with false keys t = record { options = with_entry t.options keys; commands = t.commands }
 
 abbrev pub taken_after : TakenSaid → PassageSaid → TakenSaid
-taken_after t p = taken_with (is_command p.kind) (distinct (entry_keys p)) t
-
--- what is taken after all passages
-abbrev pub taken_from : TakenSaid → List PassageSaid → TakenSaid
-taken_from t [] = t
-taken_from t (p ∷ ps) = taken_from (taken_after t p) ps
-
-abbrev pub taken_options : List PassageSaid → Has
-taken_options ps = (taken_from nothing_taken ps).options
+taken_after t p = taken_with (is_command p.kind) (keys_by t p) t
 
 pub record MarkedSaid : Type 0 where
   pub passage : PassageSaid

@@ -8,7 +8,7 @@ use Rattle.help_fronts.specs.Fronts.{FrontSaid}
 use Rattle.help_fronts.specs.Usages.{usage_names}
 use Rattle.drafts.specs.Options.{is_good, key}
 use Rattle.drafts.specs.Entries.{option_head}
-use Rattle.drafts.specs.Places.{Has, with_key}
+use Rattle.drafts.specs.Free.{Has, with_key}
 use Rattle.drafts.specs.Usages.{FormSaid}
 
 -- ---- letters that stand together, as in `-abc`

@@ -7,11 +7,14 @@ use Rattle.drafts.specs.declared.DraftError.TheVariants as fault
 use Rattle.drafts.specs.declared.passages.Passage.{Passage}
 use Rattle.drafts.specs.declared.entries.ValueFront.{ValueFront}
 use Rattle.drafts.specs.declared.entries.Keys.{Keys}
-use Rattle.drafts.specs.declared.taken.Words.{Words}
+use Rattle.drafts.specs.declared.free.Words.{Words}
+use Rattle.drafts.specs.declared.free.FreeFront.{FreeFront}
+use Rattle.help_fronts.specs.View.{said}
+use Rattle.drafts.specs.Free.{FreeSaid, Has}
 use Rattle.drafts.specs.declared.taken.Taken.{Taken}
 use Rattle.drafts.specs.declared.taken.Marked.{Marked}
 use Rattle.drafts.specs.declared.places.Placed.{Placed}
-use Rattle.drafts.specs.Places.{Has, MarkedSaid, PlacedSaid, TakenSaid}
+use Rattle.drafts.specs.Places.{MarkedSaid, PlacedSaid, TakenSaid}
 use Rattle.drafts.specs.declared.strays.Stray.{Stray}
 use Rattle.drafts.specs.Strays.{StraySaid}
 use Rattle.drafts.specs.declared.usages.Form.{Form}
@@ -34,6 +37,9 @@ keys_said keys = option_map words_of keys
 -- whether a word is taken
 abbrev pub held : {A : Type 0} → Words A → Has
 held w word = list_any (λ held. bytes_eq word held.now) w.words.keys
+
+abbrev pub free_said : {A : Type 0} → FreeFront A → FreeSaid
+free_said f = record { front = said f.front; is_whole = f.is_whole }
 
 abbrev pub taken_said : {A : Type 0} → Taken A → TakenSaid
 taken_said t = record { options = held t.options; commands = held t.commands }

@@ -8,11 +8,11 @@ ghost use Rattle.drafts.specs.Usages as usages;
 ghost use Rattle.drafts.specs.View.{form_said, held, passage_said, placed_said};
 
 use crate::entries::push_entry;
+use crate::free::Words;
 use crate::passages::Passage;
 use crate::places::{Placed, Role, is_title};
 use crate::seen::title_text;
 use crate::strays::{names_in, push_strays};
-use crate::taken::Words;
 use crate::texts::{empty_piece, push_passage};
 use crate::usages::{Form, usage_pieces};
 use std::alloc::{AllocError, Allocator};
@@ -145,37 +145,43 @@ fn push_lines_left_out<A: Allocator>(out: &mut String<A>, lines: &[&str]) -> Res
     Ok(())
 }
 
-fn push_placed<A: Allocator + Copy>(
+fn push_placed<'a, A: Allocator + Copy>(
     alloc: A,
     out: &mut String<A>,
-    placed: Placed<'_>,
-    below: &[Placed<'_>],
+    taken: &mut Words<'a, A>,
+    placed: Placed<'a>,
+    below: &[Placed<'a>],
 ) -> Result<(), AllocError>
-    ensures { OnOk result (string_bytes out.new ≡ string_bytes out.old
-        ++ spec.placed_text placed.entry.role (passage_said placed.entry.passage) (map placed_said below.now)) }
+    ensures text { OnOk result (string_bytes out.new ≡ string_bytes out.old ++ spec.placed_text
+        (held taken.old) placed.entry.role (passage_said placed.entry.passage) (map placed_said below.now)) }
+    ensures after { OnOk result (held taken.new
+        ≡ spec.taken_after (held taken.old) placed.entry.role (passage_said placed.entry.passage)) }
 {
     match placed.role {
         Role::Topic => push_topic(alloc, out, placed.passage, below),
         Role::Group => push_titled(out, "group", placed.passage),
         Role::Usual => push_usual_title(out, placed.passage),
-        Role::Entry => push_entry(alloc, out, false, placed.passage),
-        Role::Member => push_entry(alloc, out, true, placed.passage),
+        Role::Entry => push_entry(alloc, out, taken, false, placed.passage),
+        Role::Member => push_entry(alloc, out, taken, true, placed.passage),
         Role::LeftOut => push_lines_left_out(out, placed.passage.lines),
         _ => Ok(()),
     }
 }
 
-fn push_tables<A: Allocator + Copy>(
+fn push_tables<'a, A: Allocator + Copy>(
     alloc: A,
     out: &mut String<A>,
-    placed: &[Placed<'_>],
+    taken: &mut Words<'a, A>,
+    placed: &[Placed<'a>],
 ) -> Result<(), AllocError>
-    ensures { OnOk result (string_bytes out.new
-        ≡ string_bytes out.old ++ spec.tables (map placed_said placed.now)) }
+    ensures text { OnOk result (string_bytes out.new
+        ≡ string_bytes out.old ++ spec.tables (held taken.old) (map placed_said placed.now)) }
+    ensures after { OnOk result (held taken.new
+        ≡ spec.taken_from (held taken.old) (map placed_said placed.now)) }
 {
     let mut rest = placed;
     while let [first, below @ ..] = rest {
-        push_placed(alloc, out, *first, below)?;
+        push_placed(alloc, out, taken, *first, below)?;
         rest = below;
     }
     Ok(())
@@ -211,23 +217,36 @@ fn push_texts<A: Allocator + Copy>(
     push_gathered(alloc, out, "footer", Text::Footer, placed)
 }
 
-/// The draft of a program of this name: `taken` has the names of the options that are written.
+fn push_last_tables<'a, A: Allocator + Copy>(
+    alloc: A,
+    out: &mut String<A>,
+    taken: &mut Words<'a, A>,
+    forms: &[Form<'a>],
+    placed: &[Placed<'a>],
+) -> Result<(), AllocError>
+    requires { map form_said forms.now ≡ usages.forms (map placed_said placed.now) }
+    ensures { OnOk result (string_bytes out.new
+        ≡ string_bytes out.old ++ spec.last_tables (held taken.old) (map placed_said placed.now)) }
+{
+    let names = names_in(alloc, taken, forms)?;
+    push_strays(alloc, out, taken, &names)
+}
+
+/// The draft of a program of this name.
 pub fn draft_of<'a, A: Allocator + Copy>(
     alloc: A,
     name: &str,
     forms: &[Form<'a>],
     placed: &[Placed<'a>],
-    taken: &mut Words<'a, A>,
 ) -> Result<String<A>, AllocError>
     requires { map form_said forms.now ≡ usages.forms (map placed_said placed.now) }
-    ensures { IfOk result (λ text. string_bytes text
-        ≡ spec.draft_of (held taken.old) (map placed_said placed.now) name.now) }
+    ensures { IfOk result (λ text. string_bytes text ≡ spec.draft_of (map placed_said placed.now) name.now) }
 {
     let mut out = String::new(alloc);
+    let mut taken = Words::new(alloc);
     push_word(&mut out, "name", name)?;
     push_texts(alloc, &mut out, forms, placed)?;
-    push_tables(alloc, &mut out, placed)?;
-    let names = names_in(alloc, taken, forms)?;
-    push_strays(alloc, &mut out, taken, &names)?;
+    push_tables(alloc, &mut out, &mut taken, placed)?;
+    push_last_tables(alloc, &mut out, &mut taken, forms, placed)?;
     Ok(out)
 }

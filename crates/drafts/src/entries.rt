@@ -1,5 +1,5 @@
 //! Entries as tables.
-ghost use Rattle.std.specs.Prelude.{◌≡◌, ◌++◌, ◌<◌, ◌≤◌, IfOk, OnOk, Some, codes, drop, flat_map, length, map, string_bytes};
+ghost use Rattle.std.specs.Prelude.{◌≡◌, ◌++◌, ◌<◌, ◌≤◌, IfOk, OnOk, Some, codes, drop, flat_map, length, map, string_bytes, true};
 ghost use Rattle.std.specs.List.{list_all, slice_index};
 ghost use Rattle.toml_pieces.specs.Toml as toml;
 ghost use Rattle.help_fronts.specs.View.{command_said, said};
@@ -7,14 +7,17 @@ ghost use Rattle.help_fronts.specs.Fronts.{command_front};
 ghost use Rattle.drafts.specs.Options as options;
 ghost use Rattle.drafts.specs.Passages.{first_line};
 ghost use Rattle.drafts.specs.Entries as spec;
-ghost use Rattle.drafts.specs.View.{keys_said, passage_said, value_said};
+ghost use Rattle.drafts.specs.Free as free;
+ghost use Rattle.drafts.specs.Seen.{is_name};
+ghost use Rattle.drafts.specs.View.{free_said, held, keys_said, passage_said, value_said};
 
+use crate::free::{FreeFront, Words, free_in};
 use crate::options::{byte_at, is_blank, is_good, key, push_spelling};
 use crate::passages::Passage;
 use crate::seen::{are_names, is_name, is_word};
 use crate::texts::help_pieces;
 use help_blocks::Kind;
-use help_fronts::{CommandFront, OptionFront, command_front, option_front, value_word};
+use help_fronts::{CommandFront, OptionFront, command_front, value_word};
 use std::alloc::{AllocError, Allocator};
 use toml_pieces::{push_left_out, push_list, push_table, push_text, push_word};
 
@@ -75,37 +78,6 @@ fn value_name(front: &str) -> &str
     ensures { result.now ≡ spec.value_name front.now }
 {
     value_word(front).trim()
-}
-
-// ---- the options of a line
-
-// What another option may stand in.
-fn next_text<'a, A: Allocator>(front: &OptionFront<'a, A>) -> &'a str
-    ensures { result.now ≡ spec.next_text (said front.now) }
-{
-    if front.gap == " " { front.help } else { "" }
-}
-
-fn line_fronts<'a, A: Allocator + Copy>(
-    alloc: A,
-    line: &'a str,
-) -> Result<Vec<OptionFront<'a, A>, A>, AllocError>
-    ensures { IfOk result (λ found. map said found.items ≡ spec.line_fronts line.now) }
-{
-    let mut found = Vec::new(alloc);
-    let mut rest = line;
-    let mut most = line.len();
-    while most > 0 {
-        match option_front(alloc, rest)? {
-            None => return Ok(found),
-            Some(front) => {
-                rest = next_text(&front);
-                found.push(front)?;
-            }
-        }
-        most -= 1;
-    }
-    Ok(found)
 }
 
 // ---- tables
@@ -176,19 +148,21 @@ fn push_option<A: Allocator + Copy, B: Allocator>(
     out: &mut String<A>,
     in_group: bool,
     is_last: bool,
-    front: &OptionFront<'_, B>,
+    free: &FreeFront<'_, B>,
     below: &[&str],
 ) -> Result<(), AllocError>
     ensures { OnOk result (string_bytes out.new ≡ string_bytes out.old
-        ++ spec.option_table in_group (map (λ line. line.now) below.now) is_last (said front.now)) }
+        ++ spec.option_table in_group (map (λ line. line.now) below.now) is_last (free_said free.now)) }
 {
-    push_option_head(out, in_group, front)?;
-    push_help_if(alloc, out, is_last, front, below)
+    push_entry_head(out, in_group, "option", "group.option")?;
+    push_left_out_if(out, !free.is_whole, free.front.written)?;
+    push_spelling(out, &free.front)?;
+    push_help_if(alloc, out, is_last, &free.front, below)
 }
 
 // Whether none is left.
-fn is_none<A: Allocator>(fronts: &[OptionFront<'_, A>]) -> bool
-    ensures { result ≡ spec.is_none (map said fronts.now) }
+fn is_none<A: Allocator>(fronts: &[FreeFront<'_, A>]) -> bool
+    ensures { result ≡ spec.is_none (map free_said fronts.now) }
 {
     match fronts {
         [] => true,
@@ -200,11 +174,11 @@ fn push_fronts<A: Allocator + Copy, B: Allocator>(
     alloc: A,
     out: &mut String<A>,
     in_group: bool,
-    fronts: &[OptionFront<'_, B>],
+    fronts: &[FreeFront<'_, B>],
     below: &[&str],
 ) -> Result<(), AllocError>
     ensures { OnOk result (string_bytes out.new ≡ string_bytes out.old
-        ++ spec.option_tables in_group (map (λ line. line.now) below.now) (map said fronts.now)) }
+        ++ spec.option_tables in_group (map (λ line. line.now) below.now) (map free_said fronts.now)) }
 {
     let mut rest = fronts;
     while let [first, others @ ..] = rest {
@@ -214,21 +188,39 @@ fn push_fronts<A: Allocator + Copy, B: Allocator>(
     Ok(())
 }
 
-fn push_options<A: Allocator + Copy>(
+// Takes the names of options.
+fn take_all<'a, A: Allocator + Copy>(
     alloc: A,
-    out: &mut String<A>,
-    in_group: bool,
-    passage: Passage<'_>,
+    taken: &mut Words<'a, A>,
+    fronts: &[FreeFront<'a, A>],
 ) -> Result<(), AllocError>
-    ensures { OnOk result (string_bytes out.new ≡ string_bytes out.old
-        ++ spec.option_tables in_group (drop 1 (passage_said passage.entry).lines)
-        (spec.line_fronts (first_line (passage_said passage.entry).lines))) }
+    ensures { OnOk result (held taken.new
+        ≡ free.with_keys (held taken.old) (flat_map free.free_keys (map free_said fronts.now))) }
 {
-    let fronts = line_fronts(alloc, passage.first_line())?;
-    push_fronts(alloc, out, in_group, &fronts, passage.below())
+    let mut keys = Vec::new(alloc);
+    push_all_keys(&mut keys, fronts)?;
+    taken.put_all(&keys)
 }
 
-// Writes as a comment a front that says more than names.
+fn push_options<'a, A: Allocator + Copy>(
+    alloc: A,
+    out: &mut String<A>,
+    taken: &mut Words<'a, A>,
+    in_group: bool,
+    passage: Passage<'a>,
+) -> Result<(), AllocError>
+    ensures text { OnOk result (string_bytes out.new ≡ string_bytes out.old
+        ++ spec.option_tables in_group (drop 1 (passage_said passage.entry).lines)
+        (free.free_in (held taken.old) (first_line (passage_said passage.entry).lines))) }
+    ensures after { OnOk result (held taken.new ≡ free.with_keys (held taken.old)
+        (flat_map free.free_keys (free.free_in (held taken.old) (first_line (passage_said passage.entry).lines)))) }
+{
+    let fronts = free_in(alloc, taken, passage.first_line())?;
+    push_fronts(alloc, out, in_group, &fronts, passage.below())?;
+    take_all(alloc, taken, &fronts)
+}
+
+// Writes as a comment a front that says more.
 fn push_left_out_if<A: Allocator>(
     out: &mut String<A>,
     says_else: bool,
@@ -298,27 +290,30 @@ fn push_value<A: Allocator + Copy>(
     push_value_flags(out, value.front)
 }
 
-/// Writes the table of an entry.
-pub fn push_entry<A: Allocator + Copy>(
+/// Writes the table of an entry; an option has the names that are free, and takes them.
+pub fn push_entry<'a, A: Allocator + Copy>(
     alloc: A,
     out: &mut String<A>,
+    taken: &mut Words<'a, A>,
     in_group: bool,
-    passage: Passage<'_>,
+    passage: Passage<'a>,
 ) -> Result<(), AllocError>
-    ensures { OnOk result (string_bytes out.new
-        ≡ string_bytes out.old ++ spec.entry_table in_group (passage_said passage.entry)) }
+    ensures text { OnOk result (string_bytes out.new ≡ string_bytes out.old
+        ++ spec.entry_table (held taken.old) in_group (passage_said passage.entry)) }
+    ensures after { OnOk result (held taken.new
+        ≡ spec.taken_with (held taken.old) (passage_said passage.entry)) }
 {
     match passage.kind {
-        Kind::Option => push_options(alloc, out, in_group, passage),
+        Kind::Option => push_options(alloc, out, taken, in_group, passage),
         Kind::Command => push_command(alloc, out, in_group, passage),
         Kind::Value => push_value(alloc, out, in_group, passage),
         _ => Ok(()),
     }
 }
 
-// ---- what no other entry may have
+// ---- the names that no other entry may have
 
-/// What no other entry of the level may have.
+/// The names of an entry that no other of the level may have.
 #[derive(Drop)]
 pub struct Keys<'a, A: Allocator> {
     pub words: Vec<&'a [u8], A>,
@@ -339,28 +334,38 @@ fn push_keys<'a, A: Allocator>(
 
 fn push_all_keys<'a, A: Allocator>(
     keys: &mut Vec<&'a [u8], A>,
-    fronts: &[OptionFront<'a, A>],
+    fronts: &[FreeFront<'a, A>],
 ) -> Result<(), AllocError>
     ensures { OnOk result (map (λ k. k.now) keys.new.items
-        ≡ map (λ k. k.now) keys.old.items ++ flat_map spec.front_keys (map said fronts.now)) }
+        ≡ map (λ k. k.now) keys.old.items ++ flat_map free.free_keys (map free_said fronts.now)) }
 {
     let mut rest = fronts;
     while let [first, others @ ..] = rest {
-        push_keys(keys, &first.names)?;
+        push_keys(keys, &first.front.names)?;
         rest = others;
     }
     Ok(())
 }
 
-fn are_good<A: Allocator + Copy, B: Allocator>(
+fn is_taken<A: Allocator + Copy, B: Allocator>(
     alloc: A,
-    fronts: &[OptionFront<'_, B>],
+    free: &FreeFront<'_, B>,
 ) -> Result<bool, AllocError>
-    ensures { IfOk result (λ good. good ≡ list_all options.is_good (map said fronts.now)) }
+    ensures { IfOk result (λ is_taken. is_taken ≡ spec.is_taken (free_said free.now)) }
+{
+    let is_good = is_good(alloc, &free.front)?;
+    Ok(is_good && !free.front.names.is_empty())
+}
+
+fn are_taken<A: Allocator + Copy, B: Allocator>(
+    alloc: A,
+    fronts: &[FreeFront<'_, B>],
+) -> Result<bool, AllocError>
+    ensures { IfOk result (λ are_taken. are_taken ≡ list_all spec.is_taken (map free_said fronts.now)) }
 {
     let mut rest = fronts;
     while let [first, others @ ..] = rest {
-        if !is_good(alloc, first)? {
+        if !is_taken(alloc, first)? {
             return Ok(false);
         }
         rest = others;
@@ -370,11 +375,11 @@ fn are_good<A: Allocator + Copy, B: Allocator>(
 
 fn option_keys<'a, A: Allocator + Copy>(
     alloc: A,
-    fronts: &[OptionFront<'a, A>],
+    fronts: &[FreeFront<'a, A>],
 ) -> Result<Option<Keys<'a, A>>, AllocError>
-    ensures { IfOk result (λ keys. keys_said keys ≡ spec.option_keys (map said fronts.now)) }
+    ensures { IfOk result (λ keys. keys_said keys ≡ spec.option_keys (map free_said fronts.now)) }
 {
-    if !are_good(alloc, fronts)? {
+    if !are_taken(alloc, fronts)? {
         return Ok(None);
     }
     let mut words = Vec::new(alloc);
@@ -395,11 +400,44 @@ fn push_names<'a, A: Allocator>(
     Ok(())
 }
 
+// Whether no name stands twice.
+fn are_distinct<'a, A: Allocator + Copy>(alloc: A, keys: &[&'a [u8]]) -> Result<bool, AllocError>
+    ensures { IfOk result (λ distinct. distinct ≡ spec.are_distinct free.none_taken (map (λ k. k.now) keys.now)) }
+{
+    let mut seen = Words::new(alloc);
+    for key in keys {
+        if seen.has(key) {
+            return Ok(false);
+        }
+        seen.put(key)?;
+    }
+    Ok(true)
+}
+
+// The names of a command, if they are free, and none stands twice.
+fn free_names_of<'a, A: Allocator + Copy>(
+    alloc: A,
+    taken: &Words<'a, A>,
+    words: Vec<&'a [u8], A>,
+) -> Result<Option<Keys<'a, A>>, AllocError>
+    requires { list_all is_name (map (λ w. w.now) words.items) ≡ true }
+    ensures { IfOk result (λ keys. keys_said keys
+        ≡ spec.free_names_of (held taken.now) (map (λ w. w.now) words.entry.items)) }
+{
+    if taken.has_any(&words) || !are_distinct(alloc, &words)? {
+        Ok(None)
+    } else {
+        Ok(Some(Keys { words }))
+    }
+}
+
 fn command_keys<'a, A: Allocator + Copy>(
     alloc: A,
+    taken: &Words<'a, A>,
     front: &CommandFront<'a, A>,
 ) -> Result<Option<Keys<'a, A>>, AllocError>
-    ensures { IfOk result (λ keys. keys_said keys ≡ spec.command_keys (Some (command_said front.now))) }
+    ensures { IfOk result (λ keys. keys_said keys
+        ≡ spec.command_keys (held taken.now) (Some (command_said front.now))) }
 {
     if !is_name(front.name) || !are_names(&front.aliases) {
         return Ok(None);
@@ -407,28 +445,30 @@ fn command_keys<'a, A: Allocator + Copy>(
     let mut words = Vec::new(alloc);
     words.push(front.name.as_bytes())?;
     push_names(&mut words, &front.aliases)?;
-    Ok(Some(Keys { words }))
+    free_names_of(alloc, taken, words)
 }
 
 fn keys_of_option<'a, A: Allocator + Copy>(
     alloc: A,
+    taken: &Words<'a, A>,
     line: &'a str,
 ) -> Result<Option<Keys<'a, A>>, AllocError>
-    ensures { IfOk result (λ keys. keys_said keys ≡ spec.option_keys (spec.line_fronts line.now)) }
+    ensures { IfOk result (λ keys. keys_said keys ≡ spec.option_keys (free.free_in (held taken.now) line.now)) }
 {
-    let fronts = line_fronts(alloc, line)?;
+    let fronts = free_in(alloc, taken, line)?;
     option_keys(alloc, &fronts)
 }
 
 fn keys_of_command<'a, A: Allocator + Copy>(
     alloc: A,
+    taken: &Words<'a, A>,
     line: &'a str,
 ) -> Result<Option<Keys<'a, A>>, AllocError>
-    ensures { IfOk result (λ keys. keys_said keys ≡ spec.command_keys (command_front line.now)) }
+    ensures { IfOk result (λ keys. keys_said keys ≡ spec.command_keys (held taken.now) (command_front line.now)) }
 {
     match command_front(alloc, line)? {
         None => Ok(None),
-        Some(front) => command_keys(alloc, &front),
+        Some(front) => command_keys(alloc, taken, &front),
     }
 }
 
@@ -444,20 +484,21 @@ fn keys_of_value<'a, A: Allocator>(alloc: A, line: &'a str) -> Option<Keys<'a, A
     }
 }
 
-/// What no other entry of the level may have: the names of an option or a command. None where a description does not
-/// take the entry.
+/// The names of an entry that no other of the level may have: of an option those that are free. None where a description
+/// does not take the entry.
 pub fn entry_keys<'a, A: Allocator + Copy>(
     alloc: A,
+    taken: &Words<'a, A>,
     passage: Passage<'a>,
 ) -> Result<Option<Keys<'a, A>>, AllocError>
-    ensures { IfOk result (λ keys. keys_said keys ≡ spec.entry_keys (passage_said passage.entry)) }
+    ensures { IfOk result (λ keys. keys_said keys ≡ spec.entry_keys (held taken.now) (passage_said passage.entry)) }
 {
     if !passage.is_permitted() {
         return Ok(None);
     }
     match passage.kind {
-        Kind::Option => keys_of_option(alloc, passage.first_line()),
-        Kind::Command => keys_of_command(alloc, passage.first_line()),
+        Kind::Option => keys_of_option(alloc, taken, passage.first_line()),
+        Kind::Command => keys_of_command(alloc, taken, passage.first_line()),
         Kind::Value => Ok(keys_of_value(alloc, passage.first_line())),
         _ => Ok(None),
     }

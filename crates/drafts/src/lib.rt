@@ -9,6 +9,7 @@ ghost use Rattle.drafts.specs.View.{is_nameless};
 
 mod drafted;
 mod entries;
+mod free;
 mod options;
 mod passages;
 mod places;
@@ -23,7 +24,6 @@ use passages::{lines_in, passages};
 use places::place_all;
 use shown_letters::shown_letters;
 use std::alloc::{AllocError, Allocator};
-use taken::Taken;
 use usages::{forms, program_name};
 
 /// Why there is no draft.
@@ -61,11 +61,10 @@ pub fn draft<A: Allocator + Copy>(
     let shown = shown_letters(alloc, printed)?;
     let lines = lines_in(alloc, shown.as_str())?;
     let passages = passages(alloc, &lines)?;
-    let mut taken = Taken::new(alloc);
-    let placed = place_all(alloc, &mut taken, &passages)?;
+    let placed = place_all(alloc, &passages)?;
     let forms = forms(alloc, &placed)?;
     match program_name(name, &forms) {
         None => Err(DraftError::NoName),
-        Some(name) => Ok(draft_of(alloc, name, &forms, &placed, &mut taken.options)?),
+        Some(name) => Ok(draft_of(alloc, name, &forms, &placed)?),
     }
 }

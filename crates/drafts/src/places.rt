@@ -1,13 +1,13 @@
 //! Where each passage of a help text goes.
-ghost use Rattle.std.specs.Prelude.{◌≡◌, IfOk, OnOk, map};
+ghost use Rattle.std.specs.Prelude.{◌≡◌, IfOk, map};
 ghost use Rattle.std.specs.List.{list_any};
 ghost use Rattle.drafts.specs.Places as spec;
-ghost use Rattle.drafts.specs.View.{held, marked_said, passage_said, placed_said, taken_said};
+ghost use Rattle.drafts.specs.View.{marked_said, passage_said, placed_said};
 
 use crate::options::{byte_at, is_blank};
 use crate::passages::Passage;
 use crate::seen::{is_heading, is_usual, last_byte, title_text};
-use crate::taken::{Marked, Taken, mark_all};
+use crate::taken::{Marked, mark_all};
 use help_blocks::Kind;
 use std::alloc::{AllocError, Allocator};
 
@@ -396,16 +396,13 @@ fn placed_marked<'a, A: Allocator>(
     Ok(found)
 }
 
-/// Where each passage of a help text goes. The entries that are written take their names.
+/// Where each passage of a help text goes.
 pub fn place_all<'a, A: Allocator + Copy>(
     alloc: A,
-    taken: &mut Taken<'a, A>,
     passages: &[Passage<'a>],
 ) -> Result<Vec<Placed<'a>, A>, AllocError>
-    requires { taken_said taken.old ≡ spec.nothing_taken }
-    ensures placed { IfOk result (λ found. map placed_said found.items ≡ spec.placed (map passage_said passages.now)) }
-    ensures taken { OnOk result (held taken.new.options ≡ spec.taken_options (map passage_said passages.now)) }
+    ensures { IfOk result (λ found. map placed_said found.items ≡ spec.placed (map passage_said passages.now)) }
 {
-    let marked = mark_all(alloc, taken, passages)?;
+    let marked = mark_all(alloc, passages)?;
     placed_marked(alloc, &marked)
 }

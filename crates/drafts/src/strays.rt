@@ -8,8 +8,8 @@ ghost use Rattle.drafts.specs.Strays as spec;
 ghost use Rattle.drafts.specs.View.{form_said, held, stray_said};
 
 use crate::entries::push_option_head;
+use crate::free::Words;
 use crate::options::{byte_at, is_good, key};
-use crate::taken::Words;
 use crate::usages::Form;
 use help_fronts::{OptionFront, usage_names};
 use std::alloc::{AllocError, Allocator};

@@ -1,7 +1,8 @@
 use Rattle.std.proofs.Common.{◌≡◌, drop, map}
-use Rattle.drafts.specs.Places.{are_distinct, none_taken}
+use Rattle.drafts.specs.Entries.{are_distinct}
+use Rattle.drafts.specs.Free.{none_taken}
 use Rattle.drafts.specs.View.{held}
-use Rattle.drafts.proofs.taken.are_distinct.Given as goal
+use Rattle.drafts.proofs.entries.are_distinct.Given as goal
 
 abbrev pub invariant-loop-key : goal.invariant-loop-key
 invariant-loop-key g l = record {

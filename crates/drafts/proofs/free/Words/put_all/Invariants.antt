@@ -1,7 +1,7 @@
 use Rattle.std.proofs.Common.{◌≡◌, drop, map}
-use Rattle.drafts.specs.Places.{with_keys}
+use Rattle.drafts.specs.Free.{with_keys}
 use Rattle.drafts.specs.View.{held}
-use Rattle.drafts.proofs.taken.Words.put_all.Given as goal
+use Rattle.drafts.proofs.free.Words.put_all.Given as goal
 
 abbrev pub invariant-loop-key : goal.invariant-loop-key
 invariant-loop-key g l = record {

@@ -1,0 +1,87 @@
+-- Which names are taken, and which of a line are free.
+use Rattle.std.specs.Prelude.{ℕ, zero, suc, ◌==◌, ◌||◌, Bool, false, not, List, [], ◌∷◌, ◌++◌, bytes_eq, codes, if◌then◌else◌, length, map, nat_lt, Option, None, Some}
+use Rattle.help_fronts.specs.Fronts.{FrontSaid, option_front}
+use Rattle.drafts.specs.Options.{key}
+
+-- whether a word is taken
+abbrev pub Has : Type 0
+Has = List ℕ → Bool
+
+abbrev pub none_taken : Has
+none_taken word = false
+
+abbrev pub with_key : Has → (key : List ℕ) → Has
+with_key has k word = has word || (bytes_eq word k || false)
+
+abbrev pub with_keys : Has → (keys : List (List ℕ)) → Has
+with_keys has [] = has
+with_keys has (k ∷ ks) = with_keys (with_key has k) ks
+
+-- ---- the options of a line: after one blank another may follow
+
+abbrev pub next_text : FrontSaid → List ℕ
+next_text f = if bytes_eq f.gap (codes " ") then f.help else []
+
+abbrev pub fronts_by : (more : List ℕ → List FrontSaid) → Option FrontSaid → List FrontSaid
+fronts_by more None = []
+fronts_by more (Some f) = f ∷ more (next_text f)
+
+-- at most so many
+abbrev pub fronts : (most : ℕ) → (line : List ℕ) → List FrontSaid
+fronts zero line = []
+fronts (suc n) line = fronts_by (fronts n) (option_front line)
+
+abbrev pub line_fronts : (line : List ℕ) → List FrontSaid
+line_fronts line = fronts (length line) line
+
+-- ---- the free names of a line: `has` says which are taken, and `seen` which stand before in the line
+
+abbrev pub is_free : (has seen : Has) → (name : List ℕ) → Bool
+is_free has seen n = not (has (key n) || seen (key n))
+
+abbrev pub free_name : (has seen : Has) → (name : List ℕ) → List (List ℕ)
+free_name has seen n = if is_free has seen n then n ∷ [] else []
+
+abbrev pub free_names : (has seen : Has) → (names : List (List ℕ)) → List (List ℕ)
+free_names has seen [] = []
+free_names has seen (n ∷ ns) = free_name has seen n ++ free_names has (with_key seen (key n)) ns
+
+abbrev pub front_keys : FrontSaid → List (List ℕ)
+front_keys f = map key f.names
+
+-- a front with its free names alone
+pub record FreeSaid : Type 0 where
+  pub front : FrontSaid
+  -- whether all its names are free
+  pub is_whole : Bool
+
+abbrev pub with_names : FrontSaid → (names : List (List ℕ)) → FrontSaid
+with_names f names = record {
+  names = names;
+  values = f.values;
+  joint = f.joint;
+  value = f.value;
+  is_optional = f.is_optional;
+  written = f.written;
+  gap = f.gap;
+  help = f.help;
+}
+
+abbrev pub freed : FrontSaid → (names : List (List ℕ)) → FreeSaid
+freed f names = record { front = with_names f names; is_whole = length names == length f.names }
+
+abbrev pub free_front : (has seen : Has) → FrontSaid → FreeSaid
+free_front has seen f = freed f (free_names has seen f.names)
+
+abbrev pub free_fronts : (has seen : Has) → List FrontSaid → List FreeSaid
+free_fronts has seen [] = []
+free_fronts has seen (f ∷ fs) = free_front has seen f ∷ free_fronts has (with_keys seen (front_keys f)) fs
+
+abbrev pub free_in : Has → (line : List ℕ) → List FreeSaid
+free_in has line = free_fronts has none_taken (line_fronts line)
+
+abbrev pub free_keys : FreeSaid → List (List ℕ)
+free_keys f = front_keys f.front
+
+abbrev pub has_name : FreeSaid → Bool
+has_name f = nat_lt 0 (length f.front.names)
