@@ -51,11 +51,19 @@ pub const CHOICES: &[Row<'static>] = &[(
 )];
 
 /// Positional values: those of groups come first, and a hidden one keeps its place.
-pub const PLACES: &[Row<'static>] = &[(
-    "name = 'a'\n[[positional]]\nvalue = 'A'\nvalues = ['a', 'b']\n[[positional]]\nvalue = 'B'\nvalues = ['c']\nhidden = true\n[[positional]]\nvalue = 'C'\nrepeated = true\nstrict = true\n[[group]]\ntitle = 'G'\n[[group.positional]]\nvalue = 'D'\n",
-    Shell::Bash,
-    "    'level' '' '' ''\n    'place' 'once' 'file' ''\n    'place' 'once' 'none' ''\n    'among' 'a' '' ''\n    'among' 'b' '' ''\n    'place' 'once' 'none' ''\n    'strict' 'many' 'file' ''\n    'end' '' '' ''\n)\n",
-)];
+pub const PLACES: &[Row<'static>] = &[
+    (
+        "name = 'a'\n[[positional]]\nvalue = 'A'\nvalues = ['a', 'b']\n[[positional]]\nvalue = 'B'\nvalues = ['c']\nhidden = true\n[[positional]]\nvalue = 'C'\nrepeated = true\nstrict = true\n[[group]]\ntitle = 'G'\n[[group.positional]]\nvalue = 'D'\n",
+        Shell::Bash,
+        "    'level' '' '' ''\n    'place' 'once' 'file' ''\n    'place' 'once' 'none' ''\n    'among' 'a' '' ''\n    'among' 'b' '' ''\n    'place' 'once' 'none' ''\n    'strict' 'many' 'file' ''\n    'end' '' '' ''\n)\n",
+    ),
+    // A usage alone offers files. One with a command, or with a value that is hidden in a group, offers none.
+    (
+        "name = 'a'\nusage = 'U'\n[[command]]\nname = 'one'\nusage = 'U'\n[[command.option]]\nshort = 'x'\n[[command]]\nname = 'two'\nusage = 'U'\n[[command.group]]\ntitle = 'G'\n[[command.group.positional]]\nvalue = 'D'\nhidden = true\n",
+        Shell::Bash,
+        "    'level' '' '' ''\n    'command' 'one' '' ''\n    'once' 'flag' 'none' ''\n    'name' '-x' '' ''\n    'place' 'many' 'file' ''\n    'end' '' '' ''\n    'command' 'two' '' ''\n    'place' 'once' 'none' ''\n    'end' '' '' ''\n    'end' '' '' ''\n)\n",
+    ),
+];
 
 /// Commands, in groups and in one another.
 pub const COMMANDS: &[Row<'static>] = &[(

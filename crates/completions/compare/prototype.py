@@ -120,8 +120,14 @@ def commands(level):
     return found
 
 
+def unsaid_places(level):
+    """Files, for a level whose usage alone may say what else is given there."""
+    takes_words = any(it.get(key) for it in [*level.get("group", []), level] for key in ("positional", "command"))
+    return [("place", "many", "file", "")] if "usage" in level and not takes_words else []
+
+
 def level_entries(level):
-    return [entry for it in [*level.get("group", []), level] for entry in [*options(it), *places(it), *commands(it)]]
+    return [*(entry for it in [*level.get("group", []), level] for entry in [*options(it), *places(it), *commands(it)]), *unsaid_places(level)]
 
 
 def table(description):

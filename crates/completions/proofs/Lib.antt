@@ -5,4 +5,5 @@ pub mod Tags
 pub mod Apart
 pub mod Members
 pub mod Whole
+pub mod TakesWords
 pub mod Rows

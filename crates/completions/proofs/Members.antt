@@ -9,9 +9,9 @@ use Rattle.description.specs.declared.levels.Level.{Level, out-Level}
 use Rattle.description.specs.declared.options.Choice.{Choice}
 use Rattle.description.specs.declared.options.Opt.{Opt}
 use Rattle.description.specs.declared.positionals.Positional.{Positional}
-use Rattle.description.proofs.Views.{command_layer, open-Command, open-Group, open-Level}
+use Rattle.description.proofs.Views.{command_layer, level_layer, open-Command, open-Group, open-Level}
 use Rattle.completions.specs.Content.{EntrySaid}
-use Rattle.completions.specs.Table.{choices_entries, command_entries, command_head_entries, commands_entries, group_entries, groups_entries, level_entries, lone, mark, members_entries, options_entries, places_entries, shown_option, what_behind}
+use Rattle.completions.specs.Table.{choices_entries, command_entries, command_head_entries, commands_entries, group_entries, groups_entries, level_entries, lone, mark, members_entries, options_entries, places_entries, shown_option, unsaid_places, what_behind}
 use Rattle.completions.specs.Written.{Writes, data_text}
 use Rattle.completions.specs.declared.shells.Shell.{Shell}
 use Rattle.completions.proofs.Writing.{put_next, put_none, writes_as, writes_none, writes_then}
@@ -46,12 +46,16 @@ group_put {A} sh g os cs ps s1 s2 s3 s4 s5 io ic ip h2 h3 h4 h5 =
     put_members sh [] os inside.options.items cs inside.choices.items ps inside.positionals.items (commands_entries (commands_said inside.commands.items)) s1 s1 s2 s3 s4 s5 io ic ip (writes_none sh s1) h2 h3 h4 h5
     ∙ sym (ap (λ said. s1 ++ data_text sh (group_entries said)) (open-Group g))
 
-pub level_put : {A : Type 0} (sh : Shell) (l : Level A) (os : List Opt) (cs : List (Choice A)) (ps : List Positional) (s0 s1 s2 s3 s4 s5 : List ℕ) → os ≡ (out-Level A l).options.items → cs ≡ (out-Level A l).choices.items → ps ≡ (out-Level A l).positionals.items
+pub level_put : {A : Type 0} (sh : Shell) (l : Level A) (os : List Opt) (cs : List (Choice A)) (ps : List Positional) (s0 s1 s2 s3 s4 s5 s6 : List ℕ) → os ≡ (out-Level A l).options.items → cs ≡ (out-Level A l).choices.items → ps ≡ (out-Level A l).positionals.items
     → Writes sh s0 s1 (groups_entries (groups_said (out-Level A l).groups.items)) → Writes sh s1 s2 (options_entries (map opt_said os)) → Writes sh s2 s3 (choices_entries (map choice_said cs)) → Writes sh s3 s4 (places_entries (map positional_said ps))
-    → Writes sh s4 s5 (commands_entries (commands_said (out-Level A l).commands.items)) → Writes sh s0 s5 (level_entries (level_said l))
-level_put {A} sh l os cs ps s0 s1 s2 s3 s4 s5 io ic ip h1 h2 h3 h4 h5 =
+    → Writes sh s4 s5 (unsaid_places (level_said l)) → Writes sh s5 s6 (commands_entries (commands_said (out-Level A l).commands.items)) → Writes sh s0 s6 (level_entries (level_said l))
+level_put {A} sh l os cs ps s0 s1 s2 s3 s4 s5 s6 io ic ip h1 h2 h3 h4 h5 h6 =
     let inside = out-Level A l in
-    put_members sh (groups_entries (groups_said inside.groups.items)) os inside.options.items cs inside.choices.items ps inside.positionals.items (commands_entries (commands_said inside.commands.items)) s0 s1 s2 s3 s4 s5 io ic ip h1 h2 h3 h4 h5
+    let front = groups_entries (groups_said inside.groups.items) in
+    let unsaid = unsaid_places (level_layer inside) in
+    let opened = h5 ∙ ap (λ said. s4 ++ data_text sh (unsaid_places said)) (open-Level l) in
+    let w5 = put_members sh front os inside.options.items cs inside.choices.items ps inside.positionals.items unsaid s0 s1 s2 s3 s4 s5 io ic ip h1 h2 h3 h4 opened in
+    writes_then sh s0 s5 s6 (front ++ option_rows inside.options.items ++ choice_rows inside.choices.items ++ place_rows inside.positionals.items ++ unsaid) (commands_entries (commands_said inside.commands.items)) w5 h6
     ∙ sym (ap (λ said. s0 ++ data_text sh (level_entries said)) (open-Level l))
 
 module _ {A : Type 0} (m : Command A) where

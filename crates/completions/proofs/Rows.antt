@@ -1,10 +1,14 @@
--- What each shell reads of quoted words, of what it reads nothing, and names, values and tags.
-use Rattle.std.specs.Prelude.{◌≡◌, List, ℕ, [], ◌∷◌, flat_map, Some, None, codes}
+-- What each shell reads of quoted words, of what it reads nothing, names, values and tags, and what a usage offers.
+use Rattle.std.specs.Prelude.{◌≡◌, List, ℕ, [], ◌∷◌, flat_map, Some, None, codes, true, false}
 use Rattle.std.proofs.Common.{refl}
 use Rattle.completions.specs.Reader.{read}
 use Rattle.completions.specs.Scripts.{tag}
 use Rattle.completions.specs.Syntax.{syntax_how, syntax_words, word_names}
+use Rattle.completions.specs.Content.{EntrySaid}
+use Rattle.completions.specs.Table.{entry, level_entries}
+use Rattle.description.specs.Content.{TextsSaid, PositionalSaid, LevelSaid, level, GroupsSaid, no_groups, groups, group, CommandsSaid, no_commands, commands, command}
 use Rattle.description.specs.Values.{listed_values}
+use Rattle.description.specs.declared.hints.ValueHint.TheVariants as hint
 use Rattle.completions.specs.declared.shells.Shell.TheVariants as shell
 use Rattle.completions.specs.declared.syntax.How.TheVariants as how
 
@@ -50,3 +54,32 @@ pub tags_of_names :
     (tag (codes "a-b_C1") ≡ codes "a_2db_5fC1")
     × (tag (195 ∷ 169 ∷ []) ≡ codes "_c3_a9")
 tags_of_names = (refl, refl)
+
+-- a text as the usage, and nothing else that is said
+abbrev own_usage : TextsSaid
+own_usage = record { about = None; header = None; footer = None; usage = Some (codes "U"); topics = [] }
+
+abbrev no_usage : TextsSaid
+no_usage = record own_usage { usage = None }
+
+abbrev hidden_user : PositionalSaid
+hidden_user = record { value = codes "V"; default = None; values = None; hint = hint.User; help = None; required = false; repeated = false; strict = false; hidden = true }
+
+abbrev with_texts : TextsSaid → GroupsSaid → List PositionalSaid → CommandsSaid → LevelSaid
+with_texts texts gs ps ms = level texts false [] [] gs ps ms
+
+abbrev hidden_command : CommandsSaid
+hidden_command = commands (command (record { name = codes "c"; initial = None; aliases = []; hidden = true }) None (with_texts own_usage no_groups [] no_commands)) no_commands
+
+abbrev a_hidden_place : List EntrySaid
+a_hidden_place = entry (codes "place") (codes "once") (codes "none") [] ∷ []
+
+-- a usage alone offers files, and one with a positional value or a command, also a hidden one or one of a group, does not
+pub usages_offer_files :
+    (level_entries (with_texts own_usage no_groups [] no_commands) ≡ entry (codes "place") (codes "many") (codes "file") [] ∷ [])
+    × (level_entries (with_texts no_usage no_groups [] no_commands) ≡ [])
+    × (level_entries (with_texts own_usage no_groups (hidden_user ∷ []) no_commands) ≡ a_hidden_place)
+    × (level_entries (with_texts own_usage (groups (group (codes "G") [] [] (hidden_user ∷ []) no_commands) no_groups) [] no_commands) ≡ a_hidden_place)
+    × (level_entries (with_texts own_usage no_groups [] hidden_command) ≡ [])
+    × (level_entries (with_texts own_usage (groups (group (codes "G") [] [] [] hidden_command) no_groups) [] no_commands) ≡ [])
+usages_offer_files = (refl, refl, refl, refl, refl, refl)

@@ -1,10 +1,11 @@
 -- The table of a description's completions: what may be typed on each level, in order. What is hidden stands nowhere,
 -- but a hidden value keeps its place.
-use Rattle.std.specs.Prelude.{ℕ, Bool, true, false, List, [], ◌∷◌, ◌++◌, codes, map, flat_map, Option, Some, None, if◌then◌else◌}
+use Rattle.std.specs.Prelude.{ℕ, Bool, true, false, not, ◌&&◌, ◌||◌, List, [], ◌∷◌, ◌++◌, codes, map, flat_map, Option, Some, None, is_some, if◌then◌else◌}
 use Rattle.std.specs.Char.{encode_utf8}
 use Rattle.description.specs.Content.{NameSaid, short, long, both, SpellingSaid, named, syntax, OptSaid, ChoiceSaid, PositionalSaid, CommandNames, LevelSaid, level, GroupsSaid, no_groups, groups, GroupSaid, group, CommandsSaid, no_commands, commands, CommandSaid, command, DescriptionSaid}
 use Rattle.description.specs.Hints.{hint_word}
 use Rattle.description.specs.declared.hints.ValueHint.{ValueHint}
+use Rattle.description.specs.declared.hints.ValueHint.TheVariants.{File}
 use Rattle.completions.specs.Content.{EntrySaid, entry_words}
 use Rattle.completions.specs.Syntax.{syntax_how, syntax_words, word_names}
 use Rattle.completions.specs.Texts.{command_help, help_text}
@@ -142,6 +143,43 @@ names_of (command names help l) = names
 abbrev pub command_head_entries : CommandSaid → List EntrySaid
 command_head_entries c = command_head c ∷ alias_entries (names_of c)
 
+-- ---- positional values that only a usage names
+
+abbrev pub has_places : List PositionalSaid → Bool
+has_places [] = false
+has_places (p ∷ ps) = true
+
+abbrev pub has_commands : CommandsSaid → Bool
+has_commands no_commands = false
+has_commands (commands first others) = true
+
+-- whether there is a positional value or a command, hidden or not
+abbrev pub takes_words : List PositionalSaid → CommandsSaid → Bool
+takes_words positionals subcommands = has_places positionals || has_commands subcommands
+
+abbrev pub groups_take_words : GroupsSaid → Bool
+groups_take_words no_groups = false
+groups_take_words (groups (group title options choices positionals subcommands) others) =
+    takes_words positionals subcommands || groups_take_words others
+
+-- on the level itself or in a group
+abbrev pub level_takes_words : LevelSaid → Bool
+level_takes_words (level texts required options choices gs positionals subcommands) =
+    takes_words positionals subcommands || groups_take_words gs
+
+abbrev pub has_usage : LevelSaid → Bool
+has_usage (level texts required options choices gs positionals subcommands) = is_some texts.usage
+
+-- files, as of a positional value that may be given many times
+abbrev pub files : EntrySaid
+files = entry (place_word false) (times true) (hint_word File) []
+
+-- a level with a usage of its own, and with neither a positional value nor a command, takes files
+abbrev pub unsaid_places : LevelSaid → List EntrySaid
+unsaid_places l = if has_usage l && not (level_takes_words l) then files ∷ [] else []
+
+-- ---- levels
+
 abbrev mutual
   -- what stands in groups comes first
   pub level_entries : LevelSaid → List EntrySaid
@@ -150,6 +188,7 @@ abbrev mutual
       ++ options_entries options
       ++ choices_entries choices
       ++ places_entries positionals
+      ++ unsaid_places (level texts required options choices gs positionals subcommands)
       ++ commands_entries subcommands
 
   pub groups_entries : GroupsSaid → List EntrySaid

@@ -1,18 +1,19 @@
 //! Levels: groups and commands, and what these have.
 ghost use Rattle.std.specs.Prelude.{◌≡◌, ◌++◌, ◌∷◌, [], codes, map, OnOk, string_bytes};
 ghost use Rattle.description.specs.View.{command_said, commands_said, description_said, group_said, groups_said};
-ghost use Rattle.description.specs.View.{level_said};
+ghost use Rattle.description.specs.View.{level_said, positional_said};
 ghost use Rattle.completions.specs.Table.{alias_entries, command_entries, command_head, command_head_entries};
-ghost use Rattle.completions.specs.Table.{commands_entries, group_entries, groups_entries, initial_entries};
-ghost use Rattle.completions.specs.Table.{level_entries, lone, table};
+ghost use Rattle.completions.specs.Table.{commands_entries, group_entries, groups_entries};
+ghost use Rattle.completions.specs.Table.{groups_take_words, initial_entries, level_entries, level_takes_words, lone};
+ghost use Rattle.completions.specs.Table.{table, takes_words, unsaid_places};
 ghost use Rattle.completions.specs.Written.{Writes};
 
 use crate::entries::{Entry, push_entry};
 use crate::helps::command_help;
-use crate::options::{Script, push_choices, push_options, push_places};
+use crate::options::{Script, push_choices, push_files, push_options, push_places};
 use crate::shells::Shell;
 use bumpalo::Bump;
-use description::{Command, Description, Group, Level};
+use description::{Command, Description, Group, Level, Positional};
 use std::alloc::{AllocError, Allocator};
 
 // ---- the names of a command
@@ -78,6 +79,48 @@ fn push_head<'p, 'a: 'p, C: Allocator>(
     push_aliases(out, shell, command.aliases.as_slice())
 }
 
+// ---- positional values that only a usage names
+
+#[tactic(auto, using(crate::proofs::TakesWords::words_there))]
+fn takes_words<C: Allocator>(positionals: &[Positional<'_>], commands: &[Command<'_, C>]) -> bool
+    ensures { result ≡ takes_words (map positional_said positionals.now) (commands_said commands.now) }
+{
+    !positionals.is_empty() || !commands.is_empty()
+}
+
+fn groups_take_words<C: Allocator>(groups: &[Group<'_, C>]) -> bool
+    ensures { result ≡ groups_take_words (groups_said groups.now) }
+{
+    for group in groups {
+        if takes_words(group.positionals.as_slice(), group.commands.as_slice()) {
+            return true;
+        }
+    }
+    false
+}
+
+#[tactic(auto, using(crate::proofs::TakesWords::level_words_there))]
+fn level_takes_words<C: Allocator>(level: &Level<'_, C>) -> bool
+    ensures { result ≡ level_takes_words (level_said level.now) }
+{
+    takes_words(level.positionals.as_slice(), level.commands.as_slice())
+        || groups_take_words(level.groups.as_slice())
+}
+
+fn push_unsaid_places<A: Allocator, C: Allocator>(
+    out: &mut String<A>,
+    shell: Shell,
+    level: &Level<'_, C>,
+) -> Result<(), AllocError>
+    ensures { OnOk result (Writes shell (string_bytes out.old) (string_bytes out.new)
+        (unsaid_places (level_said level.now))) }
+{
+    if level.usage.is_some() && !level_takes_words(level) {
+        push_files(out, shell)?;
+    }
+    Ok(())
+}
+
 // ---- levels
 
 #[cycle(levels)]
@@ -94,6 +137,7 @@ fn push_level<'p, 'a: 'p, C: Allocator>(
     push_options(arena, out, shell, level.options.as_slice())?;
     push_choices(arena, out, shell, level.choices.as_slice())?;
     push_places(out, shell, level.positionals.as_slice())?;
+    push_unsaid_places(out, shell, level)?;
     push_commands(arena, out, shell, &level.commands)
 }
 

@@ -1,10 +1,10 @@
 //! Options and positional values.
 ghost use Rattle.std.specs.Prelude.{◌≡◌, ◌++◌, ◌∷◌, [], codes, encode_utf8, map, OnOk, string_bytes};
 ghost use Rattle.description.specs.View.{choice_said, name_said, opt_said, positional_said, spelling_said, text_of};
-ghost use Rattle.completions.specs.Table.{choice_entries, choices_entries, hint_of, how_of, lone, members_entries};
-ghost use Rattle.completions.specs.Table.{name_entries, names, option_entries, option_entry, options_entries};
-ghost use Rattle.completions.specs.Table.{place_entries, place_word, places_entries, shown_option, times};
-ghost use Rattle.completions.specs.Table.{what_behind};
+ghost use Rattle.completions.specs.Table.{choice_entries, choices_entries, files, hint_of, how_of, lone};
+ghost use Rattle.completions.specs.Table.{members_entries, name_entries, names, option_entries, option_entry};
+ghost use Rattle.completions.specs.Table.{options_entries, place_entries, place_word, places_entries};
+ghost use Rattle.completions.specs.Table.{shown_option, times, what_behind};
 ghost use Rattle.completions.specs.Written.{Writes};
 
 use crate::entries::{Entry, push_entry};
@@ -255,4 +255,15 @@ pub fn push_places<A: Allocator>(
         push_place(out, shell, positional)?;
     }
     Ok(())
+}
+
+/// Puts files, as of a positional value that may be given many times. After `AllocError` some of it may stand there.
+pub fn push_files<A: Allocator>(out: &mut String<A>, shell: Shell) -> Result<(), AllocError>
+    ensures { OnOk result (Writes shell (string_bytes out.old) (string_bytes out.new) (files ∷ [])) }
+{
+    let place = Entry {
+        hint: ValueHint::File.word(),
+        ..Entry::lone(place_word(false), times(true))
+    };
+    push_entry(out, shell, place)
 }

@@ -11,8 +11,8 @@ use Rattle.completions.proofs.levels.+levels.Goals as goal
 pub push_level-returns : goal.push_level-returns
 push_level-returns g t c =
     on_ok_weaker c.push_commands.result
-    (level_put c.args.shell c.args.level.now c.as_slice.result.now c.as_slice-2.result.now c.as_slice-3.result.now (string_bytes c.args.out.now) (string_bytes c.push_groups.new.out) (string_bytes c.push_options.new.out) (string_bytes c.push_choices.new.out) (string_bytes c.push_places.new.out) (string_bytes c.push_commands.new.out)
-    c.as_slice.ensures.value c.as_slice-2.ensures.value c.as_slice-3.ensures.value c.in_ok-push_groups.ensures c.in_ok-push_options.ensures c.in_ok-push_choices.ensures c.in_ok-push_places.ensures)
+    (level_put c.args.shell c.args.level.now c.as_slice.result.now c.as_slice-2.result.now c.as_slice-3.result.now (string_bytes c.args.out.now) (string_bytes c.push_groups.new.out) (string_bytes c.push_options.new.out) (string_bytes c.push_choices.new.out) (string_bytes c.push_places.new.out) (string_bytes c.push_unsaid_places.new.out) (string_bytes c.push_commands.new.out)
+    c.as_slice.ensures.value c.as_slice-2.ensures.value c.as_slice-3.ensures.value c.in_ok-push_groups.ensures c.in_ok-push_options.ensures c.in_ok-push_choices.ensures c.in_ok-push_places.ensures c.in_ok-push_unsaid_places.ensures)
     c.push_commands.ensures
 
 pub push_group-returns : goal.push_group-returns
