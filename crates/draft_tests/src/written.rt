@@ -64,6 +64,11 @@ const ROWS: &[(&str, &str)] = &[
         "usage: a\n\noptions:\n  -h  help\n\nActions:\n  {go,stop}  what\n    go    start\n    stop  end\n",
         "name = \"a\"\nusage = \"a\"\n\n# options:\n\n[[option]]\nshort = \"h\"\nhelp = \"help\"\n\n[[group]]\ntitle = \"Actions\"\n# left out:   {go,stop}  what\n\n[[group.command]]\nname = \"go\"\nhelp = \"start\"\n\n[[group.command]]\nname = \"stop\"\nhelp = \"end\"\n",
     ),
+    // a choice of commands that are written above, and a topic that begins with a backquote
+    (
+        "usage: a\n\nCommands:\n  go  run\n\nActions:\n  {go}  what\n    go    again\n\nNotes:\n  `a` is.\n",
+        "name = \"a\"\nusage = \"a\"\n\n# Commands:\n\n[[command]]\nname = \"go\"\nhelp = \"run\"\n# left out: Actions:\n# left out:   {go}  what\n# left out:     go    again\n\n[[topic]]\ntitle = \"Notes\"\ntext = \"`a` is.\"\n",
+    ),
     // a name that stands twice on a line, and some that entries above have
     (
         "usage: a\n  -x, --far, -x  more\n  -y  less\n  -y n=N, --near=N  near\n  -y  again\n  -z -y  last\n",

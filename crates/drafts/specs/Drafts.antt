@@ -8,7 +8,7 @@ use Rattle.drafts.specs.Seen.{title_text}
 use Rattle.drafts.specs.Passages.{PassageSaid, first_line, lines_in, passages}
 use Rattle.drafts.specs.Texts.{empty_piece, passage_pieces}
 use Rattle.drafts.specs.Free.{Has, none_taken}
-use Rattle.drafts.specs.Entries.{entry_table, taken_with}
+use Rattle.drafts.specs.Entries.{after_entry, entry_table}
 use Rattle.drafts.specs.Places.{PlacedSaid, is_title, placed}
 use Rattle.drafts.specs.Strays.{names_in, strays}
 use Rattle.drafts.specs.Usages.{forms, program_name, usage_pieces}
@@ -31,7 +31,7 @@ is_in _ _ = false
 abbrev pub spaced : Text → PlacedSaid → List Piece
 spaced t p = if is_in t p.role then empty_piece ∷ passage_pieces p.passage else []
 
--- but the first
+-- the passages of a text, with an empty line between two
 abbrev pub gathered : Text → List PlacedSaid → List Piece
 gathered t ps = drop 1 (flat_map (spaced t) ps)
 
@@ -62,19 +62,19 @@ placed_text has role.Member p below = entry_table has true p
 placed_text has role.LeftOut p below = flat_map left_out p.lines
 placed_text has _ p below = []
 
-abbrev pub taken_after : Has → Role → PassageSaid → Has
-taken_after has role.Entry p = taken_with has p
-taken_after has role.Member p = taken_with has p
-taken_after has _ p = has
+abbrev pub after_role : Has → Role → PassageSaid → Has
+after_role has role.Entry p = after_entry has p
+after_role has role.Member p = after_entry has p
+after_role has _ p = has
 
 abbrev pub tables : Has → List PlacedSaid → List ℕ
 tables has [] = []
-tables has (p ∷ ps) = placed_text has p.role p.passage ps ++ tables (taken_after has p.role p.passage) ps
+tables has (p ∷ ps) = placed_text has p.role p.passage ps ++ tables (after_role has p.role p.passage) ps
 
 -- what is taken after all of them
 abbrev pub taken_from : Has → List PlacedSaid → Has
 taken_from has [] = has
-taken_from has (p ∷ ps) = taken_from (taken_after has p.role p.passage) ps
+taken_from has (p ∷ ps) = taken_from (after_role has p.role p.passage) ps
 
 -- ---- the whole
 
@@ -99,6 +99,6 @@ drafted name ps = option_map (draft_of ps) (program_name name (forms ps))
 abbrev pub printed_passages : (printed : List ℕ) → List PassageSaid
 printed_passages printed = passages (lines_in (shown_letters printed))
 
--- none, if the name that is given may be none, or no name is given, and none stands in a usage
+-- None, if a program may not have the name that is given, or if none is given and none stands in a usage.
 abbrev pub draft_text : (name : Option (List ℕ)) → (printed : List ℕ) → Option (List ℕ)
 draft_text name printed = drafted name (placed (printed_passages printed))

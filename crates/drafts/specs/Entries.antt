@@ -111,17 +111,17 @@ abbrev pub taken_in : Has → Kind → (line : List ℕ) → Has
 taken_in has kind.Option line = with_keys has (flat_map free_keys (free_in has line))
 taken_in has _ line = has
 
-abbrev pub taken_with : Has → PassageSaid → Has
-taken_with has p = taken_in has p.kind (first_line p.lines)
+abbrev pub after_entry : Has → PassageSaid → Has
+after_entry has p = taken_in has p.kind (first_line p.lines)
 
 -- ---- the names of an entry that no other of the level may have, if a description takes the entry
 
--- each option has a free name
-abbrev pub is_taken : FreeSaid → Bool
-is_taken f = is_good f.front && has_name f
+-- a description takes the option, and it has a free name
+abbrev pub is_writable : FreeSaid → Bool
+is_writable f = is_good f.front && has_name f
 
 abbrev pub option_keys : List FreeSaid → Option (List (List ℕ))
-option_keys fs = if list_all is_taken fs then Some (flat_map free_keys fs) else None
+option_keys fs = if list_all is_writable fs then Some (flat_map free_keys fs) else None
 
 -- no name stands twice
 abbrev pub are_distinct : Has → (keys : List (List ℕ)) → Bool

@@ -135,7 +135,7 @@ with_byte left b = if is_bracket b then with_bracket left b else left
 abbrev pub goes_on : ℕ → Bool
 goes_on b = nat_lt 32 b && not (b == 44)
 
--- something stands after each comma
+-- directly after each comma something stands that is no blank and no comma
 abbrev pub has_full_parts : List ℕ → Bool
 has_full_parts [] = true
 has_full_parts (b ∷ bs) = (not (b == 44) || goes_on (slice_index bs 0)) && has_full_parts bs

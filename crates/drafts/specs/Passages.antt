@@ -37,7 +37,6 @@ passages lines = passages_from (starts (lines_of lines)) lines
 abbrev pub lines_in : (text : List ℕ) → List (List ℕ)
 lines_in text = slice_split (λ b. b == 10) text
 
--- the first line, and those below it
 abbrev pub first_line : (lines : List (List ℕ)) → List ℕ
 first_line [] = []
 first_line (l ∷ ls) = l

@@ -41,8 +41,21 @@ abbrev pub is_given : Option (List (List ℕ)) → Bool
 is_given None = false
 is_given (Some keys) = true
 
-abbrev pub is_written : TakenSaid → PassageSaid → Bool
-is_written t p = is_given (keys_by t p)
+abbrev pub begins_with_command : List PassageSaid → Bool
+begins_with_command [] = false
+begins_with_command (p ∷ ps) = is_command p.kind
+
+abbrev pub is_value : Kind → Bool
+is_value kind.Value = true
+is_value _ = false
+
+-- `{go,stop}` above the commands, which is left out
+abbrev pub is_choice_of_commands : PassageSaid → (below : List PassageSaid) → Bool
+is_choice_of_commands p below =
+    is_value p.kind && (slice_index (trim (first_line p.lines)) 0 == 123 && begins_with_command below)
+
+abbrev pub is_written : TakenSaid → PassageSaid → (below : List PassageSaid) → Bool
+is_written t p below = is_given (keys_by t p) && not (is_choice_of_commands p below)
 
 abbrev pub with_entry : Has → Option (List (List ℕ)) → Has
 with_entry has None = has
@@ -61,7 +74,7 @@ pub record MarkedSaid : Type 0 where
 
 abbrev pub marked_from : TakenSaid → List PassageSaid → List MarkedSaid
 marked_from t [] = []
-marked_from t (p ∷ ps) = record { passage = p; is_written = is_written t p } ∷ marked_from (taken_after t p) ps
+marked_from t (p ∷ ps) = record { passage = p; is_written = is_written t p ps } ∷ marked_from (taken_after t p) ps
 
 abbrev pub marked : List PassageSaid → List MarkedSaid
 marked ps = marked_from nothing_taken ps
@@ -88,8 +101,12 @@ abbrev pub has_below : (test : MarkedSaid → Bool) → List MarkedSaid → Bool
 has_below test [] = false
 has_below test (m ∷ ms) = if is_title m.passage.kind then false else (test m || has_below test ms)
 
+-- three backquotes
+abbrev pub is_fence : (text : List ℕ) → Bool
+is_fence text = slice_index text 0 == 96 && (slice_index text 1 == 96 && slice_index text 2 == 96)
+
 abbrev pub says : (text : List ℕ) → Bool
-says text = nat_lt 0 (length text) && not (slice_index text 0 == 96)
+says text = nat_lt 0 (length text) && not (is_fence text)
 
 -- a line with something in it that is not the fence of some code
 abbrev pub is_said : (line : List ℕ) → Bool
@@ -118,7 +135,7 @@ part_below title below = if has_below (is_at sought.Entry) below then list_part 
 
 -- ---- roles, by what stands above
 
--- a text: before the usage or next to it, before the first entry, or after it
+-- before the usage or next to it
 abbrev pub is_about : Above → Bool
 is_about a = not a.has_entry && not (a.has_usage && a.has_about)
 
@@ -129,6 +146,7 @@ around_lists a = if a.has_entry then role.Footer else role.Header
 abbrev pub leads_on : (line : List ℕ) → Bool
 leads_on line = last (trim line) == 58
 
+-- a text: what is said about the program, or what stands before the first entry, or after it
 abbrev pub first_role : (leads_on : Bool) → Above → Role
 first_role leads_on a = if is_about a && not leads_on then role.About else around_lists a
 
@@ -190,21 +208,8 @@ own_part m below a =
     else if ends_topic m.passage a then part.Loose
     else a.part
 
-abbrev pub begins_with_command : List MarkedSaid → Bool
-begins_with_command [] = false
-begins_with_command (m ∷ ms) = is_command m.passage.kind
-
-abbrev pub is_value : Kind → Bool
-is_value kind.Value = true
-is_value _ = false
-
--- `{go,stop}` above the commands
-abbrev pub is_choice_of_commands : PassageSaid → (below : List MarkedSaid) → Bool
-is_choice_of_commands p below =
-    is_value p.kind && (slice_index (trim (first_line p.lines)) 0 == 123 && begins_with_command below)
-
 abbrev pub role_of : MarkedSaid → (below : List MarkedSaid) → Above → Role
-role_of m below a = if is_choice_of_commands m.passage below then role.LeftOut else role_in (own_part m below a) m a
+role_of m below a = role_in (own_part m below a) m a
 
 abbrev pub is_about_role : Role → Bool
 is_about_role role.About = true

@@ -58,8 +58,8 @@ abbrev pub stray_key : StraySaid → List ℕ
 stray_key s = if s.is_letter then s.text else key s.text
 
 -- a description takes the option, and no other has its name
-abbrev pub is_free : Has → StraySaid → Bool
-is_free has s = (s.is_letter || is_good (lone_front s.text)) && not (has (stray_key s))
+abbrev pub is_stray : Has → StraySaid → Bool
+is_stray has s = (s.is_letter || is_good (lone_front s.text)) && not (has (stray_key s))
 
 abbrev pub letter_table : (letter : List ℕ) → List ℕ
 letter_table text = table (codes "option") ++ word_at (codes "short") text
@@ -77,7 +77,7 @@ with_stray is_free k has = if is_free then with_key has k else has
 -- a table for each that is free, which then takes its name
 abbrev pub strays : Has → List StraySaid → List ℕ
 strays has [] = []
-strays has (s ∷ ss) = stray_if (is_free has s) s ++ strays (with_stray (is_free has s) (stray_key s) has) ss
+strays has (s ∷ ss) = stray_if (is_stray has s) s ++ strays (with_stray (is_stray has s) (stray_key s) has) ss
 
 abbrev pub form_names : Has → FormSaid → List StraySaid
 form_names has f = flat_map (names_of has) (usage_names f.text)

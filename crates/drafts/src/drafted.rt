@@ -155,7 +155,7 @@ fn push_placed<'a, A: Allocator + Copy>(
     ensures text { OnOk result (string_bytes out.new ≡ string_bytes out.old ++ spec.placed_text
         (held taken.old) placed.entry.role (passage_said placed.entry.passage) (map placed_said below.now)) }
     ensures after { OnOk result (held taken.new
-        ≡ spec.taken_after (held taken.old) placed.entry.role (passage_said placed.entry.passage)) }
+        ≡ spec.after_role (held taken.old) placed.entry.role (passage_said placed.entry.passage)) }
 {
     match placed.role {
         Role::Topic => push_topic(alloc, out, placed.passage, below),

@@ -301,7 +301,7 @@ pub fn push_entry<'a, A: Allocator + Copy>(
     ensures text { OnOk result (string_bytes out.new ≡ string_bytes out.old
         ++ spec.entry_table (held taken.old) in_group (passage_said passage.entry)) }
     ensures after { OnOk result (held taken.new
-        ≡ spec.taken_with (held taken.old) (passage_said passage.entry)) }
+        ≡ spec.after_entry (held taken.old) (passage_said passage.entry)) }
 {
     match passage.kind {
         Kind::Option => push_options(alloc, out, taken, in_group, passage),
@@ -347,25 +347,25 @@ fn push_all_keys<'a, A: Allocator>(
     Ok(())
 }
 
-fn is_taken<A: Allocator + Copy, B: Allocator>(
+fn is_writable<A: Allocator + Copy, B: Allocator>(
     alloc: A,
     free: &FreeFront<'_, B>,
 ) -> Result<bool, AllocError>
-    ensures { IfOk result (λ is_taken. is_taken ≡ spec.is_taken (free_said free.now)) }
+    ensures { IfOk result (λ is_writable. is_writable ≡ spec.is_writable (free_said free.now)) }
 {
     let is_good = is_good(alloc, &free.front)?;
     Ok(is_good && !free.front.names.is_empty())
 }
 
-fn are_taken<A: Allocator + Copy, B: Allocator>(
+fn are_writable<A: Allocator + Copy, B: Allocator>(
     alloc: A,
     fronts: &[FreeFront<'_, B>],
 ) -> Result<bool, AllocError>
-    ensures { IfOk result (λ are_taken. are_taken ≡ list_all spec.is_taken (map free_said fronts.now)) }
+    ensures { IfOk result (λ are_writable. are_writable ≡ list_all spec.is_writable (map free_said fronts.now)) }
 {
     let mut rest = fronts;
     while let [first, others @ ..] = rest {
-        if !is_taken(alloc, first)? {
+        if !is_writable(alloc, first)? {
             return Ok(false);
         }
         rest = others;
@@ -379,7 +379,7 @@ fn option_keys<'a, A: Allocator + Copy>(
 ) -> Result<Option<Keys<'a, A>>, AllocError>
     ensures { IfOk result (λ keys. keys_said keys ≡ spec.option_keys (map free_said fronts.now)) }
 {
-    if !are_taken(alloc, fronts)? {
+    if !are_writable(alloc, fronts)? {
         return Ok(None);
     }
     let mut words = Vec::new(alloc);

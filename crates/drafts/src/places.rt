@@ -86,11 +86,17 @@ fn is_prose(kind: Kind) -> bool
     matches!(kind, Kind::Text | Kind::Code)
 }
 
+fn is_fence(text: &[u8]) -> bool
+    ensures { result ≡ spec.is_fence text.now }
+{
+    byte_at(text, 0) == b'`' && byte_at(text, 1) == b'`' && byte_at(text, 2) == b'`'
+}
+
 fn is_said(line: &str) -> bool
     ensures { result ≡ spec.is_said line.now }
 {
     let text = line.trim();
-    !text.is_empty() && byte_at(text.as_bytes(), 0) != b'`'
+    !text.is_empty() && !is_fence(text.as_bytes())
 }
 
 fn has_said(lines: &[&str]) -> bool
@@ -277,17 +283,6 @@ impl Above {
         }
     }
 
-    fn role_of(self, own: Part, marked: Marked<'_>, below: &[Marked<'_>]) -> Role
-        requires { own ≡ spec.own_part (marked_said marked) (map marked_said below.now) self }
-        ensures { result ≡ spec.role_of (marked_said marked.entry) (map marked_said below.now) self }
-    {
-        if is_choice_of_commands(marked.passage, below) {
-            Role::LeftOut
-        } else {
-            self.role_in(own, marked)
-        }
-    }
-
     // The part that a passage is in or begins.
     fn own_part(self, marked: Marked<'_>, below: &[Marked<'_>]) -> Part
         ensures { result ≡ spec.own_part (marked_said marked.entry) (map marked_said below.now) self }
@@ -345,24 +340,6 @@ fn leads_on(line: &str) -> bool
     last_byte(line.trim().as_bytes()) == b':'
 }
 
-fn begins_with_command(below: &[Marked<'_>]) -> bool
-    ensures { result ≡ spec.begins_with_command (map marked_said below.now) }
-{
-    match below {
-        [] => false,
-        [first, ..] => matches!(first.passage.kind, Kind::Command),
-    }
-}
-
-// Whether it is the choice of commands, `{go,stop}`, above them.
-fn is_choice_of_commands(passage: Passage<'_>, below: &[Marked<'_>]) -> bool
-    ensures { result ≡ spec.is_choice_of_commands (passage_said passage.entry) (map marked_said below.now) }
-{
-    matches!(passage.kind, Kind::Value)
-        && byte_at(passage.first_line().trim().as_bytes(), 0) == b'{'
-        && begins_with_command(below)
-}
-
 fn entry_role(part: Part, is_written: bool) -> Role
     ensures { result ≡ spec.entry_role part is_written }
 {
@@ -385,7 +362,7 @@ fn placed_marked<'a, A: Allocator>(
     let mut rest = marked;
     while let [first, below @ ..] = rest {
         let own = above.own_part(*first, below);
-        let role = above.role_of(own, *first, below);
+        let role = above.role_in(own, *first);
         found.push(Placed {
             passage: first.passage,
             role,

@@ -208,7 +208,7 @@ fn take<'a, A: Allocator + Copy>(
     front: &OptionFront<'a, A>,
 ) -> Result<bool, AllocError>
     requires { said front.now ≡ spec.lone_front stray.text.now }
-    ensures free { IfOk result (λ free. free ≡ spec.is_free (held taken.old) (stray_said stray.entry)) }
+    ensures free { IfOk result (λ free. free ≡ spec.is_stray (held taken.old) (stray_said stray.entry)) }
     ensures after { IfOk result (λ free. held taken.new
         ≡ spec.with_stray free (spec.stray_key (stray_said stray.entry)) (held taken.old)) }
 {
@@ -266,9 +266,9 @@ fn push_stray<'a, A: Allocator + Copy>(
     stray: Stray<'a>,
 ) -> Result<(), AllocError>
     ensures text { OnOk result (string_bytes out.new ≡ string_bytes out.old
-        ++ spec.stray_if (spec.is_free (held taken.old) (stray_said stray.entry)) (stray_said stray.entry)) }
+        ++ spec.stray_if (spec.is_stray (held taken.old) (stray_said stray.entry)) (stray_said stray.entry)) }
     ensures after { OnOk result (held taken.new ≡ spec.with_stray
-        (spec.is_free (held taken.old) (stray_said stray.entry)) (spec.stray_key (stray_said stray.entry)) (held taken.old)) }
+        (spec.is_stray (held taken.old) (stray_said stray.entry)) (spec.stray_key (stray_said stray.entry)) (held taken.old)) }
 {
     let front = lone_front(alloc, stray.text)?;
     let is_free = take(alloc, taken, stray, &front)?;

@@ -5,6 +5,7 @@ ghost use Rattle.drafts.specs.View.{held, keys_said, marked_said, passage_said, 
 
 use crate::entries::{Keys, entry_keys};
 use crate::free::Words;
+use crate::options::byte_at;
 use crate::passages::Passage;
 use help_blocks::Kind;
 use std::alloc::{AllocError, Allocator};
@@ -30,6 +31,24 @@ fn is_command(kind: Kind) -> bool
     matches!(kind, Kind::Command)
 }
 
+fn begins_with_command(below: &[Passage<'_>]) -> bool
+    ensures { result ≡ spec.begins_with_command (map passage_said below.now) }
+{
+    match below {
+        [] => false,
+        [first, ..] => is_command(first.kind),
+    }
+}
+
+// Whether it is the choice of commands, `{go,stop}`, above them.
+fn is_choice_of_commands(passage: Passage<'_>, below: &[Passage<'_>]) -> bool
+    ensures { result ≡ spec.is_choice_of_commands (passage_said passage.entry) (map passage_said below.now) }
+{
+    matches!(passage.kind, Kind::Value)
+        && byte_at(passage.first_line().trim().as_bytes(), 0) == b'{'
+        && begins_with_command(below)
+}
+
 // The names that are taken on a level.
 #[derive(Drop)]
 pub struct Taken<'a, A: Allocator> {
@@ -47,10 +66,10 @@ impl<'a, A: Allocator + Copy> Taken<'a, A> {
         }
     }
 
-    // Whether an entry is written, which then takes its names.
+    // Whether a description takes an entry, which then takes its names.
     fn take(&mut self, alloc: A, passage: Passage<'a>) -> Result<bool, AllocError>
-        ensures written { IfOk result (λ written. written
-            ≡ spec.is_written (taken_said self.old) (passage_said passage.entry)) }
+        ensures given { IfOk result (λ given. given
+            ≡ spec.is_given (spec.keys_by (taken_said self.old) (passage_said passage.entry))) }
         ensures after { OnOk result (taken_said self.new
             ≡ spec.taken_after (taken_said self.old) (passage_said passage.entry)) }
     {
@@ -80,12 +99,14 @@ pub fn mark_all<'a, A: Allocator + Copy>(
 {
     let mut taken = Taken::new(alloc);
     let mut found = Vec::new(alloc);
-    for passage in passages {
-        let is_written = taken.take(alloc, *passage)?;
+    let mut rest = passages;
+    while let [passage, below @ ..] = rest {
+        let is_taken = taken.take(alloc, *passage)?;
         found.push(Marked {
             passage: *passage,
-            is_written,
+            is_written: is_taken && !is_choice_of_commands(*passage, below),
         })?;
+        rest = below;
     }
     Ok(found)
 }
