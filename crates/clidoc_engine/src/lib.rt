@@ -1,5 +1,4 @@
-//! What the program `clidoc` does: the words that choose a page, and the making of the page of a description in
-//! TOML or JSON, or of all its pages, over any reader and any writer.
+//! What the program `clidoc` does, over any reader and any writer.
 #![tactic(auto)]
 
 pub mod all;

@@ -1,5 +1,6 @@
-//! Tests of the programs, and of what they stand on: what no clause says of the calls that `watched` passes on,
-//! and of each program a page of each form, ends that fail at each step or answer by a script, refused growths,
+//! Tests of the programs, and of what no clause says of `watched`.
+//!
+//! Of each program there are a page of each form, ends that fail at each step or answer by a script, refused growths,
 //! and what a whole run says.
 //!
 //! They stand apart from what they test, since a crate with tests is proved twice. A table is a reference to its
