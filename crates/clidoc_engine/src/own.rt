@@ -20,7 +20,7 @@ clidoc check [--strict] [FILE]
 clidoc draft [--name NAME] [FILE]
 clidoc against HELP [--command NAME]... [FILE]"""
 footer = """
-The status is 0 if the page was written, 2 if the words are wrong, and 1 if anything else went wrong, which a line on standard error tells.
+The status is 0 if all is done, 2 if the words are wrong, and 1 if anything else is, as a line on standard error says, or if `against` found a difference.
 
 The description of a program that greets people:
 
@@ -57,7 +57,7 @@ repeated = true
 [[option]]
 long = "deep"
 help = """
-Show the levels below, too, each behind the one above it.
+Show the levels below, too, one after another.
 
 It goes with `man` and `markdown`."""
 
@@ -66,23 +66,23 @@ long = "width"
 value = "COLUMNS"
 hint = "none"
 help = """
-Break lines at so many columns.
+Write lines of at most this many columns.
 
-The environment variable counts where it is a number from 20 on. It goes with `usage`, `full` and `brief`."""
+`COLUMNS` is used if it is a number from 20 on. It goes with `usage`, `full` and `brief`."""
 env = "COLUMNS"
 default = 100
 
 [[option]]
 long = "fragment"
 help = """
-Write what stands in the body of the page alone, to be put into another page.
+Write only what is inside `<body>`, to be put into another page.
 
 It goes with `html`."""
 
 [[option]]
 long = "strict"
 help = """
-Fail where there is a warning.
+Fail if there is a warning.
 
 It goes with `check`."""
 
@@ -91,7 +91,7 @@ long = "into"
 value = "FOLDER"
 hint = "folder"
 help = """
-Write all pages into this folder, which has to be there.
+Write all pages into this folder, which must exist.
 
 It goes with `all`."""
 
@@ -100,7 +100,7 @@ long = "date"
 value = "DATE"
 hint = "none"
 help = """
-Put this date on manual and HTML pages, and not that of the description.
+Put this date on manual and HTML pages, in place of that of the description.
 
 It goes with `man`, `html` and `all`."""
 
@@ -109,7 +109,7 @@ long = "vendor"
 value = "TEXT"
 hint = "none"
 help = """
-Name this vendor on manual and HTML pages, and not that of the description.
+Put this vendor on manual and HTML pages, in place of that of the description.
 
 It goes with `man`, `html` and `all`."""
 
@@ -118,7 +118,7 @@ long = "name"
 value = "NAME"
 hint = "none"
 help = """
-Call the program of a draft so, and not as its usage does.
+The program's name in a draft, in place of that in its usage.
 
 It goes with `draft`."""
 
@@ -136,21 +136,21 @@ What is made of the description.
 - `html`: an HTML page with all commands below.
 - `complete`: a script that completes the words of the program in SHELL, which is `bash`, `zsh` or `fish`.
 - `json`: the description itself in JSON, without what is a default.
-- `check`: no page. It is told whether FILE is a description, and what it would better say.
+- `check`: no page, but the faults of the description, and warnings.
 - `all`: the manual page and the page in markdown of each level, and the HTML page, as files of `--into`.
 - `draft`: a first description, of a help text in FILE.
-- `against`: no page, but each name of an option or a command that either the help text HELP or the description has alone."""
+- `against`: no page, but the names of options and commands that only the description or HELP, a help text, has."""
 
 [[positional]]
 value = "FILE"
-help = "Where the description stands; `-` is standard input"
+help = "The description, or for `draft` the help text; `-` is standard input"
 required = false
 
 [[topic]]
 title = "Environment"
 text = """
-- `CLIDOC_INPUT_MIB`: so many MiB are read at most, 16 where it is not set.
-- `CLIDOC_OUTPUT_MIB`: so many MiB are written at most, 256 where it is not set."""
+- `CLIDOC_INPUT_MIB`: how many MiB are read at most, 16 by default.
+- `CLIDOC_OUTPUT_MIB`: how many MiB are written at most, 256 by default."""
 
 [[topic]]
 title = "Examples"
@@ -166,16 +166,16 @@ The manual page of a command, and one page in markdown of all levels:
     clidoc man --command=add --date=2026-11-28 greet.toml
     clidoc markdown --deep greet.toml
 
-A web page, and what stands in its body alone:
+A web page, and only what is inside its `<body>`:
 
     clidoc html greet.toml > greet.html
     clidoc html --fragment greet.toml
 
-Completions for bash, in a file that `~/.bashrc` reads, or that stands where bash looks for them:
+Completions for bash, in a file that `~/.bashrc` reads:
 
     clidoc complete bash greet.toml > greet.bash
 
-Whether it is a description that nothing is to be said about, and all pages at once:
+Faults and warnings, and all pages at once:
 
     clidoc check --strict greet.toml
     clidoc all --into=pages greet.toml

@@ -32,7 +32,7 @@ EDGE_LONG = {"--help", "--color", "--color=", "--mode=", "--optimize", "--optimi
 EDGE_OPTIONS = EDGE_LONG | {"-m", "-O", "-D", "-I", "-n", "-q"}
 RUN = {"run", "r", "go:now"}
 
-FORMS = {"usage", "full", "brief", "man", "markdown", "html", "complete", "check", "all"}
+FORMS = {"usage", "full", "brief", "man", "markdown", "html", "complete", "json", "check", "all", "draft", "against"}
 
 PLACES = {
     "tar.toml": [
