@@ -4,8 +4,13 @@ use help_blocks::{Block, Kind, blocks};
 use std::alloc::Global;
 use std::process::Abort;
 
-const ROWS: [(&[&str], &[(Kind, usize)]); 15] = [
+const ROWS: [(&[&str], &[(Kind, usize)]); 16] = [
     (&[], &[]),
+    // arguments of an option are none of the program
+    (
+        &["Valid arguments for --style are:", "", "  plain", "  full"],
+        &[(Kind::Title, 2), (Kind::Text, 4)],
+    ),
     // options at two indents, and one in the help of another
     (
         &[

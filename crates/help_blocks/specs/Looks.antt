@@ -125,12 +125,15 @@ is_code cs = is_prompt cs || has_columns cs
 abbrev pub ends_with_dot : (line : List ℕ) → Bool
 ends_with_dot line = last_ink 32 line == 46
 
--- a sentence has none
+abbrev pub says_arguments : (title : List ℕ) → Bool
+says_arguments title = has_word (codes "argument") title || has_word (codes "args") title
+
+-- a sentence has none, and what an option takes is no value of the command line
 abbrev pub subject_of : (title : List ℕ) → Subject
 subject_of title =
     if ends_with_dot title then subject.Unsaid
     else if has_word (codes "command") title then subject.Commands
-    else if has_word (codes "argument") title || has_word (codes "args") title then subject.Values
+    else if says_arguments title && not (has_word (codes "--") title) then subject.Values
     else if has_word (codes "example") title then subject.Examples
     else if has_word (codes "option") title || has_word (codes "flag") title then subject.Options
     else subject.Unsaid

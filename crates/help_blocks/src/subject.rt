@@ -15,6 +15,12 @@ pub enum Subject {
     Unsaid,
 }
 
+fn says_arguments(title: &[u8]) -> bool
+    ensures { result ≡ looks.says_arguments title.now }
+{
+    has_word(title, b"argument") || has_word(title, b"args")
+}
+
 impl Subject {
     /// The subject of a title.
     pub fn of(title: &[u8]) -> Self
@@ -24,7 +30,7 @@ impl Subject {
             Subject::Unsaid
         } else if has_word(title, b"command") {
             Subject::Commands
-        } else if has_word(title, b"argument") || has_word(title, b"args") {
+        } else if says_arguments(title) && !has_word(title, b"--") {
             Subject::Values
         } else if has_word(title, b"example") {
             Subject::Examples
