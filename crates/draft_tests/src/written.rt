@@ -74,6 +74,11 @@ const ROWS: &[(&str, &str)] = &[
         "usage: a\n  -x, --far, -x  more\n  -y  less\n  -y n=N, --near=N  near\n  -y  again\n  -z -y  last\n",
         "name = \"a\"\nusage = \"a\"\n\n[[option]]\n# left out: -x, --far, -x\nshort = \"x\"\nlong = \"far\"\nhelp = \"more\"\n\n[[option]]\nshort = \"y\"\nhelp = \"less\"\n\n[[option]]\n# left out: -y n=N, --near=N\nlong = \"near\"\nvalue = \"N\"\nhelp = \"near\"\n# left out:   -y  again\n# left out:   -z -y  last\n",
     ),
+    // lines of prose that end early, and a paragraph
+    (
+        "usage: a\nShort.\nExample: a -x one two\n\nA paragraph that goes\non over its two lines.\n\n -x  more\n",
+        "name = \"a\"\nabout = \"\"\"\nShort.\n Example: a -x one two\"\"\"\nusage = \"a\"\nheader = \"\"\"\nA paragraph that goes\non over its two lines.\"\"\"\n\n[[option]]\nshort = \"x\"\nhelp = \"more\"\n",
+    ),
     // letters that stand together
     (
         "usage: a [-bC4] [-Cb] [-bC]\n",

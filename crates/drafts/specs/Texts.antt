@@ -1,33 +1,67 @@
 -- Lines of a help text as pieces of a text.
-use Rattle.std.specs.Prelude.{ℕ, ◌==◌, Bool, true, false, List, [], ◌∷◌, ◌++◌, if◌then◌else◌, length, map}
+use Rattle.std.specs.Prelude.{ℕ, ◌-◌, ◌==◌, Bool, true, false, not, List, [], ◌∷◌, ◌++◌, fold, if◌then◌else◌, length, map, max, nat_lt, take}
+use Rattle.std.specs.List.{prefix_len}
 use Rattle.std.specs.Str.{trim, trim_end}
 use Rattle.help_blocks.specs.declared.place.Kind.{Kind}
 use Rattle.help_blocks.specs.declared.place.Kind.TheVariants as kind
+use Rattle.help_fronts.specs.Bytes.{is_blank}
+use Rattle.toml_pieces.specs.declared.toml.Lead.{Lead}
 use Rattle.toml_pieces.specs.declared.toml.Lead.TheVariants as lead
 use Rattle.toml_pieces.specs.Toml.{Piece, piece}
 use Rattle.drafts.specs.Passages.{PassageSaid}
 
--- prose loses its indent, and code keeps it
-abbrev pub prose_piece : (line : List ℕ) → Piece
-prose_piece line = piece lead.Line (trim line)
+abbrev pub empty_piece : Piece
+empty_piece = piece lead.Line []
+
+-- ---- code, which keeps its indent
 
 abbrev pub code_piece : (line : List ℕ) → Piece
 code_piece line = piece lead.Code (trim_end line)
 
-abbrev pub empty_piece : Piece
-empty_piece = piece lead.Line []
+-- ---- prose, which loses it
+
+abbrev pub is_no_blank : ℕ → Bool
+is_no_blank b = not (is_blank b)
+
+-- what stands before the first blank
+abbrev pub first_word : List ℕ → List ℕ
+first_word text = take (prefix_len is_no_blank text) text
+
+abbrev pub wider : (width : ℕ) → (line : List ℕ) → ℕ
+wider width line = max width (length (trim line))
+
+-- the bytes of the longest line
+abbrev pub widest : (lines : List (List ℕ)) → ℕ
+widest lines = fold wider 0 lines
+
+-- whether the first word of a line, after a blank, would have stood on the one above: then the break between them is meant
+abbrev pub is_broken : (width : ℕ) → (above line : List ℕ) → Bool
+is_broken width above line = nat_lt (length (first_word (trim line))) (width - length (trim above))
+
+abbrev pub prose_lead : (width : ℕ) → (above line : List ℕ) → Lead
+prose_lead width above line = if is_broken width above line then lead.Broken else lead.Line
+
+abbrev pub prose_piece : Lead → (line : List ℕ) → Piece
+prose_piece l line = piece l (trim line)
+
+abbrev pub prose_below : (width : ℕ) → (above : List ℕ) → (lines : List (List ℕ)) → List Piece
+prose_below width above [] = []
+prose_below width above (l ∷ ls) = prose_piece (prose_lead width above l) l ∷ prose_below width l ls
+
+abbrev pub prose_pieces : (lines : List (List ℕ)) → List Piece
+prose_pieces [] = []
+prose_pieces (l ∷ ls) = prose_piece lead.Line l ∷ prose_below (widest (l ∷ ls)) l ls
+
+-- ---- texts
 
 abbrev pub is_code : Kind → Bool
 is_code kind.Code = true
 is_code _ = false
 
-abbrev pub line_piece : (is_code : Bool) → (line : List ℕ) → Piece
-line_piece true line = code_piece line
-line_piece false line = prose_piece line
-
 abbrev pub passage_pieces : PassageSaid → List Piece
-passage_pieces p = map (line_piece (is_code p.kind)) p.lines
+passage_pieces p = if is_code p.kind then map code_piece p.lines else prose_pieces p.lines
 
 -- the help of an entry: what stands in its first line, and the lines below
 abbrev pub help_pieces : (first : List ℕ) → (below : List (List ℕ)) → List Piece
-help_pieces first below = (if length first == 0 then [] else prose_piece first ∷ []) ++ map prose_piece below
+help_pieces first below =
+    (if length first == 0 then [] else prose_piece lead.Line first ∷ []) ++ map (prose_piece lead.Line) below

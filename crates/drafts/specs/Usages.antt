@@ -7,6 +7,7 @@ use Rattle.std.specs.Str.{trim}
 use Rattle.toml_pieces.specs.declared.toml.Lead.TheVariants as lead
 use Rattle.toml_pieces.specs.Toml.{Piece, piece}
 use Rattle.drafts.specs.Seen.{is_name, is_twice_read, without_colon}
+use Rattle.drafts.specs.Texts.{first_word}
 use Rattle.drafts.specs.Places.{PlacedSaid, is_usage_role}
 
 -- what a line says, and whether `usage` or `or:` stands before it
@@ -63,13 +64,6 @@ abbrev pub forms : List PlacedSaid → List FormSaid
 forms ps = flat_map placed_forms ps
 
 -- ---- words
-
-abbrev pub is_no_blank : ℕ → Bool
-is_no_blank b = not (is_blank b)
-
--- what stands before the first blank
-abbrev pub first_word : List ℕ → List ℕ
-first_word text = take (prefix_len is_no_blank text) text
 
 -- the first word of the first form, which begins each other
 abbrev pub mark : List FormSaid → List ℕ

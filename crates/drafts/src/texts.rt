@@ -1,9 +1,13 @@
 //! Lines of a help text as pieces of a text.
-ghost use Rattle.std.specs.Prelude.{◌≡◌, ◌++◌, IfOk, OnOk, false, map};
+ghost use Rattle.std.specs.Prelude.{◌≡◌, ◌++◌, ◌<◌, ◌≤◌, IfOk, OnOk, length, map, true};
+ghost use Rattle.std.specs.List.{prefix_len, slice_index};
+ghost use Rattle.help_fronts.specs.Bytes.{is_blank};
+ghost use Rattle.toml_pieces.specs.declared.toml.Lead.TheVariants as lead;
 ghost use Rattle.toml_pieces.specs.View.{piece_said};
 ghost use Rattle.drafts.specs.Texts as spec;
 ghost use Rattle.drafts.specs.View.{passage_said};
 
+use crate::options::is_blank;
 use crate::passages::Passage;
 use help_blocks::Kind;
 use std::alloc::{AllocError, Allocator};
@@ -25,35 +29,122 @@ fn is_code(kind: Kind) -> bool
     matches!(kind, Kind::Code)
 }
 
-fn line_piece(is_code: bool, line: &str) -> Piece<'_>
-    ensures { piece_said result ≡ spec.line_piece is_code line.now }
+fn code_piece(line: &str) -> Piece<'_>
+    ensures { piece_said result ≡ spec.code_piece line.now }
 {
-    if is_code {
-        Piece {
-            lead: Lead::Code,
-            text: line.trim_end(),
+    Piece {
+        lead: Lead::Code,
+        text: line.trim_end(),
+    }
+}
+
+fn prose_piece(lead: Lead, line: &str) -> Piece<'_>
+    ensures { piece_said result ≡ spec.prose_piece lead line.now }
+{
+    Piece {
+        lead,
+        text: line.trim(),
+    }
+}
+
+fn push_code<'a, A: Allocator>(
+    pieces: &mut Vec<Piece<'a>, A>,
+    lines: &[&'a str],
+) -> Result<(), AllocError>
+    ensures { OnOk result (map piece_said pieces.new.items
+        ≡ map piece_said pieces.old.items ++ map spec.code_piece (map (λ line. line.now) lines.now)) }
+{
+    for line in lines {
+        pieces.push(code_piece(line))?;
+    }
+    Ok(())
+}
+
+// ---- prose
+
+// How many bytes stand before the first blank.
+fn word_len(text: &[u8]) -> usize
+    ensures exact { result ≡ prefix_len spec.is_no_blank text.now }
+    ensures within { result ≤ length text.now }
+    ensures blank { result < length text.now → is_blank (slice_index text.now result) ≡ true }
+{
+    for (index, byte) in text.iter().enumerate() {
+        if is_blank(*byte) {
+            return index;
         }
+    }
+    text.len()
+}
+
+/// What stands before the first blank.
+pub fn first_word(text: &str) -> &str
+    ensures { result.now ≡ spec.first_word text.now }
+{
+    &text[..word_len(text.as_bytes())]
+}
+
+// The bytes of the longest line.
+fn widest(lines: &[&str]) -> usize
+    ensures { result ≡ spec.widest (map (λ line. line.now) lines.now) }
+{
+    let mut width = 0;
+    for line in lines {
+        width = width.max(line.trim().len());
+    }
+    width
+}
+
+// Whether the break between two lines is meant.
+fn is_broken(width: usize, above: &str, line: &str) -> bool
+    ensures { result ≡ spec.is_broken width above.now line.now }
+{
+    first_word(line.trim()).len() < width.saturating_sub(above.trim().len())
+}
+
+fn prose_lead(width: usize, above: &str, line: &str) -> Lead
+    ensures { result ≡ spec.prose_lead width above.now line.now }
+{
+    if is_broken(width, above, line) {
+        Lead::Broken
     } else {
-        Piece {
-            lead: Lead::Line,
-            text: line.trim(),
+        Lead::Line
+    }
+}
+
+fn push_prose_below<'a, A: Allocator>(
+    pieces: &mut Vec<Piece<'a>, A>,
+    width: usize,
+    first: &'a str,
+    below: &[&'a str],
+) -> Result<(), AllocError>
+    ensures { OnOk result (map piece_said pieces.new.items
+        ≡ map piece_said pieces.old.items ++ spec.prose_below width first.now (map (λ line. line.now) below.now)) }
+{
+    let mut above = first;
+    for line in below {
+        pieces.push(prose_piece(prose_lead(width, above, line), line))?;
+        above = line;
+    }
+    Ok(())
+}
+
+fn push_prose<'a, A: Allocator>(
+    pieces: &mut Vec<Piece<'a>, A>,
+    lines: &[&'a str],
+) -> Result<(), AllocError>
+    ensures { OnOk result (map piece_said pieces.new.items
+        ≡ map piece_said pieces.old.items ++ spec.prose_pieces (map (λ line. line.now) lines.now)) }
+{
+    match lines {
+        [] => Ok(()),
+        [first, below @ ..] => {
+            pieces.push(prose_piece(Lead::Line, first))?;
+            push_prose_below(pieces, widest(lines), first, below)
         }
     }
 }
 
-fn push_lines<'a, A: Allocator>(
-    pieces: &mut Vec<Piece<'a>, A>,
-    is_code: bool,
-    lines: &[&'a str],
-) -> Result<(), AllocError>
-    ensures { OnOk result (map piece_said pieces.new.items
-        ≡ map piece_said pieces.old.items ++ map (spec.line_piece is_code) (map (λ line. line.now) lines.now)) }
-{
-    for line in lines {
-        pieces.push(line_piece(is_code, line))?;
-    }
-    Ok(())
-}
+// ---- texts
 
 /// Puts the lines of a passage after pieces.
 pub fn push_passage<'a, A: Allocator>(
@@ -63,7 +154,24 @@ pub fn push_passage<'a, A: Allocator>(
     ensures { OnOk result (map piece_said pieces.new.items
         ≡ map piece_said pieces.old.items ++ spec.passage_pieces (passage_said passage.entry)) }
 {
-    push_lines(pieces, is_code(passage.kind), passage.lines)
+    if is_code(passage.kind) {
+        push_code(pieces, passage.lines)
+    } else {
+        push_prose(pieces, passage.lines)
+    }
+}
+
+fn push_lines<'a, A: Allocator>(
+    pieces: &mut Vec<Piece<'a>, A>,
+    lines: &[&'a str],
+) -> Result<(), AllocError>
+    ensures { OnOk result (map piece_said pieces.new.items
+        ≡ map piece_said pieces.old.items ++ map (spec.prose_piece lead.Line) (map (λ line. line.now) lines.now)) }
+{
+    for line in lines {
+        pieces.push(prose_piece(Lead::Line, line))?;
+    }
+    Ok(())
 }
 
 /// The help of an entry: what stands in its first line, and the lines below.
@@ -77,8 +185,8 @@ pub fn help_pieces<'a, A: Allocator>(
 {
     let mut pieces = Vec::new(alloc);
     if !first.is_empty() {
-        pieces.push(line_piece(false, first))?;
+        pieces.push(prose_piece(Lead::Line, first))?;
     }
-    push_lines(&mut pieces, false, below)?;
+    push_lines(&mut pieces, below)?;
     Ok(pieces)
 }

@@ -10,6 +10,7 @@ ghost use Rattle.drafts.specs.View.{form_said, placed_said};
 use crate::options::{byte_at, is_blank};
 use crate::places::Placed;
 use crate::seen::{is_name, is_twice_read, without_colon};
+use crate::texts::first_word;
 use std::alloc::{AllocError, Allocator};
 use toml_pieces::{Lead, Piece};
 
@@ -151,26 +152,6 @@ pub fn forms<'a, A: Allocator>(
 }
 
 // ---- words
-
-// How many bytes stand before the first blank.
-fn word_len(text: &[u8]) -> usize
-    ensures exact { result ≡ prefix_len spec.is_no_blank text.now }
-    ensures within { result ≤ length text.now }
-    ensures blank { result < length text.now → is_blank (slice_index text.now result) ≡ true }
-{
-    for (index, byte) in text.iter().enumerate() {
-        if is_blank(*byte) {
-            return index;
-        }
-    }
-    text.len()
-}
-
-fn first_word(text: &str) -> &str
-    ensures { result.now ≡ spec.first_word text.now }
-{
-    &text[..word_len(text.as_bytes())]
-}
 
 fn mark<'a>(forms: &[Form<'a>]) -> &'a str
     ensures { result.now ≡ spec.mark (map form_said forms.now) }

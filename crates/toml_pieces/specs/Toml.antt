@@ -52,6 +52,7 @@ abbrev pub lead_text : Lead → List ℕ
 lead_text lead.Line = codes "\n"
 lead_text lead.Joined = codes " "
 lead_text lead.Code = codes "\n    "
+lead_text lead.Broken = codes "\n "
 
 abbrev pub is_line : Lead → Bool
 is_line lead.Line = true

@@ -37,12 +37,14 @@ impl StandIns for Quoting {
     }
 }
 
-/// How a piece of a text follows the one above: on a line of its own, after a blank, or as a line of code.
+/// How a piece of a text follows the one above: on a line of its own, after a blank, as a line of code, or on a new
+/// line of the page.
 #[derive(Clone, Copy)]
 pub enum Lead {
     Line,
     Joined,
     Code,
+    Broken,
 }
 
 /// A piece of a text.
@@ -60,6 +62,7 @@ impl Lead {
             Lead::Line => "\n",
             Lead::Joined => " ",
             Lead::Code => "\n    ",
+            Lead::Broken => "\n ",
         }
     }
 

@@ -1,7 +1,7 @@
 use Rattle.std.proofs.Common.{◌≡◌, ◌+◌, ◌≤◌, drop, length}
 use Rattle.std.specs.List.{prefix_len}
-use Rattle.drafts.specs.Usages.{is_no_blank}
-use Rattle.drafts.proofs.usages.word_len.Given as goal
+use Rattle.drafts.specs.Texts.{is_no_blank}
+use Rattle.drafts.proofs.texts.word_len.Given as goal
 
 abbrev pub invariant-loop-index : goal.invariant-loop-index
 invariant-loop-index l = record {
