@@ -7,12 +7,18 @@ use help_differences::{
 use std::alloc::{AllocError, Allocator, Global};
 use std::process::Abort;
 
-const HELP: [&str; 10] = [
+const HELP: [&str; 16] = [
     "usage: prog [-h] [--foo FOO]",
     "            [--far]",
     "",
     "Commands:",
     "  go (g)   start",
+    "  put      store [a] [aliases: add,  -x, store ]",
+    "  get      fetch [aliases: take,",
+    "           have]",
+    "  see      show",
+    "           it",
+    "           [aliases: look] or [aliases: a b, gaze]",
     "",
     "options:",
     "  -h, --help  -x is none",
@@ -20,12 +26,19 @@ const HELP: [&str; 10] = [
     "              help",
 ];
 
-const NAMES: [(Kind, &str); 9] = [
+const NAMES: [(Kind, &str); 16] = [
     (Kind::Option, "-h"),
     (Kind::Option, "--foo"),
     (Kind::Option, "--far"),
     (Kind::Command, "go"),
     (Kind::Command, "g"),
+    (Kind::Command, "put"),
+    (Kind::Command, "add"),
+    (Kind::Command, "store"),
+    (Kind::Command, "get"),
+    (Kind::Command, "see"),
+    (Kind::Command, "look"),
+    (Kind::Command, "gaze"),
     (Kind::Option, "-h"),
     (Kind::Option, "--help"),
     (Kind::Option, "-amin"),
@@ -57,13 +70,20 @@ const DESCRIBED: [(Kind, &str); 4] = [
     (Kind::Option, "-y"),
 ];
 
-const ALONE: [(Kind, &str, Side); 6] = [
+const ALONE: [(Kind, &str, Side); 13] = [
     (Kind::Option, "--far", Side::Help),
     (Kind::Option, "--foo", Side::Help),
     (Kind::Option, "-amin", Side::Help),
     (Kind::Option, "-anewer", Side::Help),
     (Kind::Option, "-y", Side::Description),
+    (Kind::Command, "add", Side::Help),
+    (Kind::Command, "gaze", Side::Help),
+    (Kind::Command, "get", Side::Help),
     (Kind::Command, "go", Side::Help),
+    (Kind::Command, "look", Side::Help),
+    (Kind::Command, "put", Side::Help),
+    (Kind::Command, "see", Side::Help),
+    (Kind::Command, "store", Side::Help),
 ];
 
 fn names_from<A: Allocator>(

@@ -2,3 +2,4 @@ pub mod Blocks
 pub mod Merged
 pub mod Sorted
 pub mod Levels
+pub mod Noted

@@ -1,5 +1,5 @@
 -- The names that a help text has: of options in the lines of its usages, and of each entry that is an option or a
--- command those in its first line.
+-- command those in its first line; of a command also those that notes in its lines list.
 use Rattle.std.specs.Prelude.{ℕ, ◌-◌, List, [], ◌∷◌, ◌++◌, drop, flat_map, length, map, take, Option, None, Some}
 use Rattle.help_blocks.specs.declared.place.Kind.{Kind}
 use Rattle.help_blocks.specs.declared.place.Kind.TheVariants as block
@@ -7,6 +7,7 @@ use Rattle.help_blocks.specs.declared.cut.Block.{Block}
 use Rattle.help_blocks.specs.Blocks.{Start, lines_of, starts}
 use Rattle.help_differences.specs.declared.names.Kind.TheVariants as kind
 use Rattle.help_differences.specs.Names.{Named, called}
+use Rattle.help_differences.specs.Notes.{texts_of_line}
 use Rattle.help_fronts.specs.Fronts.{CommandSaid, command_front}
 use Rattle.help_fronts.specs.Lines.{option_names}
 use Rattle.help_fronts.specs.Usages.{usage_names}
@@ -32,11 +33,14 @@ abbrev pub first_line : (lines : List (List ℕ)) → List ℕ
 first_line [] = []
 first_line (l ∷ ls) = l
 
+abbrev pub names_of_notes : (lines : List (List ℕ)) → List Named
+names_of_notes lines = map (called kind.Command) (flat_map texts_of_line lines)
+
 -- the names in a block of these lines
 abbrev pub names_of_block : Kind → (lines : List (List ℕ)) → List Named
 names_of_block block.Usage lines = names_of_usage lines
 names_of_block block.Option lines = names_of_option (first_line lines)
-names_of_block block.Command lines = names_of_command (first_line lines)
+names_of_block block.Command lines = names_of_command (first_line lines) ++ names_of_notes lines
 names_of_block _ lines = []
 
 -- a block ends where the next one starts

@@ -1,5 +1,6 @@
 pub mod Names
 pub mod View
+pub mod Notes
 pub mod Help
 pub mod Differences
 pub mod Steps

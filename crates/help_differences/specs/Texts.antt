@@ -1,5 +1,5 @@
 -- The lines that say which names one side alone has.
-use Rattle.std.specs.Prelude.{◌≡◌, ◌↔◌, ◌==◌, ℕ, List, [], ◌∷◌, ◌++◌, codes, flat_map}
+use Rattle.std.specs.Prelude.{◌≡◌, ◌↔◌, ◌==◌, ℕ, List, ◌++◌, codes, flat_map}
 use Rattle.std.specs.List.{Contains, slice_split}
 use Rattle.std.specs.List.Sorted.{IsStrictlySortedBy}
 use Rattle.description.specs.Content.{LevelSaid, OptSaid}
@@ -11,7 +11,6 @@ use Rattle.help_differences.specs.declared.names.Kind.TheVariants as kind
 use Rattle.help_differences.specs.Differences.{Alone, IsDifference, name_cmp, names_of}
 use Rattle.help_differences.specs.Help.{names_in}
 use Rattle.help_differences.specs.Level.{names_of_level}
-use Rattle.help_differences.specs.Names.{Named}
 
 -- what a program printed, and what this and the description are called
 pub record HelpSaid : Type 0 where

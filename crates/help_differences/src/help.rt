@@ -4,6 +4,7 @@ ghost use Rattle.help_differences.specs.View.{name_said};
 ghost use Rattle.help_differences.specs.Help as spec;
 
 use crate::names::{Kind, Name, push_names};
+use crate::notes::push_notes;
 use help_blocks::{Block, blocks};
 use help_fronts::{command_front, option_names, usage_names};
 use std::alloc::{AllocError, Allocator};
@@ -50,6 +51,21 @@ fn push_command<'a, A: Allocator + Copy>(
     Ok(())
 }
 
+// The names of a command: those in its first line, and those that notes list.
+fn push_entry<'a, A: Allocator + Copy>(
+    alloc: A,
+    names: &mut Vec<Name<'a>, A>,
+    lines: &[&'a str],
+) -> Result<(), AllocError>
+    ensures { OnOk result (map name_said names.new.items
+        ≡ map name_said names.old.items
+        ++ (spec.names_of_command (spec.first_line (map (λ line. line.now) lines.now))
+        ++ spec.names_of_notes (map (λ line. line.now) lines.now))) }
+{
+    push_command(alloc, names, first_line(lines))?;
+    push_notes(names, lines)
+}
+
 // The first of some lines; an empty one, if there is none.
 fn first_line<'a>(lines: &[&'a str]) -> &'a str
     ensures { result.now ≡ spec.first_line (map (λ line. line.now) lines.now) }
@@ -72,7 +88,7 @@ fn push_block<'a, A: Allocator + Copy>(
     match kind {
         help_blocks::Kind::Usage => push_usage(alloc, names, lines),
         help_blocks::Kind::Option => push_option(alloc, names, first_line(lines)),
-        help_blocks::Kind::Command => push_command(alloc, names, first_line(lines)),
+        help_blocks::Kind::Command => push_entry(alloc, names, lines),
         help_blocks::Kind::Title
         | help_blocks::Kind::Value
         | help_blocks::Kind::Text
@@ -107,8 +123,8 @@ fn push_blocks<'a, A: Allocator + Copy>(
     Ok(())
 }
 
-/// The names that a help text has, in order: of options in its usage, and of the entries that are options and commands.
-/// The lines have no escape sequences.
+/// The names that a help text has, in order: of options in its usage, and of the entries that are options and commands,
+/// with those that notes of commands list. The lines have no escape sequences.
 ///
 /// # Errors
 ///

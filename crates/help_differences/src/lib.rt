@@ -5,6 +5,7 @@ mod compared;
 mod help;
 mod level;
 mod names;
+mod notes;
 mod texts;
 
 pub use compared::{Difference, Side, differences};

@@ -14,4 +14,4 @@ pub use command::{CommandFront, command_front};
 pub use line::option_names;
 pub use names::usage_names;
 pub use option::{OptionFront, option_front};
-pub use words::value_word;
+pub use words::{is_command, value_word};

@@ -102,6 +102,7 @@ fn has_command_bytes(text: &str) -> bool
     text.as_bytes().iter().all(|byte| is_command_byte(*byte))
 }
 
+/// Whether a word could be the name of a command.
 pub fn is_command(word: &str) -> bool
     ensures { result ≡ spec.is_command word.now }
 {
