@@ -76,8 +76,8 @@ const ROWS: &[(&str, &str)] = &[
     ),
     // lines of prose that end early, and a paragraph
     (
-        "usage: a\nShort.\nExample: a -x one two\n\nA paragraph that goes\non over its two lines.\n\n -x  more\n",
-        "name = \"a\"\nabout = \"\"\"\nShort.\n Example: a -x one two\"\"\"\nusage = \"a\"\nheader = \"\"\"\nA paragraph that goes\non over its two lines.\"\"\"\n\n[[option]]\nshort = \"x\"\nhelp = \"more\"\n",
+        "usage: a\nShort.\nExample: a -x one two\n\nA paragraph whose first line is as long as lines of a help text may be\nwraps.\n\n -x  more\n",
+        "name = \"a\"\nabout = \"\"\"\nShort.\n Example: a -x one two\"\"\"\nusage = \"a\"\nheader = \"\"\"\nA paragraph whose first line is as long as lines of a help text may be\nwraps.\"\"\"\n\n[[option]]\nshort = \"x\"\nhelp = \"more\"\n",
     ),
     // letters that stand together
     (

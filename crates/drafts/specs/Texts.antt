@@ -30,9 +30,9 @@ first_word text = take (prefix_len is_no_blank text) text
 abbrev pub wider : (width : ℕ) → (line : List ℕ) → ℕ
 wider width line = max width (length (trim line))
 
--- the bytes of the longest line
-abbrev pub widest : (lines : List (List ℕ)) → ℕ
-widest lines = fold wider 0 lines
+-- the bytes of the longest line, and 70 at least
+abbrev pub width_of : (lines : List (List ℕ)) → ℕ
+width_of lines = fold wider 70 lines
 
 -- whether the first word of a line, after a blank, would have stood on the one above: then the break between them is meant
 abbrev pub is_broken : (width : ℕ) → (above line : List ℕ) → Bool
@@ -50,7 +50,7 @@ prose_below width above (l ∷ ls) = prose_piece (prose_lead width above l) l �
 
 abbrev pub prose_pieces : (lines : List (List ℕ)) → List Piece
 prose_pieces [] = []
-prose_pieces (l ∷ ls) = prose_piece lead.Line l ∷ prose_below (widest (l ∷ ls)) l ls
+prose_pieces (l ∷ ls) = prose_piece lead.Line l ∷ prose_below (width_of (l ∷ ls)) l ls
 
 -- ---- texts
 

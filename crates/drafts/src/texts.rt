@@ -83,11 +83,11 @@ pub fn first_word(text: &str) -> &str
     &text[..word_len(text.as_bytes())]
 }
 
-// The bytes of the longest line.
-fn widest(lines: &[&str]) -> usize
-    ensures { result ≡ spec.widest (map (λ line. line.now) lines.now) }
+// The bytes of the longest line, and 70 at least.
+fn width_of(lines: &[&str]) -> usize
+    ensures { result ≡ spec.width_of (map (λ line. line.now) lines.now) }
 {
-    let mut width = 0;
+    let mut width = 70;
     for line in lines {
         width = width.max(line.trim().len());
     }
@@ -139,7 +139,7 @@ fn push_prose<'a, A: Allocator>(
         [] => Ok(()),
         [first, below @ ..] => {
             pieces.push(prose_piece(Lead::Line, first))?;
-            push_prose_below(pieces, widest(lines), first, below)
+            push_prose_below(pieces, width_of(lines), first, below)
         }
     }
 }
