@@ -4,5 +4,6 @@ mod Cuts
 mod Fronts
 mod Letters
 mod Lists
+mod Placing
 mod Puts
 mod Words

@@ -9,3 +9,4 @@ pub mod Usages
 pub mod Strays
 pub mod Drafts
 pub mod View
+pub mod Laws

@@ -10,6 +10,7 @@ ghost use Rattle.drafts.specs.View.{is_nameless};
 mod drafted;
 mod entries;
 mod free;
+pub mod laws;
 mod options;
 mod passages;
 mod places;
