@@ -99,6 +99,6 @@ drafted name ps = option_map (draft_of ps) (program_name name (forms ps))
 abbrev pub printed_passages : (printed : List ℕ) → List PassageSaid
 printed_passages printed = passages (lines_in (shown_letters printed))
 
--- None, if a program may not have the name that is given, or if none is given and none stands in a usage.
+-- None, if a program may not have the name that is given, or if none is given and the usage gives none.
 abbrev pub draft_text : (name : Option (List ℕ)) → (printed : List ℕ) → Option (List ℕ)
 draft_text name printed = drafted name (placed (printed_passages printed))

@@ -30,7 +30,7 @@ use usages::{forms, program_name};
 /// Why there is no draft.
 #[derive(Debug, Drop)]
 pub enum DraftError {
-    /// A name is given that no program may have, or none is given, and none stands in a usage.
+    /// A name is given that no program may have, or none is given, and the usage gives none.
     NoName,
     /// An allocation failed.
     Memory(AllocError),
@@ -48,7 +48,7 @@ impl From<AllocError> for DraftError {
 ///
 /// # Errors
 ///
-/// `NoName`, if the name that is given may be none of a program, or none is given and none stands in a usage; `Memory`,
+/// `NoName`, if no program may have the name that is given, or none is given and the usage gives none; `Memory`,
 /// if an allocation failed.
 pub fn draft<A: Allocator + Copy>(
     alloc: A,
