@@ -1,6 +1,7 @@
 mod Blocks
 mod Boundaries
 mod Cuts
+mod Ends
 mod Fronts
 mod Letters
 mod Lists

@@ -1,5 +1,5 @@
 -- Entries: an option, a command or a positional value with its help, as a table.
-use Rattle.std.specs.Prelude.{ℕ, ◌+◌, ◌==◌, ◌||◌, ◌&&◌, Bool, true, false, not, List, [], ◌∷◌, ◌++◌, codes, drop, flat_map, if◌then◌else◌, take, Option, None, Some}
+use Rattle.std.specs.Prelude.{ℕ, ◌+◌, ◌==◌, ◌||◌, ◌&&◌, Bool, true, false, not, List, [], ◌∷◌, ◌++◌, codes, drop, flat_map, if◌then◌else◌, length, take, Option, None, Some}
 use Rattle.std.specs.List.{list_all, list_any, slice_index}
 use Rattle.std.specs.Str.{trim}
 use Rattle.page_model.specs.Permitted.{are_permitted}
@@ -8,12 +8,14 @@ use Rattle.help_blocks.specs.declared.place.Kind.TheVariants as kind
 use Rattle.help_fronts.specs.Bytes.{is_blank}
 use Rattle.help_fronts.specs.Fronts.{CommandSaid, FrontSaid, command_front}
 use Rattle.help_fronts.specs.Words.{value_word}
-use Rattle.toml_pieces.specs.Toml.{left_out, list_at, table, text_at, word_at}
+use Rattle.toml_pieces.specs.Toml.{left_out, list_at, table, word_at}
 use Rattle.drafts.specs.Seen.{is_name, is_word}
 use Rattle.drafts.specs.Passages.{PassageSaid, first_line}
 use Rattle.drafts.specs.Options.{is_good, spelling}
 use Rattle.drafts.specs.Free.{FreeSaid, Has, free_in, free_keys, has_name, none_taken, with_key, with_keys}
-use Rattle.drafts.specs.Texts.{help_pieces}
+use Rattle.drafts.specs.Notes.{help_said, help_text}
+use Rattle.drafts.specs.declared.notes.Subject.{Subject}
+use Rattle.drafts.specs.declared.notes.Subject.TheVariants as subject
 
 -- ---- the front of a positional value: what stands before a tabulator or two blanks
 
@@ -48,8 +50,12 @@ abbrev pub table_name : (in_group : Bool) → (name : List ℕ) → List ℕ
 table_name false name = name
 table_name true name = codes "group." ++ name
 
-abbrev pub help_at : (first : List ℕ) → (below : List (List ℕ)) → List ℕ
-help_at first below = text_at (codes "help") (help_pieces first below)
+-- what stands in the first line, if there is something, and the lines below
+abbrev pub help_lines : (first : List ℕ) → (below : List (List ℕ)) → List (List ℕ)
+help_lines first below = (if length first == 0 then [] else first ∷ []) ++ below
+
+abbrev pub help_at : Subject → (first : List ℕ) → (below : List (List ℕ)) → List ℕ
+help_at s first below = help_text (help_said s (help_lines first below))
 
 abbrev pub option_head : (in_group : Bool) → FrontSaid → List ℕ
 option_head in_group f = table (table_name in_group (codes "option")) ++ spelling f
@@ -59,10 +65,13 @@ abbrev pub left_out_if : (says_else : Bool) → (written : List ℕ) → List �
 left_out_if false written = []
 left_out_if true written = left_out written
 
+abbrev pub subject_of : FrontSaid → Subject
+subject_of f = if length f.values == 0 then subject.Flag else subject.Option
+
 -- the last option of a line has the help
 abbrev pub help_if : (is_last : Bool) → (below : List (List ℕ)) → FrontSaid → List ℕ
 help_if false below f = []
-help_if true below f = help_at f.help below
+help_if true below f = help_at (subject_of f) f.help below
 
 unfoldable pub option_table : (in_group : Bool) → (below : List (List ℕ)) → (is_last : Bool) → FreeSaid → List ℕ
 option_table in_group below is_last f =
@@ -81,7 +90,7 @@ abbrev pub command_table : (in_group : Bool) → (below : List (List ℕ)) → O
 command_table in_group below None = []
 command_table in_group below (Some c) =
     table (table_name in_group (codes "command")) ++ (left_out_if c.says_else c.written
-    ++ (word_at (codes "name") c.name ++ (list_at (codes "aliases") c.aliases ++ help_at c.help below)))
+    ++ (word_at (codes "name") c.name ++ (list_at (codes "aliases") c.aliases ++ help_at subject.Command c.help below)))
 
 abbrev pub repeated_at : Bool → List ℕ
 repeated_at false = []
@@ -94,7 +103,7 @@ value_flags front = codes "required = false\n" ++ repeated_at (has_dots front)
 abbrev pub value_table : (in_group : Bool) → (below : List (List ℕ)) → ValueSaid → List ℕ
 value_table in_group below v =
     table (table_name in_group (codes "positional")) ++ (word_at (codes "value") (value_name v.front)
-    ++ (help_at v.help below ++ value_flags v.front))
+    ++ (help_at subject.Positional v.help below ++ value_flags v.front))
 
 -- `has` says which names are taken
 abbrev pub table_of : Has → (in_group : Bool) → Kind → (lines : List (List ℕ)) → List ℕ

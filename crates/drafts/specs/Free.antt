@@ -1,5 +1,5 @@
 -- Which names are taken, and which of a line are free.
-use Rattle.std.specs.Prelude.{ℕ, zero, suc, ◌==◌, ◌||◌, Bool, false, not, List, [], ◌∷◌, ◌++◌, bytes_eq, codes, if◌then◌else◌, length, map, nat_lt, Option, None, Some}
+use Rattle.std.specs.Prelude.{ℕ, zero, suc, ◌-◌, ◌==◌, ◌||◌, Bool, false, not, List, [], ◌∷◌, ◌++◌, bytes_eq, codes, get_or, if◌then◌else◌, length, map, nat_lt, Option, None, Some}
 use Rattle.help_fronts.specs.Fronts.{FrontSaid, option_front}
 use Rattle.drafts.specs.Options.{key}
 
@@ -55,20 +55,21 @@ pub record FreeSaid : Type 0 where
   -- whether all its names are free
   pub is_whole : Bool
 
-abbrev pub with_names : FrontSaid → (names : List (List ℕ)) → FrontSaid
-with_names f names = record {
-  names = names;
-  values = f.values;
-  joint = f.joint;
-  value = f.value;
-  is_optional = f.is_optional;
-  written = f.written;
-  gap = f.gap;
-  help = f.help;
-}
+abbrev pub last_name : (names : List (List ℕ)) → List ℕ
+last_name names = get_or names (length names - 1) []
+
+-- a value that is joined to the last name goes with it
+abbrev pub keeps_value : FrontSaid → (names : List (List ℕ)) → Bool
+keeps_value f names = f.joint == 32 || bytes_eq (last_name names) (last_name f.names)
+
+abbrev pub without_value : FrontSaid → FrontSaid
+without_value f = record f { values = []; joint = 32; value = None; is_optional = false }
+
+abbrev pub valued : FrontSaid → (names : List (List ℕ)) → FrontSaid
+valued f names = if keeps_value f names then f else without_value f
 
 abbrev pub freed : FrontSaid → (names : List (List ℕ)) → FreeSaid
-freed f names = record { front = with_names f names; is_whole = length names == length f.names }
+freed f names = record { front = record (valued f names) { names = names }; is_whole = length names == length f.names }
 
 abbrev pub free_front : (has seen : Has) → FrontSaid → FreeSaid
 free_front has seen f = freed f (free_names has seen f.names)

@@ -1,6 +1,7 @@
 pub mod Seen
 pub mod Passages
 pub mod Texts
+pub mod Notes
 pub mod Options
 pub mod Free
 pub mod Entries

@@ -1,5 +1,5 @@
 -- How an option is written: by `short`, `long` and `value`, or else by `syntax`.
-use Rattle.std.specs.Prelude.{ℕ, ◌+◌, ◌==◌, ◌||◌, ◌&&◌, Bool, true, not, List, [], ◌∷◌, ◌++◌, codes, drop, flat_map, fold, if◌then◌else◌, length, nat_le, nat_lt, Option, None, Some}
+use Rattle.std.specs.Prelude.{ℕ, ◌+◌, ◌==◌, ◌||◌, ◌&&◌, Bool, true, not, List, [], ◌∷◌, ◌++◌, bytes_eq, codes, drop, flat_map, fold, if◌then◌else◌, length, nat_le, nat_lt, take, Option, None, Some}
 use Rattle.std.specs.List.{list_all, list_any, slice_index}
 use Rattle.help_fronts.specs.Bytes.{is_bracket, is_dash, is_opening}
 use Rattle.help_fronts.specs.Fronts.{FrontSaid}
@@ -158,7 +158,7 @@ is_good f = (list_all is_name f.names && list_all is_word f.values) && (is_plain
 
 -- `--[no-]` and two letters or more
 abbrev pub has_negation : (name : List ℕ) → Bool
-has_negation n = (is_dashed n && slice_index n 2 == 91) && (slice_index n 6 == 93 && nat_lt 8 (length n))
+has_negation n = bytes_eq (take 7 n) (codes "--[no-]") && nat_lt 8 (length n)
 
 -- that of one letter keeps a dash, so that no two names have one key
 abbrev pub long_key : (name : List ℕ) → List ℕ

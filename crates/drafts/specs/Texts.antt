@@ -1,5 +1,5 @@
 -- Lines of a help text as pieces of a text.
-use Rattle.std.specs.Prelude.{ℕ, ◌-◌, ◌==◌, Bool, true, false, not, List, [], ◌∷◌, ◌++◌, fold, if◌then◌else◌, length, map, max, nat_lt, take}
+use Rattle.std.specs.Prelude.{ℕ, ◌-◌, ◌==◌, Bool, true, false, not, List, [], ◌∷◌, ◌++◌, drop, fold, if◌then◌else◌, length, map, max, min, nat_lt, take}
 use Rattle.std.specs.List.{prefix_len}
 use Rattle.std.specs.Str.{trim, trim_end}
 use Rattle.help_blocks.specs.declared.place.Kind.{Kind}
@@ -13,10 +13,20 @@ use Rattle.drafts.specs.Passages.{PassageSaid}
 abbrev pub empty_piece : Piece
 empty_piece = piece lead.Line []
 
--- ---- code, which keeps its indent
+-- ---- code, which loses the indent that all its lines have
 
-abbrev pub code_piece : (line : List ℕ) → Piece
-code_piece line = piece lead.Code (trim_end line)
+abbrev pub indent_len : (line : List ℕ) → ℕ
+indent_len line = prefix_len is_blank line
+
+abbrev pub narrower : (indent : ℕ) → (line : List ℕ) → ℕ
+narrower indent line = if length (trim line) == 0 then indent else min indent (indent_len line)
+
+-- at most 64
+abbrev pub shared_indent : (lines : List (List ℕ)) → ℕ
+shared_indent lines = fold narrower 64 lines
+
+abbrev pub code_piece : (indent : ℕ) → (line : List ℕ) → Piece
+code_piece indent line = piece lead.Code (trim_end (drop (min indent (indent_len line)) line))
 
 -- ---- prose, which loses it
 
@@ -59,9 +69,4 @@ is_code kind.Code = true
 is_code _ = false
 
 abbrev pub passage_pieces : PassageSaid → List Piece
-passage_pieces p = if is_code p.kind then map code_piece p.lines else prose_pieces p.lines
-
--- the help of an entry: what stands in its first line, and the lines below
-abbrev pub help_pieces : (first : List ℕ) → (below : List (List ℕ)) → List Piece
-help_pieces first below =
-    (if length first == 0 then [] else prose_piece lead.Line first ∷ []) ++ map (prose_piece lead.Line) below
+passage_pieces p = if is_code p.kind then map (code_piece (shared_indent p.lines)) p.lines else prose_pieces p.lines

@@ -1,5 +1,6 @@
 -- What values of the code say.
 use Rattle.std.specs.Prelude.{ℕ, Bool, true, false, List, Option, bytes_eq, map}
+use Rattle.std.specs.Borrow.{Bor}
 use Rattle.std.specs.List.{list_any}
 use Rattle.std.specs.Option.{option_map}
 use Rattle.drafts.specs.declared.DraftError.{DraftError}
@@ -10,6 +11,7 @@ use Rattle.drafts.specs.declared.entries.Keys.{Keys}
 use Rattle.drafts.specs.declared.free.Words.{Words}
 use Rattle.drafts.specs.declared.free.FreeFront.{FreeFront}
 use Rattle.help_fronts.specs.View.{said}
+use Rattle.toml_pieces.specs.View.{text_of}
 use Rattle.drafts.specs.Free.{FreeSaid, Has}
 use Rattle.drafts.specs.declared.taken.Taken.{Taken}
 use Rattle.drafts.specs.declared.taken.Marked.{Marked}
@@ -21,6 +23,10 @@ use Rattle.drafts.specs.declared.usages.Form.{Form}
 use Rattle.drafts.specs.Usages.{FormSaid}
 use Rattle.drafts.specs.Passages.{PassageSaid}
 use Rattle.drafts.specs.Entries.{ValueSaid}
+use Rattle.drafts.specs.declared.notes.Note.{Note}
+use Rattle.drafts.specs.declared.notes.Notes.{Notes}
+use Rattle.drafts.specs.declared.notes.Cut.{Cut}
+use Rattle.drafts.specs.Notes.{CutSaid, NoteSaid, NotesSaid}
 
 abbrev pub passage_said : Passage → PassageSaid
 passage_said p = record { kind = p.kind; lines = map (λ line. line.now) p.lines.now }
@@ -59,3 +65,23 @@ is_nameless (fault.Memory error) = false
 
 abbrev pub stray_said : Stray → StraySaid
 stray_said s = record { is_letter = s.is_letter; text = s.text.now }
+
+abbrev pub split_said : Option (Bor (List ℕ) × Bor (List ℕ)) → Option (List ℕ × List ℕ)
+split_said found = option_map (λ p. (p.0.now , p.1.now)) found
+
+abbrev pub note_said : Note → NoteSaid
+note_said n = record { kind = n.kind; text = n.text.now }
+
+abbrev pub ended_said : Option (Bor (List ℕ) × Note) → Option (List ℕ × NoteSaid)
+ended_said found = option_map (λ p. (p.0.now , note_said p.1)) found
+
+abbrev pub notes_said : Notes → NotesSaid
+notes_said n = record {
+  preset = text_of n.preset;
+  values = text_of n.values;
+  env = text_of n.env;
+  are_single = n.are_single;
+}
+
+abbrev pub cut_said : Cut → CutSaid
+cut_said c = record { rest = c.rest.now; notes = notes_said c.notes }

@@ -12,14 +12,14 @@ ghost use Rattle.drafts.specs.Seen.{is_name};
 ghost use Rattle.drafts.specs.View.{free_said, held, keys_said, passage_said, value_said};
 
 use crate::free::{FreeFront, Words, free_in};
+use crate::notes::{Subject, push_help};
 use crate::options::{byte_at, is_blank, is_good, key, push_spelling};
 use crate::passages::Passage;
 use crate::seen::{are_names, is_name, is_word};
-use crate::texts::help_pieces;
 use help_blocks::Kind;
 use help_fronts::{CommandFront, OptionFront, command_front, value_word};
 use std::alloc::{AllocError, Allocator};
-use toml_pieces::{push_left_out, push_list, push_table, push_text, push_word};
+use toml_pieces::{push_left_out, push_list, push_table, push_word};
 
 // ---- positional values
 
@@ -99,17 +99,45 @@ fn push_entry_head<A: Allocator>(
     }
 }
 
-fn push_help<A: Allocator, B: Allocator>(
-    alloc: B,
+// What stands in the first line, if there is something, and the lines below.
+fn help_lines<'a, A: Allocator>(
+    alloc: A,
+    first: &'a str,
+    below: &[&'a str],
+) -> Result<Vec<&'a str, A>, AllocError>
+    ensures { IfOk result (λ lines. map (λ line. line.now) lines.items
+        ≡ spec.help_lines first.now (map (λ line. line.now) below.now)) }
+{
+    let mut lines = Vec::new(alloc);
+    if !first.is_empty() {
+        lines.push(first)?;
+    }
+    lines.extend_from_slice(below)?;
+    Ok(lines)
+}
+
+fn push_help_of<A: Allocator + Copy>(
+    alloc: A,
     out: &mut String<A>,
+    subject: Subject,
     first: &str,
     below: &[&str],
 ) -> Result<(), AllocError>
     ensures { OnOk result (string_bytes out.new
-        ≡ string_bytes out.old ++ spec.help_at first.now (map (λ line. line.now) below.now)) }
+        ≡ string_bytes out.old ++ spec.help_at subject first.now (map (λ line. line.now) below.now)) }
 {
-    let pieces = help_pieces(alloc, first, below)?;
-    push_text(out, "help", &pieces)
+    let lines = help_lines(alloc, first, below)?;
+    push_help(alloc, out, subject, &lines)
+}
+
+fn subject_of<A: Allocator>(front: &OptionFront<'_, A>) -> Subject
+    ensures { result ≡ spec.subject_of (said front.now) }
+{
+    if front.values.is_empty() {
+        Subject::Flag
+    } else {
+        Subject::Option
+    }
 }
 
 /// Writes how an option is called.
@@ -136,7 +164,7 @@ fn push_help_if<A: Allocator + Copy, B: Allocator>(
         ≡ string_bytes out.old ++ spec.help_if is_last (map (λ line. line.now) below.now) (said front.now)) }
 {
     if is_last {
-        push_help(alloc, out, front.help, below)
+        push_help_of(alloc, out, subject_of(front), front.help, below)
     } else {
         Ok(())
     }
@@ -253,7 +281,7 @@ fn push_command<A: Allocator + Copy>(
     push_left_out_if(out, front.says_else, front.written)?;
     push_word(out, "name", front.name)?;
     push_list(out, "aliases", &front.aliases)?;
-    push_help(alloc, out, front.help, passage.below())
+    push_help_of(alloc, out, Subject::Command, front.help, passage.below())
 }
 
 fn push_repeated<A: Allocator>(out: &mut String<A>, is_repeated: bool) -> Result<(), AllocError>
@@ -286,7 +314,7 @@ fn push_value<A: Allocator + Copy>(
     let value = value_front(passage.first_line());
     push_entry_head(out, in_group, "positional", "group.positional")?;
     push_word(out, "value", value_name(value.front))?;
-    push_help(alloc, out, value.help, passage.below())?;
+    push_help_of(alloc, out, Subject::Positional, value.help, passage.below())?;
     push_value_flags(out, value.front)
 }
 

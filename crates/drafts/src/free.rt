@@ -96,6 +96,41 @@ fn free_names<'a, A: Allocator + Copy>(
     Ok(free)
 }
 
+fn last_name<'a>(names: &[&'a str]) -> &'a str
+    ensures { result.now ≡ spec.last_name (map (λ n. n.now) names.now) }
+{
+    match names.len() {
+        0 => "",
+        len => names[len - 1],
+    }
+}
+
+// Whether the value stays with the names that are left.
+fn keeps_value<A: Allocator>(front: &OptionFront<'_, A>, names: &[&str]) -> bool
+    ensures { result ≡ spec.keeps_value (said front.now) (map (λ n. n.now) names.now) }
+{
+    front.joint == b' ' || last_name(names) == last_name(&front.names)
+}
+
+fn valued<'a, A: Allocator + Copy>(
+    alloc: A,
+    front: OptionFront<'a, A>,
+    names: &[&'a str],
+) -> OptionFront<'a, A>
+    ensures { said result ≡ spec.valued (said front.entry) (map (λ n. n.now) names.now) }
+{
+    if keeps_value(&front, names) {
+        return front;
+    }
+    OptionFront {
+        values: Vec::new(alloc),
+        joint: b' ',
+        value: None,
+        is_optional: false,
+        ..front
+    }
+}
+
 fn free_front<'a, A: Allocator + Copy>(
     alloc: A,
     taken: &Words<'a, A>,
@@ -109,6 +144,7 @@ fn free_front<'a, A: Allocator + Copy>(
 {
     let names = free_names(alloc, taken, seen, &front.names)?;
     let is_whole = names.len() == front.names.len();
+    let front = valued(alloc, front, &names);
     let front = OptionFront { names, ..front };
     Ok(FreeFront { front, is_whole })
 }

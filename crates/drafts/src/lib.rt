@@ -11,6 +11,7 @@ mod drafted;
 mod entries;
 mod free;
 pub mod laws;
+mod notes;
 mod options;
 mod passages;
 mod places;

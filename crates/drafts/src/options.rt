@@ -416,7 +416,7 @@ pub fn is_good<A: Allocator + Copy, B: Allocator>(
 fn has_negation(name: &[u8]) -> bool
     ensures { result ≡ spec.has_negation name.now }
 {
-    is_dashed(name) && byte_at(name, 2) == b'[' && byte_at(name, 6) == b']' && name.len() > 8
+    name.len() > 8 && name.starts_with(b"--[no-]")
 }
 
 fn long_key(name: &[u8]) -> &[u8]

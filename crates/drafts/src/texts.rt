@@ -1,5 +1,5 @@
 //! Lines of a help text as pieces of a text.
-ghost use Rattle.std.specs.Prelude.{◌≡◌, ◌++◌, ◌<◌, ◌≤◌, IfOk, OnOk, length, map, true};
+ghost use Rattle.std.specs.Prelude.{◌≡◌, ◌++◌, ◌<◌, ◌≤◌, OnOk, drop, length, map, min, true};
 ghost use Rattle.std.specs.List.{prefix_len, slice_index};
 ghost use Rattle.help_fronts.specs.Bytes.{is_blank};
 ghost use Rattle.toml_pieces.specs.declared.toml.Lead.TheVariants as lead;
@@ -29,12 +29,53 @@ fn is_code(kind: Kind) -> bool
     matches!(kind, Kind::Code)
 }
 
-fn code_piece(line: &str) -> Piece<'_>
-    ensures { piece_said result ≡ spec.code_piece line.now }
+// ---- code
+
+// How many blanks a line begins with.
+fn indent_len(line: &[u8]) -> usize
+    ensures exact { result ≡ prefix_len is_blank line.now }
+    ensures within { result ≤ length line.now }
+{
+    let mut len = 0;
+    while len < line.len() && is_blank(line[len]) {
+        len += 1;
+    }
+    len
+}
+
+fn narrower(indent: usize, line: &str) -> usize
+    ensures { result ≡ spec.narrower indent line.now }
+{
+    if line.trim().is_empty() {
+        indent
+    } else {
+        indent.min(indent_len(line.as_bytes()))
+    }
+}
+
+// The indent that all lines have.
+fn shared_indent(lines: &[&str]) -> usize
+    ensures { result ≡ spec.shared_indent (map (λ line. line.now) lines.now) }
+{
+    let mut indent = 64;
+    for line in lines {
+        indent = narrower(indent, line);
+    }
+    indent
+}
+
+fn without_indent(indent: usize, line: &str) -> &str
+    ensures { result.now ≡ drop (min indent (spec.indent_len line.now)) line.now }
+{
+    &line[indent.min(indent_len(line.as_bytes()))..]
+}
+
+fn code_piece(indent: usize, line: &str) -> Piece<'_>
+    ensures { piece_said result ≡ spec.code_piece indent line.now }
 {
     Piece {
         lead: Lead::Code,
-        text: line.trim_end(),
+        text: without_indent(indent, line).trim_end(),
     }
 }
 
@@ -49,13 +90,14 @@ fn prose_piece(lead: Lead, line: &str) -> Piece<'_>
 
 fn push_code<'a, A: Allocator>(
     pieces: &mut Vec<Piece<'a>, A>,
+    indent: usize,
     lines: &[&'a str],
 ) -> Result<(), AllocError>
     ensures { OnOk result (map piece_said pieces.new.items
-        ≡ map piece_said pieces.old.items ++ map spec.code_piece (map (λ line. line.now) lines.now)) }
+        ≡ map piece_said pieces.old.items ++ map (spec.code_piece indent) (map (λ line. line.now) lines.now)) }
 {
     for line in lines {
-        pieces.push(code_piece(line))?;
+        pieces.push(code_piece(indent, line))?;
     }
     Ok(())
 }
@@ -155,13 +197,14 @@ pub fn push_passage<'a, A: Allocator>(
         ≡ map piece_said pieces.old.items ++ spec.passage_pieces (passage_said passage.entry)) }
 {
     if is_code(passage.kind) {
-        push_code(pieces, passage.lines)
+        push_code(pieces, shared_indent(passage.lines), passage.lines)
     } else {
         push_prose(pieces, passage.lines)
     }
 }
 
-fn push_lines<'a, A: Allocator>(
+/// Puts lines of a help after pieces.
+pub fn push_lines<'a, A: Allocator>(
     pieces: &mut Vec<Piece<'a>, A>,
     lines: &[&'a str],
 ) -> Result<(), AllocError>
@@ -172,21 +215,4 @@ fn push_lines<'a, A: Allocator>(
         pieces.push(prose_piece(Lead::Line, line))?;
     }
     Ok(())
-}
-
-/// The help of an entry: what stands in its first line, and the lines below.
-pub fn help_pieces<'a, A: Allocator>(
-    alloc: A,
-    first: &'a str,
-    below: &[&'a str],
-) -> Result<Vec<Piece<'a>, A>, AllocError>
-    ensures { IfOk result (λ pieces. map piece_said pieces.items
-        ≡ spec.help_pieces first.now (map (λ line. line.now) below.now)) }
-{
-    let mut pieces = Vec::new(alloc);
-    if !first.is_empty() {
-        pieces.push(prose_piece(Lead::Line, first))?;
-    }
-    push_lines(&mut pieces, below)?;
-    Ok(pieces)
 }
