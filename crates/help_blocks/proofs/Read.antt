@@ -65,7 +65,7 @@ read-none all place blocks p e = record {
 }
 
 -- a line that is below no other begins a block
-some-begun : (seen : List Pair) (s t : Shape) → 0 ≡ length (read seen) → begun (place_of (read seen)) s t ≡ None → ⊥
+pub some-begun : (seen : List Pair) (s t : Shape) → 0 ≡ length (read seen) → begun (place_of (read seen)) s t ≡ None → ⊥
 some-begun [] s t l h = cc
 some-begun (p ∷ ps) s t l h = omega arith
 

@@ -1,6 +1,6 @@
 //! Laws of the rules: nothing to call, but statements that the check proves.
 
-ghost use Rattle.help_blocks.specs.Laws.{FirstLinesBegin, HelpIsDeeper};
+ghost use Rattle.help_blocks.specs.Laws.{EachLineIsInABlock, FirstLinesBegin, HelpIsDeeper};
 
 /// What goes on with an entry is its help: each of these lines is empty, or indented deeper than the entry's first line.
 #[tactic(auto, using(crate::proofs::Deeper::help_is_deeper))]
@@ -12,4 +12,10 @@ pub fn help_is_deeper()
 #[tactic(auto, using(crate::proofs::Deeper::first_lines_begin))]
 pub fn first_lines_begin()
     ensures { FirstLinesBegin }
+{}
+
+/// Blocks that begin as the rules say follow one another from the first line to the end: each line is in exactly one.
+#[tactic(auto, using(crate::proofs::Whole::each_line_is_in_a_block))]
+pub fn each_line_is_in_a_block()
+    ensures { EachLineIsInABlock }
 {}
