@@ -1,4 +1,6 @@
-mod Boundaries
+pub mod Boundaries
 mod Cuts
 mod Ends
 mod Runs
+pub mod Stands
+pub mod Texts

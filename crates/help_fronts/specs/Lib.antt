@@ -5,3 +5,4 @@ pub mod Fronts
 pub mod View
 pub mod Usages
 pub mod Lines
+pub mod Laws

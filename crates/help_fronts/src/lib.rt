@@ -4,6 +4,7 @@
 mod bytes;
 mod command;
 mod front;
+pub mod laws;
 mod line;
 mod names;
 mod option;

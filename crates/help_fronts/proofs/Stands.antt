@@ -1,0 +1,187 @@
+-- What is read of a line stands in it.
+use Rattle.std.proofs.Common.{◌≡◌, ℕ, Bool, true, false, cond, List, [], ◌∷◌, ◌++◌, All, IfSome, None, Some, filter, length, map, refl, sym, ap, ◌∙◌, subst, append_assoc}
+use Rattle.std.specs.List.{concat}
+use Rattle.std.specs.Option.{option_map}
+use Rattle.std.proofs.lemmas.List.Elements.{All-cons, All-filter, All-head, All-nil, All-tail}
+use Rattle.help_fronts.specs.declared.front.Kind.{Kind}
+use Rattle.help_fronts.specs.declared.front.Kind.TheVariants as kind
+use Rattle.help_fronts.specs.Bytes.{is_usage_mark}
+use Rattle.help_fronts.specs.Pieces.{first_word, pieces, word}
+use Rattle.help_fronts.specs.Words.{bare_word, is_name, name, value_text, value_word, without_joints}
+use Rattle.help_fronts.specs.Fronts.{CommandSaid, before_name, begins_front, behind_front, belonging, belongs, command_in, command_name, command_said, first_value, from_last, front, front_in, front_said, gap_of, if_parted, is_alias, is_parted, is_valued, names, or_else, says_more, says_value, values, without_indent}
+use Rattle.help_fronts.specs.Lines.{further_words, goes_on, option_words}
+use Rattle.help_fronts.specs.Usages.{usage_words}
+use Rattle.help_fronts.specs.Laws.{CommandsStandInTheirLine, IsCommandOf, IsFrontOf, IsTextOf, NamesStandInTheirLine, OptionsStandInTheirLine, UsageNamesStandInTheirLine}
+use Rattle.help_fronts.proofs.Texts.{all_read, all_within, at_front, bare_word_of, concat_pieces, dropped, joined, name_of, parts_are, taken, value_text_of, value_word_of, within, without_joints_of, word_of}
+
+-- ---- a front begins its text
+
+abbrev Begins : (text front : List ℕ) → Type 0
+Begins text front = (after : List ℕ) × (text ≡ front ++ after)
+
+one_more : (p : List ℕ) (ps qs : List (List ℕ)) → Begins (concat ps) (concat qs) → Begins (concat (p ∷ ps)) (concat (p ∷ qs))
+one_more p ps qs h = (h.0, ap (λ t. p ++ t) h.1 ∙ sym (append_assoc p (concat qs) h.0))
+
+no_more : (ps : List (List ℕ)) → Begins (concat ps) (concat [])
+no_more ps = (concat ps, refl)
+
+belonging_begin : (k : Kind) (before : List ℕ) (ps : List (List ℕ)) → Begins (concat ps) (concat (belonging k before ps))
+belonging_begin k before [] = no_more []
+belonging_begin k before (p ∷ ps) = by (belongs k before (word p) (first_word ps)) (belonging_begin k (word p) ps) where
+  by : (t : Bool) → Begins (concat ps) (concat (belonging k (word p) ps)) → Begins (concat (p ∷ ps)) (concat (cond t (p ∷ belonging k (word p) ps) []))
+  by true h = one_more p ps (belonging k (word p) ps) h
+  by false h = no_more (p ∷ ps)
+
+front_begins : (k : Kind) (ps : List (List ℕ)) → Begins (concat ps) (concat (front k ps))
+front_begins k [] = no_more []
+front_begins k (p ∷ ps) = by (begins_front k (word p)) where
+  by : (t : Bool) → Begins (concat (p ∷ ps)) (concat (cond t (p ∷ belonging k (word p) ps) []))
+  by true = one_more p ps (belonging k (word p) ps) (belonging_begin k (word p) ps)
+  by false = no_more (p ∷ ps)
+
+front_of : (k : Kind) (text : List ℕ) → IsTextOf text (concat (front k (pieces text)))
+front_of k text =
+    let begins = front_begins k (pieces text) in
+    subst (λ t. IsTextOf t (concat (front k (pieces text)))) (sym begins.1 ∙ concat_pieces text) (at_front (concat (front k (pieces text))) begins.0)
+
+-- ---- what a front says, of words of a line
+
+module _ (line : List ℕ) where
+  abbrev Are : List (List ℕ) → Type 0
+  Are ts = All (IsTextOf line) ts
+
+  abbrev none : Are []
+  none = All-nil (IsTextOf line)
+
+  one_and : (t : List ℕ) (ts : List (List ℕ)) → IsTextOf line t → Are ts → Are (t ∷ ts)
+  one_and t ts = All-cons (IsTextOf line) t ts
+
+  first_of : (t : List ℕ) (ts : List (List ℕ)) → Are (t ∷ ts) → IsTextOf line t
+  first_of t ts = All-head (IsTextOf line) t ts
+
+  others_of : (t : List ℕ) (ts : List (List ℕ)) → Are (t ∷ ts) → Are ts
+  others_of t ts = All-tail (IsTextOf line) t ts
+
+  pub names_are : (ws : List (List ℕ)) → Are ws → Are (names ws)
+  names_are ws all = all_read name name_of line (filter is_name ws) (All-filter is_name (IsTextOf line) ws all)
+
+  before_name_are : (ws : List (List ℕ)) → Are ws → Are (before_name ws)
+  before_name_are [] all = none
+  before_name_are (w ∷ ws) all = by (is_name w) (before_name_are ws (others_of w ws all)) where
+    by : (t : Bool) → Are (before_name ws) → Are (cond t [] (w ∷ before_name ws))
+    by true below = none
+    by false below = one_and w (before_name ws) (first_of w ws all) below
+
+  or_else_are : (ts others : List (List ℕ)) → Are ts → Are others → Are (or_else ts others)
+  or_else_are [] others all more = more
+  or_else_are (t ∷ ts) others all more = all
+
+  from_last_are : (ws : List (List ℕ)) → Are ws → Are (from_last ws)
+  from_last_are [] all = none
+  from_last_are (w ∷ ws) all = or_else_are (from_last ws) _ (from_last_are ws (others_of w ws all)) (by (is_valued w ws)) where
+    by : (t : Bool) → Are (cond t (w ∷ ws) [])
+    by true = all
+    by false = none
+
+  values_are : (ws : List (List ℕ)) → Are ws → Are (values ws)
+  values_are [] all = none
+  values_are (w ∷ ws) all = by (says_value w) (values_are ws (others_of w ws all)) where
+    further : List (List ℕ)
+    further = filter says_more (before_name ws)
+
+    by : (t : Bool) → Are (values ws) → Are (cond t (value_text w ∷ map without_joints further) (values ws))
+    by true below =
+        one_and (value_text w) (map without_joints further) (within line w (value_text w) (first_of w ws all) (value_text_of w))
+        (all_read without_joints without_joints_of line further (All-filter says_more (IsTextOf line) (before_name ws) (before_name_are ws (others_of w ws all))))
+    by false below = below
+
+  value_is : (vs : List (List ℕ)) → Are vs → IfSome (option_map value_word (first_value vs)) (IsTextOf line)
+  value_is [] all = tt
+  value_is (v ∷ vs) all = within line v (value_word v) (first_of v vs all) (value_word_of v)
+
+  -- the word of each piece of a front
+  words_are : (text : List ℕ) → IsTextOf line text → (ps : List (List ℕ)) → IsTextOf text (concat ps) → Are (map word ps)
+  words_are text h ps begins = all_read word word_of line ps (all_within line (concat ps) (within line text (concat ps) h begins) ps (joined ps))
+
+  behind_is : (text : List ℕ) → IsTextOf line text → (ps : List (List ℕ)) → IsTextOf line (behind_front ps text)
+  behind_is text h ps = within line text (behind_front ps text) h (dropped (length (concat ps)) text)
+
+  front_is : (text : List ℕ) → IsTextOf line text → (ps : List (List ℕ)) → IsTextOf text (concat ps) → IsFrontOf line (front_said ps (behind_front ps text))
+  front_is text h ps begins =
+      let behind = behind_front ps text in
+      let words = words_are text h ps begins in
+      let valued = values_are (from_last (map word ps)) (from_last_are (map word ps) words) in
+      record {
+        names = names_are (map word ps) words;
+        values = valued;
+        value = value_is (values (from_last (map word ps))) valued;
+        written = within line text (concat ps) h begins;
+        gap = within line behind (gap_of behind) (behind_is text h ps) (taken _ behind);
+        help = within line behind _ (behind_is text h ps) (dropped _ behind);
+      }
+
+  some_front : (text : List ℕ) → IsTextOf line text → (ps : List (List ℕ)) → IsTextOf text (concat ps) → IfSome (front_in ps text) (IsFrontOf line)
+  some_front text h [] begins = tt
+  some_front text h (p ∷ ps) begins = front_is text h (p ∷ ps) begins
+
+pub options_stand_in_their_line : OptionsStandInTheirLine
+options_stand_in_their_line line =
+    let text = without_indent line in
+    some_front line text (dropped _ line) (front kind.Option (pieces text)) (front_of kind.Option text)
+
+-- ---- commands
+
+module _ (line : List ℕ) where
+  command_is : (text : List ℕ) → IsTextOf line text → (p : List ℕ) (ps : List (List ℕ)) → IsTextOf text (concat (p ∷ ps)) → IsCommandOf line (command_said (p ∷ ps) (behind_front (p ∷ ps) text))
+  command_is text h p ps begins =
+      let behind = behind_front (p ∷ ps) text in
+      let words = words_are line text h (p ∷ ps) begins in
+      let first = first_of line (word p) (map word ps) words in
+      let others = others_of line (word p) (map word ps) words in
+      record {
+        name = within line (word p) (command_name (word p)) first (taken _ (word p));
+        aliases = all_read bare_word bare_word_of line _ (All-filter (is_alias (word p)) (IsTextOf line) (map word ps) others);
+        written = within line text (concat (p ∷ ps)) h begins;
+        gap = within line behind (gap_of behind) (behind_is line text h (p ∷ ps)) (taken _ behind);
+        help = within line behind _ (behind_is line text h (p ∷ ps)) (dropped _ behind);
+      }
+
+  if_parted_is : (c : CommandSaid) → IsCommandOf line c → IfSome (if_parted c) (IsCommandOf line)
+  if_parted_is c h = by (is_parted c.written c.gap c.help) where
+    by : (t : Bool) → IfSome (cond t (Some c) None) (IsCommandOf line)
+    by true = h
+    by false = tt
+
+  some_command : (text : List ℕ) → IsTextOf line text → (ps : List (List ℕ)) → IsTextOf text (concat ps) → IfSome (command_in ps text) (IsCommandOf line)
+  some_command text h [] begins = tt
+  some_command text h (p ∷ ps) begins = if_parted_is (command_said (p ∷ ps) (behind_front (p ∷ ps) text)) (command_is text h p ps begins)
+
+pub commands_stand_in_their_line : CommandsStandInTheirLine
+commands_stand_in_their_line line =
+    let text = without_indent line in
+    some_command line text (dropped _ line) (front kind.Command (pieces text)) (front_of kind.Command text)
+
+-- ---- names alone
+
+further_are : (line before : List ℕ) (ps : List (List ℕ)) → All (IsTextOf line) ps → All (IsTextOf line) (further_words before ps)
+further_are line before [] all = none line
+further_are line before (p ∷ ps) all = by (goes_on before (word p) (first_word ps)) (further_are line (word p) ps (others_of line p ps all)) where
+  by : (t : Bool) → All (IsTextOf line) (further_words (word p) ps) → All (IsTextOf line) (cond t (word p ∷ further_words (word p) ps) [])
+  by true below = one_and line (word p) (further_words (word p) ps) (within line p (word p) (first_of line p ps all) (word_of p)) below
+  by false below = none line
+
+option_words_are : (line : List ℕ) (ps : List (List ℕ)) → All (IsTextOf line) ps → All (IsTextOf line) (option_words ps)
+option_words_are line [] all = none line
+option_words_are line (p ∷ ps) all = by (is_name (word p)) where
+  by : (t : Bool) → All (IsTextOf line) (cond t (word p ∷ further_words (word p) ps) [])
+  by true = one_and line (word p) (further_words (word p) ps) (within line p (word p) (first_of line p ps all) (word_of p)) (further_are line (word p) ps (others_of line p ps all))
+  by false = none line
+
+pub names_stand_in_their_line : NamesStandInTheirLine
+names_stand_in_their_line line =
+    let text = without_indent line in
+    let all : All (IsTextOf text) (pieces text) = subst (λ t. All (IsTextOf t) (pieces text)) (concat_pieces text) (joined (pieces text)) in
+    names_are line (option_words (pieces text)) (option_words_are line (pieces text) (all_within line text (dropped _ line) (pieces text) all))
+
+pub usage_names_stand_in_their_line : UsageNamesStandInTheirLine
+usage_names_stand_in_their_line line = names_are line (usage_words line) (parts_are is_usage_mark line)
