@@ -1,5 +1,5 @@
 -- Laws of the rules.
-use Rattle.std.specs.Prelude.{◌≡◌, ℕ, ◌<◌, Bool, true, List, [], length, map, Option, Some, None, ◌⊎◌}
+use Rattle.std.specs.Prelude.{◌≡◌, ℕ, ◌<◌, true, List, [], length, map, Some, None, ◌⊎◌}
 use Rattle.help_blocks.specs.declared.cut.Block.{Block}
 use Rattle.help_blocks.specs.declared.shape.Shape.{Shape}
 use Rattle.help_blocks.specs.declared.place.Open.{Open}
@@ -17,4 +17,5 @@ FirstLinesBegin = (here next : Shape) → begun (place_of []) here next ≡ None
 
 -- where blocks begin as the rules say, they can end so that each line is in exactly one, and none of them is empty
 abbrev pub EachLineIsInABlock : Type 0
-EachLineIsInABlock = (lines : List (List ℕ)) → (bs : List Block) × (map start_of bs ≡ starts (lines_of lines)) × FollowOn 0 bs (length lines)
+EachLineIsInABlock = (lines : List (List ℕ))
+    → (bs : List Block) × (map start_of bs ≡ starts (lines_of lines)) × FollowOn 0 bs (length lines)
