@@ -1,10 +1,16 @@
 mod Blocks
 mod Boundaries
+mod Called
 mod Cuts
 mod Ends
 mod Fronts
+mod KeptLetters
 mod Letters
 mod Lists
 mod Placing
 mod Puts
+mod Roles
+mod Standing
+mod Trims
+mod Whole
 mod Words

@@ -1,7 +1,8 @@
 -- Lines without those at their end that are blank.
-use Rattle.std.proofs.Common.{◌≡◌, ℕ, ◌+◌, ◌-◌, Bool, cond, List, [], ◌∷◌, ◌++◌, Bor, drop, length, map, reverse, take, refl, sym, ap, ◌∙◌}
+use Rattle.std.proofs.Common.{◌≡◌, ℕ, ◌+◌, ◌-◌, Bool, true, cond, List, [], ◌∷◌, ◌++◌, Bor, All, arith, drop, get_or, length, map, reverse, take, refl, sym, ap, ◌∙◌}
 use Rattle.std.specs.List.{prefix_len, suffix_len}
-use Rattle.std.proofs.lemmas.List.{drop-map, length-map, map-append, reverse-append, take-map}
+use Rattle.std.proofs.lemmas.List.{drop-map, get_or-drop, get_or-reverse, length-drop, length-map, map-append, reverse-append, take-map}
+use Rattle.std.proofs.lemmas.List.Sums.{prefix_len_passes, suffix_len-le-length}
 use Rattle.help_blocks.specs.declared.place.Kind.{Kind}
 use Rattle.drafts.specs.Passages.{PassageSaid, inked, is_blank, lines_between, passage}
 
@@ -16,6 +17,17 @@ prefix_map p f (x ∷ xs) = ap (λ n. cond (p (f x)) (1 + n) 0) (prefix_map p f 
 
 suffix_map : {X Y : Type 0} (p : Y → Bool) (f : X → Y) (xs : List X) → suffix_len p (map f xs) ≡ suffix_len (λ x. p (f x)) xs
 suffix_map p f xs = ap (prefix_len p) (sym (map_reverse f xs)) ∙ prefix_map p f (reverse xs)
+
+-- what passes at the end
+pub end_passes : {X : Type 0} (p : X → Bool) (xs : List X) → All (λ x. p x ≡ true) (drop (length xs - suffix_len p xs) xs)
+end_passes p xs k d h =
+    let n = length xs - suffix_len p xs in
+    let j = length xs - 1 - (n + k) in
+    let within = suffix_len-le-length p xs in
+    let long = length-drop n xs in
+    let there : length xs - 1 - j ≡ n + k = omega arith in
+    let same : get_or (drop n xs) k d ≡ get_or (reverse xs) j d = get_or-drop n xs k d ∙ sym (ap (λ i. get_or xs i d) there) ∙ sym (get_or-reverse xs j d (omega arith)) in
+    ap p same ∙ prefix_len_passes p (reverse xs) j d (omega arith)
 
 abbrev Lines : Type 0
 Lines = List (Bor (List ℕ))

@@ -14,7 +14,7 @@ placed_passages : (a : Above) (ms : List MarkedSaid) → map (λ p. p.passage) (
 placed_passages a [] = refl
 placed_passages a (m ∷ ms) = ap (λ ps. m.passage ∷ ps) (placed_passages (above_with m ms a) ms)
 
-marked_passages : (t : TakenSaid) (ps : List PassageSaid) → map (λ m. m.passage) (marked_from t ps) ≡ ps
+pub marked_passages : (t : TakenSaid) (ps : List PassageSaid) → map (λ m. m.passage) (marked_from t ps) ≡ ps
 marked_passages t [] = refl
 marked_passages t (p ∷ ps) = ap (λ qs. p ∷ qs) (marked_passages (taken_after t p) ps)
 

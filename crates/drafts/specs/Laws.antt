@@ -1,14 +1,117 @@
 -- Laws of drafts.
-use Rattle.std.specs.Prelude.{ℕ, ◌≡◌, false, List, flat_map, map}
-use Rattle.std.specs.List.{list_any}
+use Rattle.std.specs.Prelude.{ℕ, ◌≡◌, Bool, true, false, not, List, [], ◌∷◌, ◌++◌, filter, flat_map, if◌then◌else◌, map}
+use Rattle.std.specs.Prelude.{◌⊎◌, All, IfSome, IsUtf8, chars, option_to_list, reverse}
+use Rattle.std.specs.Char.{is_not_whitespace}
+use Rattle.std.specs.List.{AllPass, list_all, list_any}
+use Rattle.page_model.specs.Permitted.{are_permitted}
+use Rattle.help_fronts.specs.Fronts.{FrontSaid}
+use Rattle.help_fronts.specs.Laws.{IsFrontOf, IsTextOf}
+use Rattle.toml_pieces.specs.Toml.{Piece}
+use Rattle.drafts.specs.Passages.{PassageSaid, is_blank, passages}
+use Rattle.drafts.specs.Options.{are_plain, long_word, short_letter}
 use Rattle.drafts.specs.Free.{Has, free_in, free_keys}
-use Rattle.drafts.specs.Passages.{PassageSaid}
-use Rattle.drafts.specs.Places.{placed}
+use Rattle.drafts.specs.Entries.{ValueSaid, value_front, value_name}
+use Rattle.drafts.specs.Texts.{help_pieces, passage_pieces}
+use Rattle.drafts.specs.Places.{PlacedSaid, is_empty, is_title, placed}
+use Rattle.drafts.specs.declared.places.Role.{Role}
+use Rattle.drafts.specs.declared.places.Role.TheVariants as role
 
 -- each passage is placed, once and in order
 abbrev pub EachIsPlaced : Type 0
 EachIsPlaced = (ps : List PassageSaid) → map (λ p. p.passage) (placed ps) ≡ ps
 
+-- passages one after another, with blank lines alone behind each
+abbrev pub FollowIn : (lines : List (List ℕ)) → List PassageSaid → Type 0
+FollowIn lines [] = lines ≡ []
+FollowIn lines (p ∷ ps) =
+    (blank : List (List ℕ)) × (rest : List (List ℕ)) × (lines ≡ p.lines ++ (blank ++ rest)) × AllPass is_blank blank
+    × FollowIn rest ps
+
+-- no line of a help text is lost but blank ones, and none is in two passages
+abbrev pub PassagesFollow : Type 0
+PassagesFollow = (lines : List (List ℕ)) → FollowIn lines (passages lines)
+
+abbrev pub is_inked : (line : List ℕ) → Bool
+is_inked line = not (is_blank line)
+
+-- the lines of all passages that are placed
+abbrev pub placed_lines : (lines : List (List ℕ)) → List (List ℕ)
+placed_lines lines = flat_map (λ p. p.passage.lines) (placed (passages lines))
+
+-- those that are not blank are the lines of the text that are not, in order
+abbrev pub EachLineIsPlaced : Type 0
+EachLineIsPlaced = (lines : List (List ℕ)) → filter is_inked (placed_lines lines) ≡ filter is_inked lines
+
+-- only a passage without lines has no place in the draft
+abbrev pub EachHasAPlace : Type 0
+EachHasAPlace = (ps : List PassageSaid) → All (λ p. p.role ≡ role.Nothing → p.passage.lines ≡ []) (placed ps)
+
+-- a title has a line, and one that a text may hold
+abbrev pub IsTitled : PassageSaid → Type 0
+IsTitled p = is_title p.kind ≡ true → (is_empty p.lines ≡ false) × (list_all are_permitted p.lines ≡ true)
+
+-- the role of the nearest title
+abbrev pub title_after : (title : Role) → PlacedSaid → Role
+title_after title p = if is_title p.passage.kind then p.role else title
+
+abbrev pub StandBelow : (title : Role) → List PlacedSaid → Type 0
+StandBelow title [] = Unit {0}
+StandBelow title (p ∷ ps) =
+    (p.role ≡ role.InTopic → title ≡ role.Topic) × (p.role ≡ role.Member → title ≡ role.Group)
+    × StandBelow (title_after title p) ps
+
+-- the nearest title above a text of a topic is that of the topic, and above a member of a group that of the group
+abbrev pub EachIsBelowItsTitle : Type 0
+EachIsBelowItsTitle = (ps : List PassageSaid) → All IsTitled ps → StandBelow role.Nothing (placed ps)
+
 -- no option of a line has a name that is taken
 abbrev pub NamesAreFree : Type 0
 NamesAreFree = (has : Has) (line : List ℕ) → list_any has (flat_map free_keys (free_in has line)) ≡ false
+
+-- what is read of an option stands in its line, also the letter and the word by which it is called
+pub record IsOptionOf (line : List ℕ) (f : FrontSaid) : Type 0 where
+  pub front : IsFrontOf line f
+  pub letter : IfSome (short_letter f.names) (IsTextOf line)
+  pub word : IfSome (long_word f.names) (IsTextOf line)
+
+-- of each option of a line, with its free names
+abbrev pub OptionsStandInTheirLine : Type 0
+OptionsStandInTheirLine = (has : Has) (line : List ℕ) → All (λ f. IsOptionOf line f.front) (free_in has line)
+
+-- what `short` and `long` say, with the dashes
+abbrev pub called : (names : List (List ℕ)) → List (List ℕ)
+called names =
+    map (λ letter. 45 ∷ letter) (option_to_list (short_letter names))
+    ++ map (λ word. 45 ∷ 45 ∷ word) (option_to_list (long_word names))
+
+-- an option that is written without a syntax loses none of its names
+abbrev pub NoNameIsLost : Type 0
+NoNameIsLost = (names : List (List ℕ)) → are_plain names ≡ true
+    → (names ≡ called names) ⊎ (names ≡ reverse (called names))
+
+-- what is read of a positional value stands in its line
+pub record IsValueOf (line : List ℕ) (v : ValueSaid) : Type 0 where
+  pub front : IsTextOf line v.front
+  pub help : IsTextOf line v.help
+  pub name : IsTextOf line (value_name v.front)
+
+-- as lines are UTF-8
+abbrev pub ValuesStandInTheirLine : Type 0
+ValuesStandInTheirLine = (line : List ℕ) → IsUtf8 line → IsValueOf line (value_front line)
+
+-- the characters of a text that are no white space
+abbrev pub letters : (text : List ℕ) → List ℕ
+letters text = filter is_not_whitespace (chars text)
+
+abbrev pub piece_letters : Piece → List ℕ
+piece_letters p = letters p.text
+
+-- the pieces of a passage's text have all letters of its lines, in order
+abbrev pub TextsAreWhole : Type 0
+TextsAreWhole = (p : PassageSaid) → All IsUtf8 p.lines
+    → flat_map piece_letters (passage_pieces p) ≡ flat_map letters p.lines
+
+-- and those of a help have all letters of what stands behind the front, and of the lines below
+abbrev pub HelpsAreWhole : Type 0
+HelpsAreWhole = (first : List ℕ) (below : List (List ℕ)) → IsUtf8 first → All IsUtf8 below
+    → flat_map piece_letters (help_pieces first below) ≡ letters first ++ flat_map letters below

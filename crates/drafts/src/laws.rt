@@ -1,6 +1,17 @@
 //! Laws of drafts: nothing to call, but statements that the check proves.
 
-ghost use Rattle.drafts.specs.Laws.{EachIsPlaced, NamesAreFree};
+ghost use Rattle.drafts.specs.Laws.{EachHasAPlace, EachIsBelowItsTitle, EachIsPlaced, EachLineIsPlaced, HelpsAreWhole};
+ghost use Rattle.drafts.specs.Laws.{NamesAreFree, NoNameIsLost, OptionsStandInTheirLine, PassagesFollow};
+ghost use Rattle.drafts.specs.Laws.{TextsAreWhole, ValuesStandInTheirLine};
+
+use help_blocks::laws::each_line_is_in_a_block;
+
+/// The lines of a help text are those of its passages, one after another, with blank lines alone behind each.
+pub fn passages_follow()
+    ensures { PassagesFollow }
+{
+    each_line_is_in_a_block();
+}
 
 /// Each passage of a help text is placed, once and in order.
 #[tactic(auto, using(crate::proofs::Placing::each_is_placed))]
@@ -8,8 +19,53 @@ pub fn each_is_placed()
     ensures { EachIsPlaced }
 {}
 
+/// So each line that is not blank is in exactly one passage that is placed, and they stay in order.
+pub fn each_line_is_placed()
+    ensures { EachLineIsPlaced }
+{
+    each_line_is_in_a_block();
+}
+
+/// Only a passage without lines has no place in the draft.
+pub fn each_has_a_place()
+    ensures { EachHasAPlace }
+{}
+
+/// The nearest title above a text of a topic is that of the topic, and above a member of a group that of the group, where
+/// each title has a line that a text may hold.
+pub fn each_is_below_its_title()
+    ensures { EachIsBelowItsTitle }
+{}
+
 /// No option of a line is written with a name that is taken.
 #[tactic(auto, using(crate::proofs::Placing::names_are_free))]
 pub fn names_are_free()
     ensures { NamesAreFree }
+{}
+
+/// What is read of each option of a line stands in the line, also the letter and the word by which it is called.
+pub fn options_stand_in_their_line()
+    ensures { OptionsStandInTheirLine }
+{}
+
+/// An option that is written with `short` and `long` loses none of its names.
+pub fn no_name_is_lost()
+    ensures { NoNameIsLost }
+{}
+
+/// What is read of a positional value stands in its line, also the word for it.
+pub fn values_stand_in_their_line()
+    ensures { ValuesStandInTheirLine }
+{}
+
+/// The text of a passage is written with all letters of its lines, in order.
+#[tactic(auto, using(crate::proofs::KeptLetters::texts_are_whole))]
+pub fn texts_are_whole()
+    ensures { TextsAreWhole }
+{}
+
+/// A help is written with all letters of what stands behind the front, and of the lines below.
+#[tactic(auto, using(crate::proofs::KeptLetters::helps_are_whole))]
+pub fn helps_are_whole()
+    ensures { HelpsAreWhole }
 {}
