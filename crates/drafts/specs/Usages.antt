@@ -2,7 +2,6 @@
 use Rattle.std.specs.Prelude.{ℕ, ◌-◌, ◌==◌, ◌||◌, ◌&&◌, Bool, true, false, not, List, [], ◌∷◌, bytes_eq, codes, drop, filter, flat_map, if◌then◌else◌, length, map, nat_lt, take, Option, None, Some}
 use Rattle.std.specs.Char.{is_ascii_alphabetic, to_ascii_lowercase}
 use Rattle.std.specs.List.{list_any, prefix_len, slice_index, suffix_len}
-use Rattle.help_fronts.specs.Bytes.{is_blank}
 use Rattle.std.specs.Str.{trim}
 use Rattle.toml_pieces.specs.declared.toml.Lead.TheVariants as lead
 use Rattle.toml_pieces.specs.Toml.{Piece, piece}
