@@ -1,7 +1,9 @@
 -- Where names may be cut.
-use Rattle.std.proofs.Common.{◌≡◌, ℕ, suc, zero, ◌+◌, ◌-◌, ◌<◌, ◌≤◌, true, List, [], ◌∷◌, length, get_or, add-one, arith}
+use Rattle.std.proofs.Common.{◌≡◌, ℕ, suc, zero, ◌+◌, ◌-◌, ◌<◌, ◌≤◌, true, List, [], ◌∷◌, bytes_eq, codes, length, get_or, take, add-one, arith, sym, ap, ◌∙◌}
 use Rattle.std.specs.Str.{IsCharBoundary, IsUtf8}
 use Rattle.std.proofs.lemmas.Bool.Decides.{nat_tests}
+use Rattle.std.proofs.lemmas.List.{get_or-take}
+use Rattle.std.proofs.lemmas.Slice.Eq.{bytes_eq-Decides}
 use Rattle.std.proofs.lemmas.Str.{IsCharBoundary-after_ascii, IsCharBoundary-start}
 use Rattle.drafts.specs.Options.{is_long, is_short}
 use Rattle.drafts.specs.Usages.{has_or}
@@ -42,6 +44,11 @@ or_third t h = grind (arith, nat_tests)
 
 pub or_cut : (t : List ℕ) → has_or t ≡ true → IsUtf8 t → IsCharBoundary t 3
 or_cut t h utf8 = behind_ascii t 2 58 (or_third t h) (omega arith) (omega arith) utf8
+
+pub of_cut : (t : List ℕ) → bytes_eq (take 3 t) (codes "of ") ≡ true → IsUtf8 t → IsCharBoundary t 3
+of_cut t h utf8 =
+    let same : take 3 t ≡ codes "of " = (bytes_eq-Decides (take 3 t) (codes "of ")).0 h in
+    behind_ascii t 2 32 (sym (get_or-take 3 t 2 0 (omega arith)) ∙ ap (λ s. get_or s 2 0) same) (omega arith) (omega arith) utf8
 
 pub slash_cut : (t : List ℕ) (n : ℕ) → IsUtf8 t → n ≤ length t → (0 < n → get_or t (n - 1) 0 ≡ 47) → IsCharBoundary t n
 slash_cut t zero utf8 within slash = IsCharBoundary-start t utf8

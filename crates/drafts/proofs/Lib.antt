@@ -3,6 +3,7 @@ mod Boundaries
 mod Called
 mod Cuts
 mod Ends
+mod Forms
 mod Fronts
 mod KeptLetters
 mod Letters

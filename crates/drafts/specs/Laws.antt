@@ -11,8 +11,9 @@ use Rattle.drafts.specs.Passages.{PassageSaid, is_blank, passages}
 use Rattle.drafts.specs.Options.{are_plain, long_word, short_letter}
 use Rattle.drafts.specs.Free.{Has, free_in, free_keys}
 use Rattle.drafts.specs.Entries.{ValueSaid, value_front, value_name}
-use Rattle.drafts.specs.Texts.{help_pieces, passage_pieces}
+use Rattle.drafts.specs.Texts.{first_word, help_pieces, passage_pieces}
 use Rattle.drafts.specs.Places.{PlacedSaid, is_empty, is_title, placed}
+use Rattle.drafts.specs.Usages.{FormSaid, first_form, further_form, last_part}
 use Rattle.drafts.specs.declared.places.Role.{Role}
 use Rattle.drafts.specs.declared.places.Role.TheVariants as role
 
@@ -98,6 +99,15 @@ pub record IsValueOf (line : List ℕ) (v : ValueSaid) : Type 0 where
 -- as lines are UTF-8
 abbrev pub ValuesStandInTheirLine : Type 0
 ValuesStandInTheirLine = (line : List ℕ) → IsUtf8 line → IsValueOf line (value_front line)
+
+-- what is read of a line of a usage stands in it, also the name of the program
+pub record IsFormOf (line : List ℕ) (f : FormSaid) : Type 0 where
+  pub text : IsTextOf line f.text
+  pub name : IsTextOf line (last_part (first_word f.text))
+
+-- the first line, and each other
+abbrev pub FormsStandInTheirLine : Type 0
+FormsStandInTheirLine = (line : List ℕ) → IsUtf8 line → IsFormOf line (first_form line) × IsFormOf line (further_form line)
 
 -- the characters of a text that are no white space
 abbrev pub letters : (text : List ℕ) → List ℕ

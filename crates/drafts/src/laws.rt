@@ -2,7 +2,7 @@
 
 ghost use Rattle.drafts.specs.Laws.{EachHasAPlace, EachIsBelowItsTitle, EachIsPlaced, EachLineIsPlaced, HelpsAreWhole};
 ghost use Rattle.drafts.specs.Laws.{NamesAreFree, NoNameIsLost, OptionsStandInTheirLine, PassagesFollow};
-ghost use Rattle.drafts.specs.Laws.{TextsAreWhole, ValuesStandInTheirLine};
+ghost use Rattle.drafts.specs.Laws.{FormsStandInTheirLine, TextsAreWhole, ValuesStandInTheirLine};
 
 use help_blocks::laws::each_line_is_in_a_block;
 
@@ -56,6 +56,11 @@ pub fn no_name_is_lost()
 /// What is read of a positional value stands in its line, also the word for it.
 pub fn values_stand_in_their_line()
     ensures { ValuesStandInTheirLine }
+{}
+
+/// What is read of a line of a usage stands in it, also the name of the program.
+pub fn forms_stand_in_their_line()
+    ensures { FormsStandInTheirLine }
 {}
 
 /// The text of a passage is written with all letters of its lines, in order.
