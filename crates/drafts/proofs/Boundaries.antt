@@ -30,7 +30,7 @@ pub behind_small : (bs : List ℕ) (n : ℕ) → IsUtf8 bs → n ≤ length bs �
 behind_small bs zero utf8 within small = IsCharBoundary-start bs utf8
 behind_small bs (suc k) utf8 within small = grind (arith, add-one, IsCharBoundary-after_ascii bs k utf8)
 
-blank_small : (b : ℕ) → is_blank b ≡ true → b < 128
+pub blank_small : (b : ℕ) → is_blank b ≡ true → b < 128
 blank_small b h = grind (arith, nat_tests)
 
 -- within the blanks at the front

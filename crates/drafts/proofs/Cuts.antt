@@ -36,6 +36,9 @@ long_cut n h utf8 = IsCharBoundary-after_ascii n 1 utf8 (long_size n h) (long_se
 behind_ascii : (t : List ℕ) (i b : ℕ) → get_or t i 0 ≡ b → 0 < b → b < 128 → IsUtf8 t → IsCharBoundary t (i + 1)
 behind_ascii t i b e above small utf8 = IsCharBoundary-after_ascii t i utf8 (stands t i b e above) (omega arith)
 
+pub quote_cut : (t : List ℕ) → get_or t 0 0 ≡ 34 → IsUtf8 t → IsCharBoundary t 1
+quote_cut t e utf8 = behind_ascii t 0 34 e (omega arith) (omega arith) utf8
+
 pub colon_cut : (t : List ℕ) → get_or t 0 0 ≡ 58 → IsUtf8 t → IsCharBoundary t 1
 colon_cut t e utf8 = behind_ascii t 0 58 e (omega arith) (omega arith) utf8
 

@@ -12,7 +12,7 @@ use Rattle.std.proofs.lemmas.Bool.Decides.{nat_tests}
 use Rattle.std.proofs.lemmas.List.{get_or-map, length-map, length-take, map-append, take-append-drop, take-take, take_min}
 use Rattle.std.proofs.lemmas.List.Sums.{suffix_len_is}
 use Rattle.std.proofs.lemmas.Slice.Eq.{bytes_eq-Decides}
-use Rattle.drafts.specs.Notes.{IsFront, after_last, behind, joined, joined_line, split_last}
+use Rattle.drafts.specs.Notes.{IsFront, NoteSaid, NotesSaid, after_last, behind, cut, cut_by, cut_from, joined, joined_line, last_note, split_last, with_note}
 
 -- ---- fronts
 
@@ -69,6 +69,16 @@ begins_not beginning text h = cond-false _ _ _ (is_false _ (λ e. h (drop (lengt
 pub prefix_is : (beginning text : List ℕ) (r : Option (Bor (List ℕ))) → MatchOption r (FindsTextPrefix beginning text None) (λ x. StripsPrefix (FindsTextPrefix beginning) text x.now) → text_of r ≡ behind beginning text
 prefix_is beginning text None h = sym (begins_not beginning text h)
 prefix_is beginning text (Some x) h = ap Some h.2 ∙ sym (begins beginning text h.0 h.1.0 h.1.1)
+
+-- ---- notes that are cut one after another
+
+pub cut_done : (most : ℕ) (text whole : List ℕ) (all : NotesSaid) → None ≡ last_note text → 0 < most → cut_from most text all ≡ cut whole → record { rest = text; notes = all } ≡ cut whole
+cut_done zero text whole all e some so_far = absurd (omega (arith, some))
+cut_done (suc n) text whole all e some so_far = ap (cut_by (cut_from n) text all) e ∙ so_far
+
+pub cut_more : (most : ℕ) (text before whole : List ℕ) (all : NotesSaid) (n : NoteSaid) → Some (before , n) ≡ last_note text → 0 < most → cut_from most text all ≡ cut whole → cut_from (most - 1) before (with_note all n) ≡ cut whole
+cut_more zero text before whole all n e some so_far = absurd (omega (arith, some))
+cut_more (suc k) text before whole all n e some so_far = ap (λ m. cut_from m before (with_note all n)) (omega arith) ∙ ap (cut_by (cut_from k) text all) e ∙ so_far
 
 -- ---- the same lines with newlines and with blanks between
 

@@ -16,7 +16,7 @@ use Rattle.help_fronts.proofs.Boundaries.{before_class, behind_class}
 use Rattle.help_fronts.proofs.Stands.{options_stand_in_their_line}
 use Rattle.help_fronts.proofs.Texts.{all_within, dropped, nothing, taken, value_word_of, within}
 use Rattle.drafts.specs.Entries.{ends_front, front_len, value_name}
-use Rattle.drafts.specs.Free.{FreeSaid, Has, free_front, free_fronts, free_name, free_names, front_keys, fronts, fronts_by, is_free, line_fronts, next_text, none_taken, with_key, with_keys, with_names}
+use Rattle.drafts.specs.Free.{FreeSaid, Has, free_front, free_fronts, free_name, free_names, front_keys, fronts, fronts_by, is_free, line_fronts, next_text, none_taken, with_key, with_keys, keeps_value, valued, without_value}
 use Rattle.drafts.specs.Options.{either, is_long, is_short, key, letter_of, long_word, short_letter, word_of}
 use Rattle.drafts.specs.Laws.{IsOptionOf, OptionsStandInTheirLine, ValuesStandInTheirLine}
 use Rattle.drafts.proofs.Lists.{end_passes}
@@ -62,8 +62,16 @@ free_names_stand line has seen (n ∷ ns) all =
       by true = All-cons (IsTextOf line) n [] (All-head (IsTextOf line) n ns all) (All-nil (IsTextOf line))
       by false = All-nil (IsTextOf line)
 
-freed_stands : (line : List ℕ) (f : FrontSaid) (ns : List (List ℕ)) → All (IsTextOf line) ns → IsFrontOf line f → IsFrontOf line (with_names f ns)
-freed_stands line f ns names front = record { names = names; values = front.values; value = front.value; written = front.written; gap = front.gap; help = front.help }
+valued_stands : (line : List ℕ) (f : FrontSaid) (ns : List (List ℕ)) → IsFrontOf line f → IsFrontOf line (valued f ns)
+valued_stands line f ns front = by (keeps_value f ns) where
+  by : (t : Bool) → IsFrontOf line (cond t f (without_value f))
+  by true = front
+  by false = record { names = front.names; values = All-nil (IsTextOf line); value = tt; written = front.written; gap = front.gap; help = front.help }
+
+freed_stands : (line : List ℕ) (f : FrontSaid) (ns : List (List ℕ)) → All (IsTextOf line) ns → IsFrontOf line f → IsFrontOf line (record (valued f ns) { names = ns })
+freed_stands line f ns names front =
+    let rest = valued_stands line f ns front in
+    record { names = names; values = rest.values; value = rest.value; written = rest.written; gap = rest.gap; help = rest.help }
 
 letter_stands : (line n : List ℕ) → IsTextOf line n → IfSome (letter_of n) (IsTextOf line)
 letter_stands line n h = by (is_short n) where
@@ -100,7 +108,7 @@ free_fronts_stand line has seen (f ∷ fs) all =
     let front = All-head (IsFrontOf line) f fs all in
     let names = free_names has seen f.names in
     All-cons (λ f. IsOptionOf line f.front) (free_front has seen f) (free_fronts has (with_keys seen (front_keys f)) fs)
-    (option_stands line (with_names f names) (freed_stands line f names (free_names_stand line has seen f.names front.names) front))
+    (option_stands line (record (valued f names) { names = names }) (freed_stands line f names (free_names_stand line has seen f.names front.names) front))
     (free_fronts_stand line has (with_keys seen (front_keys f)) fs (All-tail (IsFrontOf line) f fs all))
 
 pub options_of_a_line_stand : OptionsStandInTheirLine

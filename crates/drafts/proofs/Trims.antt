@@ -20,7 +20,7 @@ record IsCutOf (cs ds : List ℕ) : Type 0 where
   blank_before : filter is_not_whitespace before ≡ []
   blank_after : filter is_not_whitespace after ≡ []
 
-left_out : (c : ℕ) (cs : List ℕ) → is_whitespace c ≡ true → filter is_not_whitespace cs ≡ [] → filter is_not_whitespace (c ∷ cs) ≡ []
+pub left_out : (c : ℕ) (cs : List ℕ) → is_whitespace c ≡ true → filter is_not_whitespace cs ≡ [] → filter is_not_whitespace (c ∷ cs) ≡ []
 left_out c cs e h = ap (λ b. cond (not b) (c ∷ filter is_not_whitespace cs) (filter is_not_whitespace cs)) e ∙ h
 
 front_cut : (cs : List ℕ) → IsCutOf cs (skip_leading_whitespace cs)

@@ -11,7 +11,7 @@ use Rattle.drafts.specs.Passages.{PassageSaid, is_blank, passages}
 use Rattle.drafts.specs.Options.{are_plain, long_word, short_letter}
 use Rattle.drafts.specs.Free.{Has, free_in, free_keys}
 use Rattle.drafts.specs.Entries.{ValueSaid, value_front, value_name}
-use Rattle.drafts.specs.Texts.{first_word, help_pieces, passage_pieces}
+use Rattle.drafts.specs.Texts.{first_word, passage_pieces}
 use Rattle.drafts.specs.Places.{PlacedSaid, is_empty, is_title, placed}
 use Rattle.drafts.specs.Usages.{FormSaid, first_form, further_form, last_part}
 use Rattle.drafts.specs.declared.places.Role.{Role}
@@ -120,8 +120,3 @@ piece_letters p = letters p.text
 abbrev pub TextsAreWhole : Type 0
 TextsAreWhole = (p : PassageSaid) → All IsUtf8 p.lines
     → flat_map piece_letters (passage_pieces p) ≡ flat_map letters p.lines
-
--- and those of a help have all letters of what stands behind the front, and of the lines below
-abbrev pub HelpsAreWhole : Type 0
-HelpsAreWhole = (first : List ℕ) (below : List (List ℕ)) → IsUtf8 first → All IsUtf8 below
-    → flat_map piece_letters (help_pieces first below) ≡ letters first ++ flat_map letters below

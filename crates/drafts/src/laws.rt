@@ -1,6 +1,6 @@
 //! Laws of drafts: nothing to call, but statements that the check proves.
 
-ghost use Rattle.drafts.specs.Laws.{EachHasAPlace, EachIsBelowItsTitle, EachIsPlaced, EachLineIsPlaced, HelpsAreWhole};
+ghost use Rattle.drafts.specs.Laws.{EachHasAPlace, EachIsBelowItsTitle, EachIsPlaced, EachLineIsPlaced};
 ghost use Rattle.drafts.specs.Laws.{NamesAreFree, NoNameIsLost, OptionsStandInTheirLine, PassagesFollow};
 ghost use Rattle.drafts.specs.Laws.{FormsStandInTheirLine, TextsAreWhole, ValuesStandInTheirLine};
 
@@ -69,8 +69,3 @@ pub fn texts_are_whole()
     ensures { TextsAreWhole }
 {}
 
-/// A help is written with all letters of what stands behind the front, and of the lines below.
-#[tactic(auto, using(crate::proofs::KeptLetters::helps_are_whole))]
-pub fn helps_are_whole()
-    ensures { HelpsAreWhole }
-{}
