@@ -13,7 +13,7 @@ const ROWS: &[(&str, &str)] = &[
     // a text next to the usage, one before the entries, and one below them
     (
         "usage: a\nOne.\n\nTwo \"\" \\.\n -x  more\n\nThree.\n\n  a   b\n",
-        "name = \"a\"\nabout = \"One.\"\nusage = \"a\"\nheader = \"Two \\\"\\\" \\\\.\"\nfooter = \"\"\"\nThree.\n\n      a   b\"\"\"\n\n[[option]]\nshort = \"x\"\nhelp = \"more\"\n",
+        "name = \"a\"\nabout = \"One.\"\nusage = \"a\"\nheader = \"Two \\\"\\\" \\\\.\"\nfooter = \"\"\"\nThree.\n\n    a   b\"\"\"\n\n[[option]]\nshort = \"x\"\nhelp = \"more\"\n",
     ),
     // a group with commands, one of them twice, and a topic
     (
@@ -57,7 +57,7 @@ const ROWS: &[(&str, &str)] = &[
     // a sentence, a text at the left edge below a topic, and letters of options in another order
     (
         "usage: a [-yx]\n\nMandatory arguments are mandatory.\n  -x  more\n  -y, --at=<k>[,..]  place\n\nExit status:\n 0  if OK,\n\nSee more.\n",
-        "name = \"a\"\nusage = \"a [-yx]\"\nheader = \"Mandatory arguments are mandatory.\"\nfooter = \"See more.\"\n\n[[option]]\nshort = \"x\"\nhelp = \"more\"\n\n[[option]]\nsyntax = \"-y, --at=<k>[,..]\"\nhelp = \"place\"\n\n[[topic]]\ntitle = \"Exit status\"\ntext = \"\"\"\n     0  if OK,\"\"\"\n",
+        "name = \"a\"\nusage = \"a [-yx]\"\nheader = \"Mandatory arguments are mandatory.\"\nfooter = \"See more.\"\n\n[[option]]\nshort = \"x\"\nhelp = \"more\"\n\n[[option]]\nsyntax = \"-y, --at=<k>[,..]\"\nhelp = \"place\"\n\n[[topic]]\ntitle = \"Exit status\"\ntext = \"\"\"\n    0  if OK,\"\"\"\n",
     ),
     // commands below a choice of them, under any title
     (
@@ -93,6 +93,21 @@ const ROWS: &[(&str, &str)] = &[
     (
         "usage: a\n  -q, --[no-]quiet   say less\n  -std=<x>\n",
         "name = \"a\"\nusage = \"a\"\n\n[[option]]\nsyntax = \"-q, --[no-]quiet\"\nhelp = \"say less\"\n\n[[option]]\nsyntax = \"-std=<x>\"\n",
+    ),
+    // notes at the end of helps, also over the end of a line; a flag has no default
+    (
+        "usage: a\n  --in FILE  read [default: x] [env: IN=y]\n  --as KIND  kind [possible\n             values: b, c]\n  -q  quiet (default: no)\n  --of N  count (default \"9\")\n  --by N  (default 9) so\n  --up N  (default 9)\n",
+        "name = \"a\"\nusage = \"a\"\n\n[[option]]\nlong = \"in\"\nvalue = \"FILE\"\nhelp = \"read\"\ndefault = \"x\"\nenv = \"IN\"\n\n[[option]]\nlong = \"as\"\nvalue = \"KIND\"\nhelp = \"kind\"\nvalues = [\"b\", \"c\"]\n\n[[option]]\nshort = \"q\"\nhelp = \"quiet (default: no)\"\n\n[[option]]\nlong = \"of\"\nvalue = \"N\"\nhelp = \"count\"\ndefault = \"9\"\n\n[[option]]\nlong = \"by\"\nvalue = \"N\"\nhelp = \"(default 9) so\"\n\n[[option]]\nlong = \"up\"\nvalue = \"N\"\ndefault = \"9\"\n",
+    ),
+    // notes that an entry may not have, or twice, stay in its help
+    (
+        "usage: a\n  --in N  one [default: 1] [default: 2]\n  -v  two [env: V]\n\ncommands:\n  go  three [env: G]\n\narguments:\n  FILE  four [default: 4]\n  DIR   five [env: D]\n",
+        "name = \"a\"\nusage = \"a\"\n\n[[option]]\nlong = \"in\"\nvalue = \"N\"\nhelp = \"one [default: 1] [default: 2]\"\n\n[[option]]\nshort = \"v\"\nhelp = \"two\"\nenv = \"V\"\n\n# commands:\n\n[[command]]\nname = \"go\"\nhelp = \"three [env: G]\"\n\n# arguments:\n\n[[positional]]\nvalue = \"FILE\"\nhelp = \"four\"\ndefault = \"4\"\nrequired = false\n\n[[positional]]\nvalue = \"DIR\"\nhelp = \"five [env: D]\"\nrequired = false\n",
+    ),
+    // a value goes with its name, and letters in brackets are no negation
+    (
+        "usage: a\n  --at N  where\n  -p, --at=there  place\n  --[dis]able  more\n  --able  less\n",
+        "name = \"a\"\nusage = \"a\"\n\n[[option]]\nlong = \"at\"\nvalue = \"N\"\nhelp = \"where\"\n\n[[option]]\n# left out: -p, --at=there\nshort = \"p\"\nhelp = \"place\"\n\n[[option]]\nsyntax = \"--[dis]able\"\nhelp = \"more\"\n\n[[option]]\nlong = \"able\"\nhelp = \"less\"\n",
     ),
 ];
 
@@ -165,8 +180,8 @@ fn is_made_in(
 
 // Whether it is there in some room, and not before with less of it.
 fn is_made_with_more(rt: &impl Abort, out: Global, row: &(&str, &str)) -> bool {
-    for step in 0..4096 {
-        if let Some(is_that) = is_made_in(rt, out, row.0, row.1, step * 8) {
+    for step in 0..1024 {
+        if let Some(is_that) = is_made_in(rt, out, row.0, row.1, step * 32) {
             return is_that && step > 0;
         }
     }
