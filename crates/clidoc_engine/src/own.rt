@@ -68,7 +68,7 @@ hint = "none"
 help = """
 Write lines of at most this many columns.
 
-`COLUMNS` is used if it is a number from 20 on. It goes with `usage`, `full` and `brief`."""
+The variable `COLUMNS` counts if it is a number from 20 on. It goes with `usage`, `full` and `brief`."""
 env = "COLUMNS"
 default = 100
 
@@ -163,8 +163,8 @@ On the terminal, of the description in `greet.toml`:
 
 The manual page of a command, and one page in markdown of all levels:
 
-    clidoc man --command=add --date=2026-11-28 greet.toml
-    clidoc markdown --deep greet.toml
+    clidoc man --command=add --date=2026-11-28 depot.toml
+    clidoc markdown --deep depot.toml
 
 A web page, and only what is inside its `<body>`:
 
