@@ -1,6 +1,6 @@
 -- What clones of labels leave of the places of the texts, and of the pieces that they show.
 use Rattle.std.specs.Prelude.{◌≡◌, ℕ, ◌+◌, ◌<◌, suc, Bool, IsTrue, List, [], ◌∷◌, ◌++◌, take, length, refl}
-use Rattle.std.proofs.Common.{ap, sym, ◌∙◌, append_assoc, append-nil, arith}
+use Rattle.std.proofs.Common.{ap, sym, ◌∙◌, append_assoc, arith}
 use Rattle.std.proofs.lemmas.List.{map-append}
 use Rattle.std.proofs.lemmas.List.Elements.{AllZip-push, same_from_all_zip}
 use Rattle.std.proofs.Math.Seq.{take-suc}
@@ -16,9 +16,6 @@ take-next : {X : Type 0} (xs : List X) (i : ℕ) (x : X) → i < length xs → x
 take-next xs i x within is = let e : i + 1 ≡ suc i = omega arith in rw e (take-suc xs i x within ∙ ap (λ y. take i xs ++ y ∷ []) (sym is))
 
 module _ {T : Type 0} (clones : T → T → Type 0) where
-  pub EndsInClones-none : (labels : List (Label T)) (by : ℕ) → EndsInClones clones labels [] by labels
-  EndsInClones-none labels by = record { copies = []; are_clones = tt; labels_then = sym (append-nil labels) }
-
   EndsInClones-push : (labels more : List (Label T)) (by : ℕ) (new : List (Label T)) (l : Label T) (t : T) → EndsInClones clones labels more by new → clones l.label t
       → EndsInClones clones labels (more ++ l ∷ []) by (new ++ record { end = by + l.end; label = t } ∷ [])
   EndsInClones-push labels more by new l t h c = record {

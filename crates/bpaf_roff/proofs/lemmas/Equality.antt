@@ -1,5 +1,5 @@
 -- What equality of monoids tells.
-use Rattle.std.specs.Prelude.{◌≡◌, ◌↔◌, ◌&&◌, Bool, true, false, List, [], ◌∷◌, IsTrue, nat_eq, refl}
+use Rattle.std.specs.Prelude.{◌≡◌, ◌↔◌, Bool, true, false, List, [], ◌∷◌, IsTrue, nat_eq, refl}
 use Rattle.std.specs.Bool.{beq}
 use Rattle.std.specs.List.{AllZip}
 use Rattle.std.specs.Cmp.{IsEquivalence}
@@ -8,14 +8,9 @@ use Rattle.std.proofs.Common.{sym, ap, subst, ◌∙◌, arith}
 use Rattle.bpaf_roff.specs.Pieces.{Piece, Labelled, no_pieces, sum_of}
 use Rattle.bpaf_roff.specs.Equality.{IsSamePiece, piece_eq, labelled_eq}
 use Rattle.bpaf_roff.specs.Steps.Order.{labelled_equiv}
+use Rattle.std.proofs.lemmas.Bool.{and_from, and_parts}
 use Rattle.std.proofs.lemmas.List.Elements.{same_from_all_zip}
 use Rattle.bpaf_roff.proofs.lemmas.Sums.{sum_of-none_right}
-
-both : (x y : Bool) → (x && y) ≡ true → (x ≡ true) × (y ≡ true)
-both x y h2 = grind arith
-
-join : (x y : Bool) → x ≡ true → y ≡ true → (x && y) ≡ true
-join x y h2 h3 = grind arith
 
 beq_tells : (x y : Bool) → (beq x y ≡ true → x ≡ y) × (x ≡ y → beq x y ≡ true)
 beq_tells x y = grind arith
@@ -23,8 +18,8 @@ beq_tells x y = grind arith
 module _ {L : Type 0} (eq : L → L → Bool) where
   piece_eq_tells : (p r : Piece L) → IsTrue (piece_eq eq p r) ↔ IsSamePiece eq p r
   piece_eq_tells p r = (
-    λ h. let parts = both (eq p.label r.label) (pointwise nat_eq p.text r.text) h in (parts.0, (bytes_decides p.text r.text).0 parts.1),
-    λ s. join (eq p.label r.label) (pointwise nat_eq p.text r.text) s.0 ((bytes_decides p.text r.text).1 s.1),
+    λ h. let parts = and_parts (eq p.label r.label) (pointwise nat_eq p.text r.text) h in (parts.0, (bytes_decides p.text r.text).0 parts.1),
+    λ s. and_from (eq p.label r.label) (pointwise nat_eq p.text r.text) s.0 ((bytes_decides p.text r.text).1 s.1),
   )
 
   pieces_eq_tells : (ps rs : List (Piece L)) → (IsTrue (pointwise (piece_eq eq) ps rs) → AllZip (IsSamePiece eq) ps rs) × (AllZip (IsSamePiece eq) ps rs → IsTrue (pointwise (piece_eq eq) ps rs))
@@ -32,14 +27,14 @@ module _ {L : Type 0} (eq : L → L → Bool) where
   pieces_eq_tells [] (r ∷ rs) = (λ h. absurd cc, λ h. absurd h)
   pieces_eq_tells (p ∷ ps) [] = (λ h. absurd cc, λ h. absurd h)
   pieces_eq_tells (p ∷ ps) (r ∷ rs) = (
-    λ h. let parts = both (piece_eq eq p r) (pointwise (piece_eq eq) ps rs) h in ((piece_eq_tells p r).0 parts.0, (pieces_eq_tells ps rs).0 parts.1),
-    λ h. join (piece_eq eq p r) (pointwise (piece_eq eq) ps rs) ((piece_eq_tells p r).1 h.0) ((pieces_eq_tells ps rs).1 h.1),
+    λ h. let parts = and_parts (piece_eq eq p r) (pointwise (piece_eq eq) ps rs) h in ((piece_eq_tells p r).0 parts.0, (pieces_eq_tells ps rs).0 parts.1),
+    λ h. and_from (piece_eq eq p r) (pointwise (piece_eq eq) ps rs) ((piece_eq_tells p r).1 h.0) ((pieces_eq_tells ps rs).1 h.1),
   )
 
   pub labelled_eq_tells : (m n : Labelled L) → IsTrue (labelled_eq eq m n) ↔ ((m.squash ≡ n.squash) × AllZip (IsSamePiece eq) m.pieces n.pieces)
   labelled_eq_tells m n = (
-    λ h. let parts = both (beq m.squash n.squash) (pointwise (piece_eq eq) m.pieces n.pieces) h in ((beq_tells m.squash n.squash).0 parts.0, (pieces_eq_tells m.pieces n.pieces).0 parts.1),
-    λ s. join (beq m.squash n.squash) (pointwise (piece_eq eq) m.pieces n.pieces) ((beq_tells m.squash n.squash).1 s.0) ((pieces_eq_tells m.pieces n.pieces).1 s.1),
+    λ h. let parts = and_parts (beq m.squash n.squash) (pointwise (piece_eq eq) m.pieces n.pieces) h in ((beq_tells m.squash n.squash).0 parts.0, (pieces_eq_tells m.pieces n.pieces).0 parts.1),
+    λ s. and_from (beq m.squash n.squash) (pointwise (piece_eq eq) m.pieces n.pieces) ((beq_tells m.squash n.squash).1 s.0) ((pieces_eq_tells m.pieces n.pieces).1 s.1),
   )
 
   module _ (exact : (x y : L) → IsTrue (eq x y) ↔ (x ≡ y)) where

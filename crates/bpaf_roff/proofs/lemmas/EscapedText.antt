@@ -1,10 +1,10 @@
 -- What pieces of text are escaped to is text.
-use Rattle.std.specs.Prelude.{◌≡◌, ℕ, Bool, true, List, [], ◌∷◌, ◌++◌, ◌<◌, ◌≤◌, map, IsUtf8, IsAscii, suc, ◌&&◌, refl}
+use Rattle.std.specs.Prelude.{◌≡◌, ℕ, true, List, [], ◌∷◌, ◌++◌, ◌<◌, ◌≤◌, map, IsUtf8, IsAscii, suc, refl}
 use Rattle.std.specs.List.{AllByRecursion}
 use Rattle.std.specs.Char.{IsScalar}
 use Rattle.std.proofs.Common.{inl, inr, ap, append_assoc, arith}
 use Rattle.std.proofs.lemmas.List.{append-nil, map-append}
-use Rattle.std.proofs.lemmas.Bool.{ne_eqb, le-ltb, cases_lt}
+use Rattle.std.proofs.lemmas.Bool.{and_parts, ne_eqb, le-ltb, cases_lt}
 use lib.Utf8.{encode, encodes, scalar, scalars}
 use Rattle.std.proofs.lemmas.Str.{IsUtf8-append, IsUtf8-nil, IsUtf8-from_ascii, IsUtf8-encode, encode_ascii}
 use Rattle.bpaf_roff.specs.Pieces.{Piece}
@@ -67,12 +67,9 @@ high_encode c h = grind (arith, le-ltb)
 char_text : (q : Apostrophes) (label : Escape) (c : ℕ) → IsScalar c → (before : List ℕ) → IsUtf8 (text_after q before (map (Byte label) (encode c)))
 char_text q label c h before = elim (cases_lt c 128) [ inl low ↦ rw (encode_ascii c low, append-nil (byte_text q before label c)) (IsUtf8-from_ascii _ (Low-IsAscii _ (low_byte q before label c low))) | inr high ↦ rw (high_text q label (encode c) before (high_encode c high)) (IsUtf8-encode c h) ]
 
-pub both : (x y : Bool) → (x && y) ≡ true → (x ≡ true) × (y ≡ true)
-both x y h2 = grind arith
-
 chars_text : (q : Apostrophes) (label : Escape) (cs : List ℕ) → scalars cs ≡ true → (before : List ℕ) → IsUtf8 (text_after q before (map (Byte label) (encodes cs)))
 chars_text q label [] h before = IsUtf8-nil
-chars_text q label (c ∷ cs) h before = let parts = both (scalar c) (scalars cs) h in rw (map-append (Byte label) (encode c) (encodes cs), text_after-append q before (map (Byte label) (encode c)) (map (Byte label) (encodes cs))) (IsUtf8-append (text_after q before (map (Byte label) (encode c))) _ (char_text q label c parts.0 before) (chars_text q label cs parts.1 (before ++ text_after q before (map (Byte label) (encode c)))))
+chars_text q label (c ∷ cs) h before = let parts = and_parts (scalar c) (scalars cs) h in rw (map-append (Byte label) (encode c) (encodes cs), text_after-append q before (map (Byte label) (encode c)) (map (Byte label) (encodes cs))) (IsUtf8-append (text_after q before (map (Byte label) (encode c))) _ (char_text q label c parts.0 before) (chars_text q label cs parts.1 (before ++ text_after q before (map (Byte label) (encode c)))))
 
 break_text : (q : Apostrophes) (label : Escape) (before : List ℕ) → IsUtf8 (text_after q before (breaks label))
 break_text q label before = grind (arith, IsUtf8-from_ascii, Low-IsAscii, IsUtf8-nil)

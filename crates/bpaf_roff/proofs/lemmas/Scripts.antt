@@ -1,10 +1,9 @@
 -- What pieces put last leave of a script.
-use Rattle.std.proofs.Common.{◌≡◌, Bool, false, List, ℕ, [], ◌∷◌, ◌++◌, map, ap, refl, arith, append_assoc, take_all}
+use Rattle.std.proofs.Common.{◌≡◌, Bool, false, List, ℕ, [], ◌∷◌, ◌++◌, map, ap, refl, arith, append_assoc}
 use Rattle.std.proofs.lemmas.Iterator.{items_from_drains}
 use Rattle.std.proofs.lemmas.Iterator.Consumers.{YieldsList-from_first}
 use Rattle.std.specs.Borrow.{Bor}
 use Rattle.std.specs.Iterator.{Drains, YieldsFirstBy}
-use Rattle.std.proofs.lemmas.List.{take-append-le}
 use Rattle.bpaf_roff.specs.Pieces.{Piece, Labelled, pieces_after_push, with_text, piece_at}
 use Rattle.bpaf_roff.specs.Roff.{Script, with_pieces, piece, scripts_sum, script_sum}
 use Rattle.bpaf_roff.specs.Steps.Output.{OnlyAdds}
@@ -25,9 +24,6 @@ script_of-with_text eq m strip label text off = rw off (ap (λ ps. record { piec
 
 pub with_pieces-with_pieces : (s : Script) (ps qs : List (Piece Escape)) → with_pieces (with_pieces s ps) qs ≡ with_pieces s (ps ++ qs)
 with_pieces-with_pieces s ps qs = ap (λ rs. record s { pieces = rs }) (append_assoc s.pieces ps qs)
-
-pub only_adds : (old new : Script) (more : List (Piece Escape)) → new ≡ with_pieces old more → OnlyAdds old new
-only_adds old new more is = grind (arith, take-append-le, take_all)
 
 pub only_adds_later : (old now new : Script) (more : List (Piece Escape)) → now ≡ with_pieces old more → OnlyAdds now new → OnlyAdds old new
 only_adds_later old now new more is later = grind (arith, KeepsFront-later)
