@@ -11,4 +11,3 @@ pub mod Written
 pub mod Staying
 pub mod Texts
 pub mod Scripts
-mod Rows
