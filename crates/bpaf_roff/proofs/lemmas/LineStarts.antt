@@ -1,7 +1,6 @@
 -- Where the output is at a line start.
 use Rattle.std.specs.Prelude.{◌≡◌, ◌≢◌, ℕ, Bool, true, false, List, [], ◌∷◌, ◌++◌, ◌==◌, ◌||◌, ◌⊎◌, codes, if◌then◌else◌, refl}
-use Rattle.std.proofs.Common.{inl, inr, ap, ◌∙◌, sym, append_assoc, arith}
-use Rattle.std.proofs.lemmas.List.{append-nil}
+use Rattle.std.proofs.Common.{inl, inr, ap, ◌∙◌, sym, append_assoc, arith, append-nil}
 use Rattle.std.proofs.lemmas.Bool.Decides.{eqb_tells}
 use Rattle.bpaf_roff.specs.Pieces.{Piece}
 use Rattle.bpaf_roff.specs.Escaping.{newline, is_line_start, newline_as_blank, guard, special_text, spaces_text, apostrophe_text, byte_text, Sign, signs, signs_of, sign_text, text_after}

@@ -1,7 +1,6 @@
 -- Bytes that are written as they are.
-use Rattle.std.specs.Prelude.{◌≡◌, ◌⊎◌, ℕ, Bool, true, List, [], ◌∷◌, refl}
 use Rattle.std.specs.List.{list_all}
-use Rattle.std.proofs.Common.{inl, inr, arith}
+use Rattle.std.proofs.Common.{inl, inr, arith, ◌≡◌, ◌⊎◌, ℕ, Bool, true, List, [], ◌∷◌, refl}
 use Rattle.std.proofs.lemmas.Bool.{and_parts}
 use Rattle.bpaf_roff.specs.Escaping.{byte_text}
 use Rattle.bpaf_roff.specs.Steps.Output.{StayUnder, is_plain}

@@ -1,7 +1,5 @@
 -- The laws of sums.
-use Rattle.std.specs.Prelude.{◌≡◌, refl, Bool, List, ℕ, [], ◌∷◌, ◌++◌}
-use Rattle.std.proofs.Common.{ap, append_assoc}
-use Rattle.std.proofs.lemmas.List.{append-nil}
+use Rattle.std.proofs.Common.{ap, append_assoc, append-nil, ◌≡◌, refl, Bool, List, ℕ, [], ◌∷◌, ◌++◌}
 use Rattle.bpaf_roff.specs.Pieces.{Labelled, no_pieces, sum_of, with_text, with_texts}
 
 pub sum_of_assoc : {L : Type 0} (a b c : Labelled L) → sum_of (sum_of a b) c ≡ sum_of a (sum_of b c)

@@ -1,6 +1,5 @@
 -- What a block of bytes becomes under its label, and whether a line starts behind it.
-use Rattle.std.specs.Prelude.{◌≡◌, ℕ, Bool, List, [], ◌∷◌, ◌++◌, map, flat_map, refl}
-use Rattle.std.proofs.Common.{ap, ◌∙◌, append_assoc, arith}
+use Rattle.std.proofs.Common.{ap, ◌∙◌, append_assoc, arith, ◌≡◌, ℕ, Bool, List, [], ◌∷◌, ◌++◌, map, flat_map, refl}
 use Rattle.std.proofs.lemmas.List.{map-append}
 use Rattle.bpaf_roff.specs.Escaping.{Byte, is_line_start, spaces_text, byte_text, text_after}
 use Rattle.bpaf_roff.specs.Steps.Output.{written}

@@ -69,9 +69,6 @@ AreEnds-append start (e ∷ es) fs rest more are also = grind (arith, AreEnds-ap
 take_none : (n : ℕ) → take n (let none : List ℕ = [] in none) ≡ []
 take_none n = take_all n [] (omega arith)
 
-empty_is_end : (k : Kind) (end : ℕ) → MayTake k 0 → IsEnd end (record { kind = k; end = end }) []
-empty_is_end k end may = grind arith
-
 module _ (start : ℕ) (es : List PartEnd) (rest : List ℕ) (k : Kind) where
   -- behind the other ends
   abbrev empty_end : PartEnd
@@ -83,7 +80,7 @@ module _ (start : ℕ) (es : List PartEnd) (rest : List ℕ) (k : Kind) where
   pub AreEnds-push_empty : AreEnds start es rest → AreEnds start (es ++ empty_end ∷ []) rest
   AreEnds-push_empty are =
       subst (λ bytes. AreEnds start (es ++ empty_end ∷ []) bytes) (append-nil rest)
-      (AreEnds-append start es (empty_end ∷ []) rest [] are (empty_is_end k (start + length rest) (grind arith), drop_none (start + length rest - (start + length rest)))) where
+      (AreEnds-append start es (empty_end ∷ []) rest [] are (grind arith, drop_none (start + length rest - (start + length rest)))) where
         drop_none : (n : ℕ) → drop n (let none : List ℕ = [] in none) ≡ []
         drop_none n = drop_all n [] (omega arith)
 

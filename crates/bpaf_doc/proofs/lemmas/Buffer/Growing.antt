@@ -1,6 +1,5 @@
 -- A document that grows by one write after another.
-use Rattle.std.proofs.Common.{arith, ◌≡◌, List, ◌++◌, sym, ap, ◌∙◌, Result}
-use Rattle.std.specs.Prelude.{OnErr, OnOk}
+use Rattle.std.proofs.Common.{arith, ◌≡◌, List, ◌++◌, sym, ap, ◌∙◌, Result, OnErr, OnOk}
 use Rattle.std.proofs.lemmas.List.Sums.{fold-append}
 use Rattle.bpaf_doc.specs.Buffer.Growth.{Grows, IsCheckpointOf, Reached, RollsBack}
 use Rattle.bpaf_doc.specs.Buffer.Parts.{Part, IsWellNested}

@@ -1,5 +1,5 @@
 -- The first newline of a text.
-use Rattle.std.proofs.Common.{◌≡◌, ℕ, suc, ◌+◌, ◌<◌, Bool, true, false, not, cond, ◌||◌, List, [], ◌∷◌, length, refl, arith, Option, Some, None}
+use Rattle.std.proofs.Common.{◌≡◌, ℕ, ◌<◌, Bool, true, false, List, [], ◌∷◌, length, refl, arith, Option, Some, None}
 use Rattle.std.specs.Prelude.{MatchOption}
 use Rattle.std.specs.Borrow.{Bor}
 use Rattle.std.specs.List.{list_any, position_or_len}
@@ -7,24 +7,16 @@ use Rattle.std.proofs.lemmas.Str.Pattern.{IsSplitOnceResult, split_once_first}
 use Rattle.bpaf_doc.specs.Buffer.FirstLine.{IsSplitLine}
 use Rattle.bpaf_doc.specs.Buffer.Writes.{is_newline}
 
--- at a first element: whether it passes, how many fail before one of the others passes, how many others there are, and whether one of
--- them passes
-none_here : (here : Bool) (failing others : ℕ) (more : Bool) → cond (not here) (1 + failing) 0 ≡ suc others → (failing ≡ others → more ≡ false) → (here || more) ≡ false
-none_here here failing others more is rest = grind arith
-
-some_here : (here : Bool) (failing others : ℕ) (more : Bool) → cond (not here) (1 + failing) 0 < suc others → (failing < others → more ≡ true) → (here || more) ≡ true
-some_here here failing others more is rest = grind arith
-
 module _ (p : ℕ → Bool) where
   -- none passes where the search ran to the end
   none_passes : (xs : List ℕ) → position_or_len p xs ≡ length xs → list_any p xs ≡ false
   none_passes [] is = refl
-  none_passes (x ∷ xs) is = none_here (p x) (position_or_len p xs) (length xs) (list_any p xs) is (none_passes xs)
+  none_passes (x ∷ xs) is = grind (arith, none_passes xs)
 
   -- and some where it stopped before
   some_passes : (xs : List ℕ) → position_or_len p xs < length xs → list_any p xs ≡ true
   some_passes [] is = absurd (omega arith)
-  some_passes (x ∷ xs) is = some_here (p x) (position_or_len p xs) (length xs) (list_any p xs) is (some_passes xs)
+  some_passes (x ∷ xs) is = grind (arith, some_passes xs)
 
 pub split_line-from : (text : List ℕ) (r : Option (Bor (List ℕ) × Bor (List ℕ))) → IsSplitOnceResult 10 text r
     → MatchOption r (list_any is_newline text ≡ false) (λ lines. IsSplitLine text lines.0.now lines.1.now)

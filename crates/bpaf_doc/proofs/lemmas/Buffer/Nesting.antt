@@ -11,7 +11,7 @@ use Rattle.bpaf_doc.specs.declared.buffer.Block.TheVariants as block
 use Rattle.bpaf_doc.specs.Buffer.FirstLine.{leading_texts}
 use Rattle.bpaf_doc.specs.Buffer.Parts.{Part, Text, Start, End, IsWellNested, nothing, text, enclosed, joined}
 use Rattle.bpaf_doc.specs.Buffer.Writes as write
-use Rattle.bpaf_doc.specs.Buffer.Writes.{Write, document_of, emphasis, inside, is_newline, pair_write, part_then_text, path_writes, plain, same_style, title_writes, titled, with_text, with_write, with_writes}
+use Rattle.bpaf_doc.specs.Buffer.Writes.{Write, document_of, emphasis, inside, is_newline, pair_write, path_writes, plain, same_style, title_writes, titled, with_text, with_write, with_writes}
 use Rattle.std.proofs.lemmas.Str.{IsUtf8-encode}
 use Rattle.bpaf_doc.proofs.lemmas.Buffer.Ends.{AreEnds-with_text_end, parts_from-with_text_end}
 use Rattle.bpaf_doc.proofs.lemmas.Buffer.Growing.{settled_nested}
@@ -83,12 +83,9 @@ IsWellNested-title bytes others nested = either (list_any is_newline bytes) wher
       (text_and_others (after_first is_newline bytes) style.Text others nested)
   either false = text_and_others bytes style.Emphasis others nested
 
-IsWellNested-titled : (d : List Part) → IsWellNested d → IsWellNested (document_of (titled d))
-IsWellNested-titled (Text bytes style.Text ∷ others) nested = IsWellNested-title bytes others (IsWellNested-behind_text nested bytes style.Text others refl)
-IsWellNested-titled _ nested = nested
-
 pub IsWellNested-em_doc : (ps d : List Part) → IsWellNested ps → IsWellNested d → IsWellNested (with_writes ps (inside block.InlineBlock (titled d)))
-IsWellNested-em_doc ps d nested also = IsWellNested-inside block.InlineBlock ps (titled d) nested (IsWellNested-titled d also)
+IsWellNested-em_doc ps d nested also =
+    IsWellNested-inside block.InlineBlock ps (titled d) nested (grind (arith, IsWellNested-title, IsWellNested-behind_text))
 
 pub IsWellNested-path : (names : List (List ℕ)) (ps : List Part) → IsWellNested ps → IsWellNested (with_writes ps (path_writes names))
 IsWellNested-path [] ps nested = nested

@@ -1,11 +1,9 @@
 -- What was written is taken off again.
-use Rattle.std.proofs.Common.{◌≡◌, ℕ, ◌+◌, ◌-◌, ◌≤◌, true, List, [], ◌∷◌, ◌++◌, length, take, drop, sym, refl, ap, ◌∙◌, arith, rules, length-append, length-drop, length-take, append_assoc, append-nil, subst}
+use Rattle.std.proofs.Common.{◌≡◌, ℕ, ◌+◌, ◌-◌, ◌≤◌, List, [], ◌∷◌, ◌++◌, length, take, drop, sym, refl, ap, ◌∙◌, arith, length-append, length-drop, length-take, append_assoc, append-nil, subst}
 use Rattle.std.specs.Str.{IsUtf8}
 use Rattle.std.proofs.lemmas.List.{drop-take, drop_all, length-take-le, take-take, take_at}
 use Rattle.std.proofs.lemmas.List.Elements.{All-head, All-tail}
-use denote.Enum.Bare.{same_true}
 use Rattle.bpaf_doc.specs.declared.buffer.Style.{Style}
-use Rattle.bpaf_doc.specs.contracts.buffer.Style.{the_type}
 use Rattle.bpaf_doc.specs.declared.buffer.Kind.{Kind}
 use Rattle.bpaf_doc.specs.declared.buffer.Kind.TheVariants as kind
 use Rattle.bpaf_doc.specs.declared.buffer.PartEnd.{PartEnd}
@@ -13,7 +11,7 @@ use Rattle.bpaf_doc.specs.Buffer.Steps.Ends.{AreEnds, IsEnd, MayTake, part_with,
 use Rattle.bpaf_doc.specs.Buffer.Growth.{Grows, Reached, IsCheckpointOf}
 use Rattle.bpaf_doc.specs.Buffer.Parts.{Part, Text, Start, End, HasUtf8Texts, document_bytes, part_bytes}
 use Rattle.bpaf_doc.specs.Buffer.Writes as write
-use Rattle.bpaf_doc.specs.Buffer.Writes.{Write, part_then_text, same_style, with_text, with_write, with_writes}
+use Rattle.bpaf_doc.specs.Buffer.Writes.{Write, with_text, with_write, with_writes}
 
 -- a part now is the part before, or a text that became longer
 IsLonger : Part → Part → Type 0
@@ -40,34 +38,23 @@ Extends-append : (ps qs rs : List Part) → Extends ps qs → Extends ps (qs ++ 
 Extends-append (p ∷ p' ∷ ps) (q ∷ qs) rs h = (h.0, Extends-append (p' ∷ ps) qs rs h.1)
 Extends-append x y rs h = grind arith
 
-same_style-is : (a b : Style) → same_style a b ≡ true → a ≡ b
-same_style-is a b same = same_true the_type (search rules) a b same
-
 -- a longer part stays longer as a text joins it
 longer_still : (p : Part) (before bytes : List ℕ) (style : Style) → IsLonger p (Text before style) → IsLonger p (Text (before ++ bytes) style)
 unfolding IsLonger
 longer_still p before bytes style h = grind (arith, append_assoc)
 
-Extends-part_then_text : (p q : Part) (bytes : List ℕ) (style : Style) → IsLonger p q → Extends (p ∷ []) (part_then_text q bytes style)
-Extends-part_then_text p q bytes style h1 = grind (arith, same_style-is, longer_still)
-
 Extends-with_text : (ps qs : List Part) (bytes : List ℕ) (style : Style) → Extends ps qs → Extends ps (with_text qs bytes style)
 Extends-with_text [] qs bytes style h = tt
 Extends-with_text (p ∷ ps) [] bytes style h = absurd h
-Extends-with_text (p ∷ []) (q ∷ []) bytes style h = Extends-part_then_text p q bytes style h
+Extends-with_text (p ∷ []) (q ∷ []) bytes style h = grind (arith, longer_still)
 Extends-with_text (p ∷ []) (q ∷ r ∷ qs) bytes style h = h
 Extends-with_text (p ∷ p' ∷ ps) (q ∷ []) bytes style h = absurd h.1
 Extends-with_text (p ∷ p' ∷ ps) (q ∷ r ∷ qs) bytes style h = (h.0, Extends-with_text (p' ∷ ps) (r ∷ qs) bytes style h.1)
 
-Extends-with_write : (ps qs : List Part) (w : Write) → Extends ps qs → Extends ps (with_write qs w)
-Extends-with_write ps qs (write.text bytes style) h = Extends-with_text ps qs bytes style h
-Extends-with_write ps qs (write.start b) h = Extends-append ps qs (Start b ∷ []) h
-Extends-with_write ps qs (write.end b) h = Extends-append ps qs (End b ∷ []) h
-Extends-with_write ps qs (write.parts rs) h = Extends-append ps qs rs h
-
 Extends-with_writes : (ps qs : List Part) (ws : List Write) → Extends ps qs → Extends ps (with_writes qs ws)
 Extends-with_writes ps qs [] h = h
-Extends-with_writes ps qs (w ∷ ws) h = Extends-with_writes ps (with_write qs w) ws (Extends-with_write ps qs w h)
+Extends-with_writes ps qs (w ∷ ws) h =
+    Extends-with_writes ps (with_write qs w) ws (grind (arith, Extends-with_text, Extends-append))
 
 Extends-Grows : (ps qs : List Part) → Grows ps qs → Extends ps qs
 Extends-Grows ps qs (ws, is) = subst (λ rs. Extends ps rs) (sym is) (Extends-with_writes ps ps ws (Extends-refl ps))

@@ -1,10 +1,7 @@
 -- A code line that comes to a line past the width.
-use Rattle.std.specs.Prelude.{◌≡◌, ℕ, ◌<◌, false, List, [], ◌∷◌, length}
 use Rattle.std.specs.Str.{bytes_eq}
-use Rattle.std.proofs.Common.{arith}
-use Rattle.std.proofs.lemmas.Bool.{lt-ltb}
+use Rattle.std.proofs.Common.{arith, lt-ltb, length-append, ◌≡◌, ℕ, ◌<◌, false, List, [], ◌∷◌, length}
 use Rattle.std.proofs.lemmas.Bool.Decides.{nat_tests}
-use Rattle.std.proofs.lemmas.List.{length-append}
 use Rattle.std.proofs.Math.Bool.{and-false}
 use Rattle.bpaf_doc.specs.Console.Steps.Page.{Sheet, IsPastLine, code_put, margin_of, on, raw_put}
 use Rattle.bpaf_doc.proofs.lemmas.Console.Runs.{page_at}

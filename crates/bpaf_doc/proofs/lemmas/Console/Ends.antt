@@ -1,9 +1,8 @@
 -- A text that ends in a printable ASCII character has no White_Space at its end.
 use Rattle.std.proofs.lemmas.Grind.{common_steps}
-use Rattle.std.specs.Prelude.{◌≡◌, ℕ, ◌<◌, true, false, List, [], ◌∷◌, ◌++◌, refl, filter, IsUtf8}
 use Rattle.std.specs.Char.{is_ascii_graphic, is_whitespace, is_not_whitespace}
 use Rattle.std.specs.Str.{chars, trim_end}
-use Rattle.std.proofs.Common.{ap, arith, ◌∙◌}
+use Rattle.std.proofs.Common.{ap, arith, ◌∙◌, ◌≡◌, ℕ, ◌<◌, true, false, List, [], ◌∷◌, ◌++◌, refl, filter, IsUtf8}
 use Rattle.std.proofs.lemmas.Bool.Decides.{nat_tests}
 use Rattle.std.proofs.lemmas.Str.{chars-IsAscii, encodes-chars, IsUtf8-from_ascii, IsUtf8-string_bytes, encode_ascii}
 use Rattle.bpaf_doc.specs.Buffer.Parts.{ink}

@@ -1,32 +1,23 @@
 -- The ink of what a console shows in full, part by part.
-use Rattle.std.specs.Prelude.{◌≡◌, ℕ, ◌+◌, true, false, List, [], ◌∷◌, ◌++◌, refl, take, flat_map}
 use Rattle.std.specs.List.{enumerate_from, list_any}
 use Rattle.std.specs.Str.{IsUtf8}
-use Rattle.std.proofs.Common.{◌∙◌, ap, arith}
+use Rattle.std.proofs.Common.{◌∙◌, ap, arith, ◌≡◌, ℕ, ◌+◌, true, false, List, [], ◌∷◌, ◌++◌, refl, take, flat_map}
 use Rattle.std.proofs.lemmas.List.Elements.{All-head, All-tail}
-use Rattle.bpaf_doc.specs.Buffer.Parts.{Part, Text, Start, End, part_bytes, part_ink, HasUtf8Texts}
+use Rattle.bpaf_doc.specs.Buffer.Parts.{Part, part_bytes, part_ink, HasUtf8Texts}
 use Rattle.bpaf_doc.specs.Shown.{shown_part_ink}
 use Rattle.bpaf_doc.specs.Console.Ink.{backquoted_part_ink, is_term_mark, FullInkIsBackquotedInk, FullInkIsDocumentInk}
 use Rattle.bpaf_doc.proofs.lemmas.Splitter.Facts.{ink_of_chunks}
-
-part_in_full : (before : List Part) (part : Part) → IsUtf8 (part_bytes part) → shown_part_ink true before part ≡ backquoted_part_ink part
-part_in_full before (Text bytes style) u = ink_of_chunks bytes u
-part_in_full before (Start b) u = refl
-part_in_full before (End b) u = refl
 
 parts_in_full : (document parts : List Part) (k : ℕ) → HasUtf8Texts parts
     → flat_map (λ (k, part). shown_part_ink true (take k document) part) (enumerate_from k parts) ≡ flat_map backquoted_part_ink parts
 parts_in_full document [] k u = refl
 parts_in_full document (part ∷ parts) k u =
-    ap (λ front. front ++ flat_map (λ (k, part). shown_part_ink true (take k document) part) (enumerate_from (k + 1) parts)) (part_in_full (take k document) part (All-head (λ p. IsUtf8 (part_bytes p)) part parts u))
+    ap (λ front. front ++ flat_map (λ (k, part). shown_part_ink true (take k document) part) (enumerate_from (k + 1) parts)) (grind (arith, ink_of_chunks, All-head (λ p. IsUtf8 (part_bytes p)) part parts u))
     ∙ ap (λ more. backquoted_part_ink part ++ more) (parts_in_full document parts (k + 1) (All-tail (λ p. IsUtf8 (part_bytes p)) part parts u))
-
-unmarked_part : (part : Part) → is_term_mark part ≡ false → backquoted_part_ink part ≡ part_ink part
-unmarked_part part h = grind arith
 
 unmarked_parts : (parts : List Part) → list_any is_term_mark parts ≡ false → flat_map backquoted_part_ink parts ≡ flat_map part_ink parts
 unmarked_parts [] h = refl
-unmarked_parts (part ∷ parts) h = grind (arith, unmarked_part, unmarked_parts parts)
+unmarked_parts (part ∷ parts) h = grind (arith, part_ink, unmarked_parts parts)
 
 pub backquoted : FullInkIsBackquotedInk
 backquoted document u = parts_in_full document document 0 u

@@ -1,8 +1,6 @@
 -- A page that grows by the rules of the console is a layout of its document.
 pub mod State
 pub mod Back
-pub mod Columns
-pub mod Text
 pub mod Margin
 pub mod Bound
 pub mod Pads

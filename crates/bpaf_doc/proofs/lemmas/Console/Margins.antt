@@ -9,7 +9,7 @@ use Rattle.bpaf_doc.specs.declared.buffer.Style.{Style}
 use Rattle.bpaf_doc.specs.Buffer.Parts.{Part, Text, End}
 use Rattle.bpaf_doc.specs.Shown.{stays_open}
 use Rattle.bpaf_doc.proofs.lemmas.Lists.Opening.{closed, stays_open_is}
-use Rattle.bpaf_doc.specs.Console.Margin.{greatest, is_skipped, term_lengths, tab_stop, Shift, Indent, Outdent, Level, part_shift, shifts, is_indent, is_outdent, indent, indents_in_force, margin, greatest_margin}
+use Rattle.bpaf_doc.specs.Console.Margin.{greatest, is_skipped, term_lengths, tab_stop, Shift, Indent, Outdent, Level, part_shift, shifts, is_indent, is_outdent, indents_in_force, margin, greatest_margin}
 
 -- ---- the stack, newest first
 
@@ -51,13 +51,10 @@ open_is ss = grind (arith, stays_open_is)
 
 -- ---- the top of the stack
 
-popped_at : (stack : List ℕ) (k : ℕ) → get_or (popped stack) k 0 ≡ get_or stack (suc k) 0
-popped_at stack k = grind arith
-
 -- Entry by entry: where shifts take k entries away, the top is the entry below these and the indents in force since.
 top_after : (ss : List Shift) (stack : List ℕ) → top (stack_after ss stack) ≡ get_or stack (taken ss) 0 + indents_in_force ss
 top_after [] stack = (grind arith) ∙ sym (add-zero (get_or stack 0 0))
-top_after (x ∷ ss) stack = grind (arith, top_after ss, open_is, nat_tests, popped_at, add-one)
+top_after (x ∷ ss) stack = grind (arith, top_after ss, open_is, nat_tests, add-one)
 
 -- from an empty stack on it is the sum of the indents in force
 pub top-stack_after : (ss : List Shift) → top (stack_after ss []) ≡ indents_in_force ss
@@ -68,9 +65,6 @@ pub top-margin : (document : List Part) (j : ℕ) → top (stack_at document (j 
 top-margin document j = top-stack_after (take (j + 1) (shifts document))
 
 -- ---- one part after another
-
-pub stack_at-none : (document : List Part) → stack_at document 0 ≡ []
-stack_at-none document = refl
 
 stack_after-append : (ss ts : List Shift) (stack : List ℕ) → stack_after (ss ++ ts) stack ≡ stack_after ts (stack_after ss stack)
 stack_after-append [] ts stack = refl
@@ -113,10 +107,6 @@ module _ (document : List Part) (j : ℕ) (part : Part) (rest : List Part) (here
   pub margin-indent : (n : ℕ) → shift_at document j part ≡ Indent n → margin document j ≡ top (stack_at document j) + n
   margin-indent n e = margin_here ∙ ap (λ s. top (shifted s (stack_at document j))) e
 
-  -- and does not grow at a block end
-  pub margin-outdent : shift_at document j part ≡ Outdent → margin document j ≤ top (stack_at document j)
-  margin-outdent e = grind (arith, margin_here, falls_after)
-
 -- which shift a part has
 pub shift_at-skipped : (document : List Part) (j : ℕ) (part : Part) → is_skipped document j ≡ true → shift_at document j part ≡ Level
 shift_at-skipped document j part e = rw e refl
@@ -129,7 +119,8 @@ shift_at-text document j bytes style = grind arith
 
 -- a block end never raises the margin, skipped or not
 pub margin-end : (document : List Part) (j : ℕ) (b : Block) (rest : List Part) → drop j document ≡ End b ∷ rest → margin document j ≤ top (stack_at document j)
-margin-end document j b rest here = grind (arith, margin-level, shift_at-skipped, margin-outdent, shift_at-shown)
+margin-end document j b rest here =
+    grind (arith, margin-level, shift_at-skipped, margin_here, falls_after, shift_at-shown)
 
 -- ---- bounds
 
@@ -140,11 +131,8 @@ greatest_le most (n ∷ ns) a l = grind (arith, greatest_le most ns, nat_tests)
 pub tab_stop-le : (document : List Part) → tab_stop document ≤ 28
 tab_stop-le document = let l : greatest (filter (λ n. nat_le n 24) (term_lengths document)) ≤ 24 = greatest_le 24 (term_lengths document) 0 (omega arith) in omega arith
 
-pub indent-le : (document : List Part) (j : ℕ) (part : Part) → indent (shift_at document j part) ≤ 30
-indent-le document j part = grind (arith, tab_stop-le)
-
 in_force-le : (document : List Part) (j k : ℕ) (parts : List Part) → indents_in_force (take j (map (λ (i, part). shift_at document i part) (enumerate_from k parts))) ≤ 30 * j
-in_force-le document (suc j) k (part ∷ parts) = grind (arith, in_force-le document j (k + 1) parts, indent-le)
+in_force-le document (suc j) k (part ∷ parts) = grind (arith, in_force-le document j (k + 1) parts, tab_stop-le)
 in_force-le document x k y = grind arith
 
 pub margin-le : (document : List Part) (j : ℕ) → margin document j ≤ 30 * (j + 1)

@@ -1,8 +1,7 @@
 -- What is remembered of empty Block pairs tells of each mark whether it is skipped.
 use Rattle.std.specs.Prelude.{◌≡◌, ℕ, suc, ◌+◌, ◌-◌, ◌^◌, ◌<◌, ◌≤◌, min, Bool, true, false, ◌&&◌, ◌||◌, ◌==◌, ◌⊎◌, IsTrue, ◌↔◌, List, [], ◌∷◌, Some, length, refl, drop, slice_get, Option, nat_le, nat_lt}
 use Rattle.std.specs.List.{list_any, position_or_len, enumerate_from}
-use Rattle.std.proofs.Common.{sym, ◌∙◌, ap, subst, inl, inr, arith}
-use Rattle.std.proofs.lemmas.List.{drop-drop}
+use Rattle.std.proofs.Common.{sym, ◌∙◌, ap, subst, inl, inr, arith, drop-drop}
 use Rattle.std.proofs.lemmas.Option.{slice_get_past}
 use Rattle.std.proofs.lemmas.Bool.Decides.{nat_tests}
 use Rattle.std.proofs.lemmas.Bool.{both_ways, and_from, and_parts, false≢true}
@@ -117,9 +116,7 @@ skipped_by document k h = at (any_found (skips document k) document 0 h) where
 
 -- no mark with a backquote is skipped
 pub skipped_bare : (document : List Part) (k : ℕ) (b : Block) → HasMarkAt document k b → is_skipped document k ≡ true → mark_bytes b ≡ []
-skipped_bare document k b mark h = at (skipped_by document k h) where
-  at : ((i : ℕ) × SkipsAt document i × ((k ≡ after_section4 document i) ⊎ (k ≡ after_section4 document i + 1))) → mark_bytes b ≡ []
-  at (i, skips, place) = grind (arith, pair_there document i skips.1)
+skipped_bare document k b mark h = grind (arith, skipped_by, pair_there)
 
 skipped_from : (document : List Part) (k i : ℕ) → SkipsAt document i → (k ≡ after_section4 document i) ⊎ (k ≡ after_section4 document i + 1) → is_skipped document k ≡ true
 skipped_from document k i (here, pair) h = grind (arith, any_from (skips document k) document 0 i (Start blocks.Section4) here, zero-add i, nat_tests)
@@ -218,21 +215,15 @@ same_position p q same (x ∷ xs) = rw (same x, same_position p q same xs) refl
 section4_end_is : (document : List Part) (index : ℕ) → whole.section4_end document index + 1 ≡ after_section4 document index
 section4_end_is document index = grind (arith, same_position)
 
-block_end : (part : Option Part) → IsTrue (whole.is_block_end part) ↔ (part ≡ Some (End blocks.Block))
-block_end part = grind arith
-
 empty_block_is : (document : List Part) (index : ℕ) → length document < 2 ^ 64 → whole.has_empty_block document index ≡ has_empty_block (drop (index + 1) document)
 empty_block_is document index small =
     empty_block-is document (index + 1) (whole.is_block_start (slice_get document (min (index + 1) 18446744073709551615))) (whole.is_block_end (slice_get document (min (index + 2) 18446744073709551615)))
     (subst (λ (o : Option Part). IsTrue (whole.is_block_start (slice_get document (min (index + 1) 18446744073709551615))) ↔ o ≡ Some (Start blocks.Block)) (slice_get-saturates document (index + 1) small)
     (grind arith))
     (subst (λ (o : Option Part). IsTrue (whole.is_block_end (slice_get document (min (index + 2) 18446744073709551615))) ↔ o ≡ Some (End blocks.Block))
-    (slice_get-saturates document (index + 2) small ∙ ap (λ (k : ℕ). slice_get document k) (omega arith)) (block_end (slice_get document (min (index + 2) 18446744073709551615))))
+    (slice_get-saturates document (index + 2) small ∙ ap (λ (k : ℕ). slice_get document k) (omega arith)) (grind arith))
 
 module _ (document : List Part) (small : length document < 2 ^ 64) where
-  pub knows_none : KnowsPairs document 0 whole.no_pairs
-  knows_none = KnowsPairs-none document whole.no_pairs refl refl
-
   -- the start of a block
   pub knows_start : (index : ℕ) (b : Block) (pairs : Pairs) → slice_get document index ≡ Some (Start b) → KnowsPairs document index pairs
       → KnowsPairs document (index + 1) (whole.pairs_at document index b pairs) × (whole.is_adjacent b (whole.pairs_at document index b pairs) ≡ (is_section4_start (Start b) && skips_pair document index))

@@ -1,9 +1,8 @@
 -- One walk over the parts gives the tab stop.
 use Rattle.std.proofs.lemmas.Grind.{common_steps}
-use Rattle.std.specs.Prelude.{◌≡◌, ℕ, ◌+◌, min, max, Bool, true, false, not, ◌&&◌, ◌||◌, List, [], ◌∷◌, ◌++◌, length, refl, map, filter, take, fold, sum_by, nat_le, if◌then◌else◌}
+use Rattle.std.specs.Prelude.{◌≡◌, ℕ, ◌+◌, min, max, Bool, true, false, not, ◌&&◌, List, [], ◌∷◌, ◌++◌, length, refl, map, filter, take, fold, sum_by, nat_le, if◌then◌else◌}
 use Rattle.std.specs.List.{list_any, before_first, after_last, enumerate_from}
-use Rattle.std.proofs.Common.{sym, ◌∙◌, ap, arith, append_assoc}
-use Rattle.std.proofs.lemmas.List.{length-append, take_at}
+use Rattle.std.proofs.Common.{sym, ◌∙◌, ap, arith, append_assoc, length-append, take_at}
 use Rattle.std.proofs.lemmas.List.Folds.{list_any-append}
 use Rattle.std.proofs.lemmas.List.Sums.{sum_by-cons, take_while-cons}
 use Rattle.std.proofs.lemmas.Bool.Decides.{nat_tests}
@@ -50,15 +49,12 @@ first_columns-push (p ∷ ps) part = grind (arith, first_columns-push ps part, f
 abbrev is_in_term : List Part → Bool
 is_in_term before = list_any is_term_start before && not (list_any is_term_end (after_last is_term_start before))
 
-any_push : (p : Part → Bool) (parts : List Part) (part : Part) → list_any p (parts ++ part ∷ []) ≡ (list_any p parts || p part)
-any_push p parts part = list_any-append p parts (part ∷ []) ∙ ap (λ (b : Bool). list_any p parts || b) (or-false (p part))
-
 is_in_term-push : (before : List Part) (part : Part) → is_in_term (before ++ part ∷ []) ≡ (if is_term_start part then true else is_in_term before && not (is_term_end part))
-is_in_term-push before part = grind (arith, any_push, after_last-append)
+is_in_term-push before part = grind (arith, list_any-append, or-false, after_last-append)
 
 term_length-push : (before : List Part) (part : Part)
     → term_length (before ++ part ∷ []) ≡ (if is_term_start part then 0 else term_length before + (if is_in_term before then text_columns part else 0))
-term_length-push before part = grind (arith, any_push, after_last-append, first_columns-push)
+term_length-push before part = grind (arith, list_any-append, or-false, after_last-append, first_columns-push)
 
 -- ---- all parts
 

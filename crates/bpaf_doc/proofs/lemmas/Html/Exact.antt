@@ -15,7 +15,7 @@ use Rattle.bpaf_doc.specs.Splitter.Chunks.{Raw, Paragraph, LineBreak, is_line_by
 use Rattle.bpaf_doc.specs.Html.Fragments.{Fragment, TextStart, Shown, TextEnd, Hidden, Start, End, shown_fragments}
 use Rattle.bpaf_doc.specs.Html.Page.{escaped_character, IsHtmlPageOf, IsHtmlTextPageOf}
 use Rattle.bpaf_doc.specs.Html.Exact.{start_tag, end_tag, opening_tags, closing_tags, open_block, is_open_list, break_text, is_empty, is_at_break, fragment_html, html_after, html_page}
-use Rattle.bpaf_doc.specs.Html.Steps.Page.{Written, blank_page, with_heading, first_or_false, without_first, closed, page_after, page_after_all}
+use Rattle.bpaf_doc.specs.Html.Steps.Page.{Written, blank_page, with_heading, first_or_false, closed, page_after, page_after_all}
 use Rattle.bpaf_doc.proofs.lemmas.Html.Fragments.Lines.{fragment_is_line}
 use Rattle.bpaf_doc.proofs.lemmas.Html.Meets.{shown_lines, page_meets, page_text}
 
@@ -99,27 +99,20 @@ record Agrees (before : List Fragment) (p : Written) : Type 0 where
   fresh : p.fresh ≡ is_at_break p.bytes
   lists : (n : ℕ) → nth n (p.in_list ∷ p.outer) ≡ in_list_at n (reverse before)
 
-backwards : (before : List Fragment) (f : Fragment) → reverse (before ++ f ∷ []) ≡ f ∷ reverse before
-backwards before f = reverse-append before (f ∷ [])
-
 first_is : (outer : List Bool) → first_or_false outer ≡ nth 0 outer
 unfolding nth
 first_is outer = grind arith
 
-outer_is : (outer : List Bool) (n : ℕ) → nth n (first_or_false outer ∷ without_first outer) ≡ nth n outer
-unfolding nth
-outer_is outer n = grind arith
-
 next_lists : (before : List Fragment) (p : Written) (f : Fragment) → ((n : ℕ) → nth n (p.in_list ∷ p.outer) ≡ in_list_at n (reverse before))
     → (n : ℕ) → nth n ((page_after p f).in_list ∷ (page_after p f).outer) ≡ in_list_at n (f ∷ reverse before)
 unfolding nth
-next_lists before p f h1 n = grind (arith, outer_is)
+next_lists before p f h1 n = grind (arith, nth)
 
 -- ---- a fragment more
 
 step_bytes : (before : List Fragment) (p : Written) (f : Fragment) → Agrees before p → (page_after p f).bytes ≡ p.bytes ++ fragment_html p.bytes before f
 unfolding nth
-step_bytes before p f h = grind (arith, append-nil, append_assoc, first_is, backwards)
+step_bytes before p f h = grind (arith, append-nil, append_assoc, first_is, reverse-append)
 
 step_fresh : (p : Written) (f : Fragment) → fragment_is_line f ≡ true → p.fresh ≡ is_at_break p.bytes → (page_after p f).fresh ≡ is_at_break (page_after p f).bytes
 step_fresh p (TextStart style) line e = fresh_put p.bytes (opening_tags style) p.fresh e (grind (arith, line_is_other))
@@ -139,7 +132,8 @@ step_fresh p (End b) line e = fresh_put (with_heading (closed p) b).bytes (end_t
 
 pages_same : (before : List Fragment) (p : Written) (fs : List Fragment) → list_all fragment_is_line fs ≡ true → Agrees before p → (page_after_all p fs).bytes ≡ html_after p.bytes before fs
 pages_same before p [] lines h = refl
-pages_same before p (f ∷ fs) lines h = grind (arith, pages_same (before ++ f ∷ []) (page_after p f) fs, and_parts, step_fresh, next_lists, backwards, step_bytes)
+pages_same before p (f ∷ fs) lines h =
+    grind (arith, pages_same (before ++ f ∷ []) (page_after p f) fs, and_parts, step_fresh, next_lists, reverse-append, step_bytes)
 
 at_start : Agrees [] blank_page
 unfolding nth

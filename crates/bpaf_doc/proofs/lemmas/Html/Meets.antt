@@ -1,6 +1,5 @@
 -- The pages that the code writes are what `IsHtmlOf` promises.
-use Rattle.std.proofs.Common.{◌≡◌, ℕ, Bool, true, List, sym, ap, ◌∙◌, subst, arith}
-use Rattle.std.specs.Prelude.{filter}
+use Rattle.std.proofs.Common.{◌≡◌, ℕ, Bool, true, List, sym, ap, ◌∙◌, subst, arith, filter}
 use Rattle.std.specs.List.{list_all}
 use Rattle.bpaf_doc.specs.Buffer.Parts.{Part, IsWellNested}
 use Rattle.bpaf_doc.specs.Splitter.Chunks.{is_line_byte}

@@ -41,15 +41,9 @@ cut_around p f g inner = grind (arith, cut-append, append-nil)
 abbrev SameBlocks : Written → Written → Type 0
 SameBlocks p q = (q.in_list ≡ p.in_list) × (q.outer ≡ p.outer)
 
-chunk_blocks : (p : Written) (style : Style) (chunk : Chunk) → SameBlocks p (page_after p (Shown style chunk))
-chunk_blocks p style chunk = grind arith
-
-then_blocks : (p q r : Written) → SameBlocks p q → SameBlocks q r → SameBlocks p r
-then_blocks p q r h k = (k.0 ∙ h.0, k.1 ∙ h.1)
-
 chunks_blocks : (p : Written) (style : Style) (chunks : List Chunk) → SameBlocks p (page_after_all p (map (Shown style) chunks))
 chunks_blocks p style [] = (refl, refl)
-chunks_blocks p style (c ∷ cs) = grind (arith, chunks_blocks (page_after p (Shown style c)) style cs, then_blocks, chunk_blocks)
+chunks_blocks p style (c ∷ cs) = grind (arith, chunks_blocks (page_after p (Shown style c)) style cs)
 
 heading_blocks : (p : Written) (b : Block) → SameBlocks p (with_heading p b)
 heading_blocks p b = (grind arith, grind arith)
@@ -57,16 +51,13 @@ heading_blocks p b = (grind arith, grind arith)
 start_outer : (p : Written) (b : Block) → (page_after p (Start b)).outer ≡ p.in_list ∷ p.outer
 start_outer p b = let same : SameBlocks p (with_heading p b) = heading_blocks p b in ap (λ x. x ∷ (with_heading p b).outer) same.0 ∙ ap (λ x. p.in_list ∷ x) same.1
 
--- a block that ends gives the blocks back that were open before it
-enclosed_blocks : (p q : Written) (b : Block) → SameBlocks (page_after p (Start b)) q → SameBlocks p (page_after q (End b))
-enclosed_blocks p q b h = grind (arith, heading_blocks, start_outer)
-
 nests_blocks : {fs : List Fragment} → Nests fs → (p : Written) → SameBlocks p (page_after_all p fs)
 nests_blocks (nothing e) p = subst (λ x. SameBlocks p (page_after_all p x)) (sym e) (refl, refl)
 nests_blocks (text style chunks e) p = grind (arith, page-append, chunks_blocks)
 nests_blocks (hidden e) p = subst (λ x. SameBlocks p (page_after_all p x)) (sym e) (refl, refl)
-nests_blocks (enclosed b inner e h) p = grind (arith, nests_blocks h (page_after p (Start b)), page-append, enclosed_blocks)
-nests_blocks (joined front back e h k) p = grind (arith, nests_blocks h p, nests_blocks k (page_after_all p front), page-append, then_blocks)
+nests_blocks (enclosed b inner e h) p =
+    grind (arith, nests_blocks h (page_after p (Start b)), page-append, heading_blocks, start_outer)
+nests_blocks (joined front back e h k) p = grind (arith, nests_blocks h p, nests_blocks k (page_after_all p front), page-append)
 
 -- ---- the tags of blocks
 
@@ -83,17 +74,11 @@ around_tags p f g inner = ap tags_of (cut_around p f g inner) ∙ simp tags-appe
 text_start_tags : (p : Written) (style : Style) → tags_of (snippets_of p (TextStart style)) ≡ Of (TextStart style) ∷ []
 text_start_tags p style = grind arith
 
-text_end_tags : (p : Written) (style : Style) → tags_of (snippets_of p (TextEnd style)) ≡ Of (TextEnd style) ∷ []
-text_end_tags p style = grind arith
-
 chunk_tags : (p : Written) (style : Style) (chunk : Chunk) → tags_of (snippets_of p (Shown style chunk)) ≡ Of (Shown style chunk) ∷ []
 chunk_tags p style chunk = grind arith
 
 start_tags : (fresh in_list : Bool) (b : Block) → tags_of (start_snippets fresh in_list b) ≡ Of (Start b) ∷ open_each (block_elements in_list b)
 start_tags fresh in_list b = grind arith
-
-end_tags : (fresh in_list : Bool) (b : Block) → tags_of (end_snippets fresh in_list b) ≡ close_each (block_elements in_list b) ++ Of (End b) ∷ []
-end_tags fresh in_list b = grind arith
 
 chunks_tags : (in_list : Bool) (p : Written) (style : Style) (chunks : List Chunk) → HasBlockTags in_list (map (Shown style) chunks) (tags_of (cut_from p (map (Shown style) chunks)))
 chunks_tags in_list p style [] = no_tags refl refl
@@ -112,7 +97,7 @@ text_tags in_list p style chunks =
     let held : List HtmlSnippet = tags_of (cut_from first shown) in
     let whole : tags_of (cut_from p (TextStart style ∷ (shown ++ TextEnd style ∷ []))) ≡ Of (TextStart style) ∷ (held ++ Of (TextEnd style) ∷ [])
     = around_tags p (TextStart style) (TextEnd style) shown ∙ ap (λ x. x ++ (held ++ tags_of (snippets_of (page_after_all first shown) (TextEnd style)))) (text_start_tags p style)
-    ∙ ap (λ x. Of (TextStart style) ∷ (held ++ x)) (text_end_tags (page_after_all first shown) style) in
+    ∙ ap (λ x. Of (TextStart style) ∷ (held ++ x)) (grind arith) in
     tags_joined (TextStart style ∷ []) (shown ++ TextEnd style ∷ []) (Of (TextStart style) ∷ []) (held ++ Of (TextEnd style) ∷ []) refl whole
     (one_fragment (TextStart style) refl refl refl)
     (tags_joined shown (TextEnd style ∷ []) held (Of (TextEnd style) ∷ []) refl refl (chunks_tags in_list first style chunks) (one_fragment (TextEnd style) refl refl refl))
@@ -130,7 +115,7 @@ nests_tags (enclosed b inner e h) p =
     let opens : List HtmlSnippet = open_each (block_elements p.in_list b) in
     let closes : List HtmlSnippet = close_each (block_elements p.in_list b) in
     let ending : tags_of (snippets_of last (End b)) ≡ closes ++ Of (End b) ∷ []
-    = end_tags last.fresh (first_or_false last.outer) b ∙ ap (λ l. close_each (block_elements l b) ++ Of (End b) ∷ []) back in
+    = (grind arith) ∙ ap (λ l. close_each (block_elements l b) ++ Of (End b) ∷ []) back in
     let whole : tags_of (cut_from p (Start b ∷ (inner ++ End b ∷ []))) ≡ Of (Start b) ∷ (opens ++ (held ++ (closes ++ Of (End b) ∷ [])))
     = around_tags p (Start b) (End b) inner ∙ ap (λ x. x ++ (held ++ tags_of (snippets_of last (End b)))) (start_tags p.fresh p.in_list b) ∙ ap (λ x. Of (Start b) ∷ (opens ++ (held ++ x))) ending in
     let flat : opens ++ (held ++ (closes ++ Of (End b) ∷ [])) ≡ opens ++ held ++ closes ++ Of (End b) ∷ []

@@ -1,30 +1,19 @@
 -- A text in another spelling is a text.
-use Rattle.std.specs.Prelude.{◌≡◌, ℕ, ◌<◌, ◌≤◌, ◌==◌, ◌||◌, Bool, true, false, List, [], ◌∷◌, if◌then◌else◌, refl, flat_map, IsUtf8, IsAscii}
+use Rattle.std.specs.Prelude.{◌≡◌, ℕ, ◌<◌, ◌≤◌, true, List, [], ◌∷◌, refl, flat_map, IsUtf8, IsAscii}
 use Rattle.std.specs.Char.{IsScalar}
-use Rattle.std.proofs.Common.{inl, inr, arith}
-use Rattle.std.proofs.lemmas.List.{append-nil}
+use Rattle.std.proofs.Common.{inl, inr, arith, append-nil}
 use Rattle.std.proofs.lemmas.List.Concat.{flat_map-append}
-use Rattle.std.proofs.lemmas.Bool.{ne_eqb, cases_lt}
+use Rattle.std.proofs.lemmas.Bool.{and_parts, ne_eqb, cases_lt}
 use Rattle.std.proofs.lemmas.Str.{IsUtf8-append, IsUtf8-nil, IsUtf8-from_ascii, IsUtf8-encode, encode_ascii}
 use Rattle.std.proofs.lemmas.Str.Ascii.{IsAscii-nil, IsAscii-cons}
 use lib.Utf8.{encode, encodes, scalar, scalars}
-use Rattle.bpaf_roff.proofs.lemmas.EscapedText.{High, high_encode, both}
+use Rattle.bpaf_roff.proofs.lemmas.EscapedText.{High, high_encode}
 use Rattle.bpaf_doc.specs.declared.html.Language.{Language}
 use Rattle.bpaf_doc.specs.declared.html.Language.TheVariants as language
 use Rattle.bpaf_doc.specs.Html.Steps.View.{spelling_of}
 
--- ASCII is spelled in ASCII
-two_ascii : (a b : ℕ) → a < 128 → b < 128 → IsAscii (a ∷ b ∷ [])
-two_ascii a b h k = IsAscii-cons a (b ∷ []) h (IsAscii-cons b [] k IsAscii-nil)
-
-four_ascii : (a b c d : ℕ) → a < 128 → b < 128 → c < 128 → d < 128 → IsAscii (a ∷ b ∷ c ∷ d ∷ [])
-four_ascii a b c d h k l m = IsAscii-cons a (b ∷ c ∷ d ∷ []) h (IsAscii-cons b (c ∷ d ∷ []) k (two_ascii c d l m))
-
-low_markdown : (b : ℕ) → b < 128 → IsAscii (spelling_of language.Markdown b)
-low_markdown b h = elim (b == 91 || b == 93) as (λ (x : Bool). IsAscii (if x then 92 ∷ b ∷ [] else b ∷ [])) [ true ↦ two_ascii 92 b (omega arith) h | false ↦ IsAscii-cons b [] h IsAscii-nil ]
-
 low : (l : Language) (b : ℕ) → b < 128 → IsAscii (spelling_of l b)
-low l b h = grind (arith, four_ascii, low_markdown)
+low l b h = grind (arith, IsAscii-cons, IsAscii-nil)
 
 -- and no other byte is spelled in another way
 high : (l : Language) (b : ℕ) → 128 ≤ b → spelling_of l b ≡ b ∷ []
@@ -39,7 +28,8 @@ spelled_character l c h = elim (cases_lt c 128) [ inl ascii ↦ rw (encode_ascii
 
 spelled_characters : (l : Language) (cs : List ℕ) → scalars cs ≡ true → IsUtf8 (flat_map (spelling_of l) (encodes cs))
 spelled_characters l [] h = IsUtf8-nil
-spelled_characters l (c ∷ cs) h = grind (arith, spelled_characters l cs, both (scalar c) (scalars cs) h, flat_map-append (spelling_of l) (encode c) (encodes cs), IsUtf8-append (flat_map (spelling_of l) (encode c)) (flat_map (spelling_of l) (encodes cs)), spelled_character l c)
+spelled_characters l (c ∷ cs) h =
+    grind (arith, spelled_characters l cs, and_parts (scalar c) (scalars cs) h, flat_map-append (spelling_of l) (encode c) (encodes cs), IsUtf8-append (flat_map (spelling_of l) (encode c)) (flat_map (spelling_of l) (encodes cs)), spelled_character l c)
 
 pub IsUtf8-spelled : (l : Language) (bytes : List ℕ) → IsUtf8 bytes → IsUtf8 (flat_map (spelling_of l) bytes)
 IsUtf8-spelled l bytes h = rw (← h.1.1) (spelled_characters l h.0 h.1.0)

@@ -1,6 +1,6 @@
 -- A page without its tags and newlines is the HTML text.
-use Rattle.std.proofs.Common.{arith, ◌≡◌, ℕ, true, false, List, [], ◌∷◌, ◌++◌, refl, append_assoc}
-use Rattle.std.specs.Prelude.{◌==◌, flat_map, filter}
+use Rattle.std.proofs.Common.{arith, ◌≡◌, ℕ, true, List, [], ◌∷◌, ◌++◌, refl, append_assoc}
+use Rattle.std.specs.Prelude.{flat_map, filter}
 use Rattle.std.specs.List.{list_all}
 use Rattle.std.proofs.lemmas.Bool.{and_parts}
 use Rattle.bpaf_doc.specs.Splitter.Chunks.{is_line_byte}
@@ -13,11 +13,8 @@ use Rattle.bpaf_doc.proofs.lemmas.Html.Cut.{spelled}
 abbrev pub plain : List ℕ → List ℕ
 plain text = filter is_line_byte (erased text)
 
-plain_one : (b : ℕ) (rest : List ℕ) → (b == 60) ≡ false → is_line_byte b ≡ true → plain (b ∷ rest) ≡ b ∷ plain rest
-plain_one b rest e l = grind arith
-
 plain_character : (b : ℕ) (rest : List ℕ) → is_line_byte b ≡ true → plain (escaped_character b ++ rest) ≡ escaped_character b ++ plain rest
-plain_character b rest l = grind (arith, plain_one b rest, l)
+plain_character b rest l = grind (arith, l)
 
 plain_words : (bytes rest : List ℕ) → list_all is_line_byte bytes ≡ true → plain (flat_map escaped_character bytes ++ rest) ≡ flat_map escaped_character bytes ++ plain rest
 plain_words [] rest h = refl

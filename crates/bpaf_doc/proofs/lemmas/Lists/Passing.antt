@@ -1,6 +1,5 @@
 -- Lists that pass a test which keeps a state.
-use Rattle.std.proofs.Common.{◌≡◌, Bool, true, List, [], ◌∷◌, ◌++◌, arith}
-use Rattle.std.specs.Prelude.{not, ◌&&◌, ◌||◌}
+use Rattle.std.proofs.Common.{◌≡◌, Bool, true, List, [], ◌∷◌, ◌++◌, arith, not, ◌&&◌, ◌||◌}
 use Rattle.std.proofs.lemmas.Bool.{and_parts, and_from}
 
 pub implies : (a b : Bool) → (not a || b) ≡ true → a ≡ true → b ≡ true
@@ -27,6 +26,3 @@ module _ {Q X : Type 0} (ok : Q → X → Bool) (next : Q → X → Q) where
 
   pub passes_first : (q : Q) (x : X) (xs : List X) → passes q (x ∷ xs) ≡ true → ok q x ≡ true
   passes_first q x xs h = (and_parts (ok q x) (passes (next q x) xs) h).0
-
-  pub passes_rest : (q : Q) (x : X) (xs : List X) → passes q (x ∷ xs) ≡ true → passes (next q x) xs ≡ true
-  passes_rest q x xs h = (and_parts (ok q x) (passes (next q x) xs) h).1

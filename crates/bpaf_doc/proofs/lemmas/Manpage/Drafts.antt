@@ -1,6 +1,6 @@
 -- What the writer of a page keeps is what looking back over the marks gives, so the page that comes out is the page as a function of the document; and where the
 -- page takes a document, a reader reads the document's events.
-use Rattle.std.specs.Prelude.{◌≡◌, ℕ, Bool, true, false, List, [], ◌∷◌, ◌++◌, ◌||◌, Some, None, find, flat_map, if◌then◌else◌, refl}
+use Rattle.std.specs.Prelude.{◌≡◌, ℕ, Bool, true, false, List, [], ◌∷◌, ◌++◌, Some, None, find, flat_map, if◌then◌else◌, refl}
 use Rattle.std.specs.Str.{str_to_ascii_uppercase}
 use Rattle.std.proofs.Common.{ap, ◌∙◌, sym, append_assoc, arith}
 use Rattle.std.proofs.lemmas.List.{append-nil, reverse-append}
@@ -14,7 +14,7 @@ use Rattle.bpaf_doc.specs.Buffer.Parts.{Part, Text, Start, End}
 use Rattle.bpaf_doc.specs.Manpage.Events.{font_of, is_start, last_is_start, is_section, is_section_mark, is_term_mark, captured_texts}
 use Rattle.bpaf_doc.specs.Manpage.Page.{TakesDocument, IsPageOf}
 use Rattle.bpaf_doc.specs.Manpage.Exact.{start_pieces, style_pieces, start_or, strips_newlines, part_pieces, document_pieces, roff_page}
-use Rattle.bpaf_doc.specs.Manpage.Steps.Draft.{ControlCall, TextCall, pieces_of, control_calls, start_name, heading_name, style_name, Draft, draft_on, after_text, after_start, after_section, after_block, after_end, after_part, after_parts, strips_after_start}
+use Rattle.bpaf_doc.specs.Manpage.Steps.Draft.{ControlCall, TextCall, pieces_of, control_calls, start_name, heading_name, style_name, Draft, draft_on, after_text, after_start, after_section, after_block, after_end, after_part, after_parts}
 use Rattle.bpaf_doc.specs.declared.buffer.Style.{Style}
 use Rattle.bpaf_doc.specs.declared.buffer.Block.{Block}
 use Rattle.bpaf_doc.specs.declared.buffer.Block.TheVariants as block
@@ -66,17 +66,11 @@ text_by false page by_page done so_far strips heading text how h =
       heading = h.heading ∙ sym (append-nil (captured_texts done)) ∙ ap (λ x. captured_texts done ++ (if x then text else [])) h.captures ∙ sym (captured_texts-append done (Text text how));
     }
 
-or_choice : (x y : Bool) → (x || y) ≡ (if y then true else x)
-or_choice x y = grind arith
-
-strips_at_start : (b : Block) (strips : Bool) → strips_after_start b strips ≡ (if is_term_mark (Start b) then true else strips)
-strips_at_start b strips = grind arith
-
 start_holds : (page : List (Piece Escape)) (by_page : Bool) (done : List Part) (draft : Draft) (b : Block) → Holds page by_page done draft → Holds page by_page (done ++ Start b ∷ []) (after_start draft b)
 start_holds page by_page done draft b h = record {
   text = one_more page draft.page by_page done (Start b) _ h.text (start_same b);
-  strips = strips_at_start b draft.strips ∙ ap (λ x. if is_term_mark (Start b) then true else x) h.strips ∙ sym (strips-append by_page done (Start b));
-  captures = or_choice draft.captures (is_section b) ∙ ap (λ x. if is_section b then true else x) h.captures ∙ sym (last_is_start-append is_section_mark done (Start b));
+  strips = (grind arith) ∙ ap (λ x. if is_term_mark (Start b) then true else x) h.strips ∙ sym (strips-append by_page done (Start b));
+  captures = (grind arith) ∙ ap (λ x. if is_section b then true else x) h.captures ∙ sym (last_is_start-append is_section_mark done (Start b));
   heading = h.heading ∙ sym (append-nil (captured_texts done)) ∙ sym (captured_texts-append done (Start b));
 }
 

@@ -1,13 +1,11 @@
 -- A text is read as at most one list of events: whatever it is read as, the program reads it so.
 use Rattle.std.specs.Prelude.{◌≡◌, ◌≢◌, ℕ, List, [], ◌∷◌, ◌++◌, Some, None, refl}
-use Rattle.std.proofs.Common.{arith, ap, ◌∙◌, append_assoc}
-use Rattle.std.proofs.lemmas.List.{append-nil}
-use Rattle.std.proofs.lemmas.Bool.{ne_eqb}
+use Rattle.std.proofs.Common.{arith, ap, ◌∙◌, append_assoc, append-nil, ne_eqb}
 use Rattle.bpaf_roff.specs.Escaping.{newline}
 use Rattle.bpaf_roff.specs.Roff.{font_escape, restore_font}
 use Rattle.bpaf_roff.specs.declared.roff.Font.{Font}
-use Rattle.bpaf_doc.specs.Manpage.Reader.{Event, Control, Span, LineEnd, IsName, IsArgument, AreArguments, StartsNoControl, IsSpanText, Place, AtLineStart, WithinLine, Reads}
-use Rattle.bpaf_doc.proofs.lemmas.Manpage.Program.{State, Start, Within, Name, Argument, Inside, AfterNewline, next, ended, with_event, read_from}
+use Rattle.bpaf_doc.specs.Manpage.Reader.{Event, Control, Span, LineEnd, IsName, IsArgument, AreArguments, IsSpanText, Place, AtLineStart, WithinLine, Reads}
+use Rattle.bpaf_doc.proofs.lemmas.Manpage.Program.{State, Start, Within, Name, Argument, Inside, next, ended, with_event, read_from}
 
 -- a byte that ends no event
 step : (events : List Event) (state after : State) (b : ℕ) (bytes : List ℕ) → next state b ≡ after → ended state b ≡ None → read_from events state (b ∷ bytes) ≡ read_from events after bytes
@@ -32,17 +30,13 @@ arguments_read : {text : List ℕ} {words : List (List ℕ)} → AreArguments te
 arguments_read (AreArguments.end et ew) events name rest = rw (et, ew) refl
 arguments_read (AreArguments.argument a w r more et ew nw ha h) events name rest = rw (et, ew, append_assoc a r (newline ∷ rest)) (argument_read ha events name [] [] (r ++ newline ∷ rest) ∙ further_read h events name [] w rest nw)
 
--- before no control a newline makes no difference
-guarded_read : (text : List ℕ) → StartsNoControl text → (events : List Event) (font : Font) (front rest : List ℕ) → read_from events (AfterNewline font front) ((text ++ restore_font) ++ rest) ≡ read_from events (Inside font front) ((text ++ restore_font) ++ rest)
-guarded_read text h1 events font front rest = grind (arith, ne_eqb)
-
 span_read : {text content : List ℕ} → IsSpanText text content → (events : List Event) (font : Font) (front rest : List ℕ) → read_from events (Inside font front) ((text ++ restore_font) ++ rest) ≡ read_from (events ++ Span font (front ++ content) ∷ []) Within rest
 span_read (IsSpanText.end et ec) events font front rest = rw (et, ec, append-nil front) refl
 span_read (IsSpanText.escaped_backslash r m et ec h) events font front rest = rw (et, ec) (span_read h events font (front ++ 92 ∷ []) rest ∙ ap (λ w. read_from (events ++ Span font w ∷ []) Within rest) (append_assoc front (92 ∷ []) m))
 span_read (IsSpanText.escaped_dash r m et ec h) events font front rest = rw (et, ec) (span_read h events font (front ++ 45 ∷ []) rest ∙ ap (λ w. read_from (events ++ Span font w ∷ []) Within rest) (append_assoc front (45 ∷ []) m))
 span_read (IsSpanText.escaped_apostrophe r m et ec h) events font front rest = rw (et, ec) (span_read h events font (front ++ 39 ∷ []) rest ∙ ap (λ w. read_from (events ++ Span font w ∷ []) Within rest) (append_assoc front (39 ∷ []) m))
 span_read (IsSpanText.empty r et h) events font front rest = rw et (span_read h events font front rest)
-span_read (IsSpanText.line_break r m et ec g h) events font front rest = rw (et, ec) (guarded_read r g events font (front ++ 10 ∷ []) rest ∙ span_read h events font (front ++ 10 ∷ []) rest ∙ ap (λ w. read_from (events ++ Span font w ∷ []) Within rest) (append_assoc front (10 ∷ []) m))
+span_read (IsSpanText.line_break r m et ec g h) events font front rest = rw (et, ec) ((grind (arith, ne_eqb)) ∙ span_read h events font (front ++ 10 ∷ []) rest ∙ ap (λ w. read_from (events ++ Span font w ∷ []) Within rest) (append_assoc front (10 ∷ []) m))
 span_read (IsSpanText.plain b r m et ec n92 n45 n39 n10 h) events font front rest = rw (et, ec) (step events (Inside font front) (Inside font (front ++ b ∷ [])) b ((r ++ restore_font) ++ rest) (rw (ne_eqb b 92 n92, ne_eqb b 10 n10, ne_eqb b 45 n45, ne_eqb b 39 n39) refl) refl ∙ span_read h events font (front ++ b ∷ []) rest ∙ ap (λ w. read_from (events ++ Span font w ∷ []) Within rest) (append_assoc front (b ∷ []) m))
 
 abbrev start_of : Place → State

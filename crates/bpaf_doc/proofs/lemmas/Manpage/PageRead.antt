@@ -14,8 +14,8 @@ use Rattle.bpaf_doc.specs.Manpage.Page.{TakesDocument, IsPageOf, IsManualPageOf,
 use Rattle.bpaf_doc.specs.declared.buffer.Style.{Style}
 use Rattle.bpaf_doc.specs.declared.buffer.Block.{Block}
 use Rattle.bpaf_doc.specs.Manpage.Steps.Draft.{Call, ControlCall, TextCall, pieces_of, control_calls, start_name, end_name, heading_name, style_name, break_calls}
-use Rattle.bpaf_doc.proofs.lemmas.Manpage.ReadBack.{IsCall, step_of, calls_read, signs-append, control_written, control_read, control_ends}
-use Rattle.bpaf_roff.proofs.lemmas.EscapedText.{text_after-append}
+use Rattle.bpaf_doc.proofs.lemmas.Manpage.ReadBack.{IsCall, step_of, calls_read, control_written, control_read, control_ends}
+use Rattle.bpaf_roff.proofs.lemmas.EscapedText.{signs-append, text_after-append}
 
 -- the calls that show the end of a block, with the heading of what stands before
 abbrev pub end_calls : List Part → Block → Option (List ℕ) → List Call
@@ -31,9 +31,6 @@ place_calls (before, End b) = end_calls before b (heading_name b)
 text_steps : (before : List Part) (bytes : List ℕ) (how : Style) → map step_of (place_calls (before, Text bytes how)) ≡ place_steps (before, Text bytes how)
 text_steps before bytes how = grind arith
 
-steps_of_calls : (place : List Part × Part) → map step_of (place_calls place) ≡ place_steps place
-steps_of_calls place = grind (arith, text_steps)
-
 map-append : (cs ds : List Call) → map step_of (cs ++ ds) ≡ map step_of cs ++ map step_of ds
 map-append [] ds = refl
 map-append (c ∷ cs) ds = ap (λ ys. step_of c ∷ ys) (map-append cs ds)
@@ -41,7 +38,7 @@ map-append (c ∷ cs) ds = ap (λ ys. step_of c ∷ ys) (map-append cs ds)
 -- what the calls of the places say is what the places give
 all_steps : (ps : List (List Part × Part)) → map step_of (flat_map place_calls ps) ≡ flat_map place_steps ps
 all_steps [] = refl
-all_steps (place ∷ ps) = map-append (place_calls place) (flat_map place_calls ps) ∙ ap (λ ys. ys ++ map step_of (flat_map place_calls ps)) (steps_of_calls place) ∙ ap (λ ys. place_steps place ++ ys) (all_steps ps)
+all_steps (place ∷ ps) = map-append (place_calls place) (flat_map place_calls ps) ∙ ap (λ ys. ys ++ map step_of (flat_map place_calls ps)) (grind (arith, text_steps)) ∙ ap (λ ys. place_steps place ++ ys) (all_steps ps)
 
 -- the calls of a document that is shown as a page
 abbrev pub page_calls : List Part → List Call

@@ -2,27 +2,21 @@
 use Rattle.std.specs.Prelude.{◌≡◌, ◌≢◌, ℕ, Bool, true, false, not, List, [], ◌∷◌, ◌++◌, ◌==◌, map, flat_map, codes, if◌then◌else◌, refl}
 use Rattle.std.specs.List.{AllByRecursion, list_all}
 use Rattle.std.proofs.lemmas.List.Folds.{list_all-append}
-use Rattle.std.proofs.Common.{inl, inr, ap, ◌∙◌, sym, subst, append_assoc, arith}
-use Rattle.std.proofs.lemmas.List.{append-nil}
+use Rattle.std.proofs.Common.{inl, inr, ap, ◌∙◌, sym, subst, append_assoc, arith, append-nil}
 use Rattle.std.proofs.lemmas.Bool.{ne_eqb, and_from, and_parts, not-true}
 use Rattle.std.proofs.lemmas.Bool.Decides.{eqb_tells, nat_tests}
-use Rattle.bpaf_roff.specs.Pieces.{Piece}
-use Rattle.bpaf_roff.proofs.lemmas.EscapedText.{text_after-append}
-use Rattle.bpaf_roff.specs.Escaping.{newline, blank, dot, newline_as_blank, is_line_start, spaces_text, byte_text, Break, Byte, signs, signs_of, sign_text, text_after}
+use Rattle.bpaf_roff.proofs.lemmas.EscapedText.{signs-append, text_after-append}
+use Rattle.bpaf_roff.proofs.lemmas.LineStarts.{is_line_start-last}
+use Rattle.bpaf_roff.proofs.lemmas.Texts as roff
+use Rattle.bpaf_roff.specs.Escaping.{newline, blank, dot, newline_as_blank, is_line_start, spaces_text, byte_text, Break, Byte, signs, sign_text, text_after}
 use Rattle.bpaf_roff.specs.Roff.{font_escape, restore_font, argument_word, argument_pieces, control_pieces, linebreak_pieces, text_pieces}
 use Rattle.bpaf_roff.specs.declared.escape.Apostrophes.{Apostrophes}
 use Rattle.bpaf_roff.specs.declared.escape.Apostrophes.TheVariants.{Handle}
-use Rattle.bpaf_roff.specs.declared.escape.Escape.{Escape}
 use Rattle.bpaf_roff.specs.declared.escape.Escape.TheVariants.{Spaces, Special, SpecialNoNewline, Unescaped}
 use Rattle.bpaf_roff.specs.declared.roff.Font.{Font}
 use Rattle.bpaf_doc.specs.Manpage.Events.{word_of, Step, Gives, Stop, starts_line, events_of_steps}
 use Rattle.bpaf_doc.specs.Manpage.Steps.Draft.{Call, ControlCall, TextCall, BreakCall, pieces_of}
 use Rattle.bpaf_doc.specs.Manpage.Reader.{Event, Control, Span, LineEnd, IsName, IsArgument, AreArguments, StartsNoControl, IsSpanText, Place, AtLineStart, WithinLine, Reads}
-
--- a text is at a line start after a newline only
-is_line_start-last : (before : List ℕ) (b : ℕ) → is_line_start (before ++ b ∷ []) ≡ (b == newline)
-is_line_start-last (x ∷ y ∷ before) b = is_line_start-last (y ∷ before) b
-is_line_start-last z b = grind arith
 
 -- what kind of byte a byte is
 data Kind : ℕ → Type 0 where
@@ -84,11 +78,6 @@ raw : (q : Apostrophes) (t before : List ℕ) → text_after q before (map (Byte
 raw q [] before = refl
 raw q (b ∷ t) before = ap (λ ys. b ∷ ys) (raw q t (before ++ b ∷ []))
 
--- an argument is written byte by byte
-spaced : (q : Apostrophes) (t before : List ℕ) → text_after q before (map (Byte Spaces) t) ≡ flat_map spaces_text t
-spaced q [] before = refl
-spaced q (b ∷ t) before = ap (λ ys. spaces_text b ++ ys) (spaced q t (before ++ spaces_text b))
-
 -- what a text of one item says in the end
 abbrev pub said : Bool → List ℕ → List ℕ
 said strip_newlines t = if strip_newlines then map newline_as_blank t else t
@@ -105,13 +94,10 @@ argument_text argument = blank ∷ flat_map spaces_text (argument_word argument)
 abbrev pub arguments_text : List (List ℕ) → List ℕ
 arguments_text arguments = flat_map argument_text arguments
 
-pub signs-append : (ps qs : List (Piece Escape)) → signs (ps ++ qs) ≡ signs ps ++ signs qs
-signs-append [] qs = refl
-signs-append (p ∷ ps) qs = rw (signs-append ps qs, append_assoc (signs_of p)) refl
-
 arguments_written : (arguments : List (List ℕ)) (before : List ℕ) → text_after Handle before (signs (flat_map argument_pieces arguments)) ≡ arguments_text arguments
 arguments_written [] before = refl
-arguments_written (a ∷ arguments) before = rw (text_after-append Handle (before ++ blank ∷ []) (map (Byte Spaces) (argument_word a)) (signs (flat_map argument_pieces arguments)), spaced Handle (argument_word a) (before ++ blank ∷ []), arguments_written arguments ((before ++ blank ∷ []) ++ flat_map spaces_text (argument_word a))) refl
+arguments_written (a ∷ arguments) before =
+    rw (text_after-append Handle (before ++ blank ∷ []) (map (Byte Spaces) (argument_word a)) (signs (flat_map argument_pieces arguments)), roff.argument_text Handle (argument_word a) (before ++ blank ∷ []), arguments_written arguments ((before ++ blank ∷ []) ++ flat_map spaces_text (argument_word a))) refl
 
 -- an argument's bytes are read as they are, a newline as a blank
 argument_byte : (b : ℕ) → Kind b → (t : List ℕ) → IsArgument (flat_map spaces_text t) (map newline_as_blank t) → IsArgument (flat_map spaces_text (b ∷ t)) (map newline_as_blank (b ∷ t))

@@ -1,17 +1,17 @@
 -- The snippets that make up a markdown text, and what it keeps in mind between fragments.
 use Rattle.std.proofs.lemmas.Grind.{common_steps}
 use Rattle.std.proofs.Common.{◌≡◌, ℕ, Bool, true, false, List, [], ◌∷◌, ◌++◌, map, refl, sym, ap, ◌∙◌, append_assoc, append-nil, nat_lt, arith}
-use Rattle.std.specs.Prelude.{not, ◌&&◌, ◌==◌, flat_map, reverse, codes, if◌then◌else◌}
+use Rattle.std.specs.Prelude.{not, ◌&&◌, ◌==◌, reverse, codes, if◌then◌else◌}
 use Rattle.std.proofs.Math.Bool.{and-true, and-false}
 use Rattle.bpaf_doc.specs.declared.buffer.Style.{Style}
 use Rattle.bpaf_doc.specs.declared.buffer.Block.{Block}
 use Rattle.bpaf_doc.specs.declared.buffer.Block.TheVariants as blocks
 use Rattle.bpaf_doc.specs.Splitter.Chunks.{Raw, Paragraph, LineBreak, code_weight, fence_weight, is_ordinary}
 use Rattle.bpaf_doc.specs.Html.Fragments.{Fragment, TextStart, Shown, TextEnd, Hidden, Start, End}
-use Rattle.bpaf_doc.specs.Markdown.Page.{TextFence, Fence, Heading, SecondHeading, ThirdHeading, Dash, LongDash, Blank, Newline, mark_text, MarkdownSnippet, is_in_mono, escaped_character, fragment_text, snippet_text, flat_map_places_from, style_marks, is_header_start, is_item_start, is_mono_start, is_mono_end}
+use Rattle.bpaf_doc.specs.Markdown.Page.{TextFence, Fence, Heading, SecondHeading, ThirdHeading, Dash, LongDash, Blank, Newline, mark_text, MarkdownSnippet, is_in_mono, fragment_text, snippet_text, flat_map_places_from, style_marks, is_header_start, is_item_start, is_mono_start, is_mono_end}
 use Rattle.bpaf_doc.specs.Snippets.{Put, Of, fragments_in}
 use Rattle.bpaf_doc.proofs.lemmas.Snippets.{fragments-append}
-use Rattle.bpaf_doc.specs.Markdown.Steps.Page.{Marked, put, starts_line, starts_paragraph, with_new_line, with_blank_line, with_item, with_line, open_code, close_code, with_words, with_raw, own_after, is_term_end, marked_after, one_more}
+use Rattle.bpaf_doc.specs.Markdown.Steps.Page.{Marked, put, starts_line, starts_paragraph, with_new_line, with_item, with_line, open_code, close_code, with_words, with_raw, own_after, is_term_end, marked_after, one_more}
 
 abbrev pub blanks : List MarkdownSnippet
 blanks = Put Blank ∷ Put Blank ∷ []
@@ -157,11 +157,8 @@ flags_next s f = own_flags (item_flags s (is_term_end f)) f
 pub item-flags : (p : Marked) (empty : Bool) → flags (with_item p empty) ≡ item_flags (flags p) empty
 item-flags p empty = grind arith
 
-own-flags : (p : Marked) (f : Fragment) → flags (own_after p f) ≡ own_flags (flags p) f
-own-flags p f = grind arith
-
 pub step-flags : (p : Marked) (f : Fragment) → flags (marked_after p f) ≡ flags_next (flags p) f
-step-flags p f = own-flags (with_item p (is_term_end f)) f ∙ ap (λ s. own_flags s f) (item-flags p (is_term_end f))
+step-flags p f = (grind arith) ∙ ap (λ s. own_flags s f) (item-flags p (is_term_end f))
 
 -- whether a code block is open after a fragment
 abbrev pub code_next : Bool → Fragment → Bool
@@ -171,9 +168,6 @@ code_next in_code f = in_code
 
 pub item-code : (p : Marked) (empty : Bool) → (with_item p empty).in_code ≡ p.in_code
 item-code p empty = grind arith
-
-pub close-code : (p : Marked) (fence : List ℕ) → (close_code p fence).in_code ≡ false
-close-code p fence = grind arith
 
 pub step-code : (p : Marked) (f : Fragment) → (marked_after p f).in_code ≡ code_next p.in_code f
 step-code p f = (grind arith) ∙ ap (λ c. code_next c f) (item-code p (is_term_end f))
@@ -187,18 +181,11 @@ SameMono before p = is_in_mono before ≡ nat_lt p.ends p.starts
 whole_text : (before : List Fragment) (style : Style) (bytes : List ℕ) (weight : ℕ) → is_ordinary (Raw bytes weight) ≡ false → fragment_text before (Shown style (Raw bytes weight)) ≡ bytes
 whole_text before style bytes weight e = grind (arith, and-false)
 
-words_text : (before : List Fragment) (style : Style) (bytes : List ℕ) (weight : ℕ) → is_ordinary (Raw bytes weight) ≡ true
-    → fragment_text before (Shown style (Raw bytes weight)) ≡ (if is_in_mono before then flat_map escaped_character bytes else bytes)
-words_text before style bytes weight e = grind (arith, and-true)
-
 pub fence_is_whole : (bytes : List ℕ) (weight : ℕ) → (weight == fence_weight) ≡ true → is_ordinary (Raw bytes weight) ≡ false
 fence_is_whole bytes weight e = ap (λ t. not (weight == code_weight) && not t) e ∙ and-false (not (weight == code_weight))
 
 pub code_is_whole : (bytes : List ℕ) (weight : ℕ) → (weight == code_weight) ≡ true → is_ordinary (Raw bytes weight) ≡ false
 code_is_whole bytes weight e = ap (λ t. not t && not (weight == fence_weight)) e
-
-pub others_are_ordinary : (bytes : List ℕ) (weight : ℕ) → (weight == fence_weight) ≡ false → (weight == code_weight) ≡ false → is_ordinary (Raw bytes weight) ≡ true
-others_are_ordinary bytes weight e h = ap (λ t. not t && not (weight == fence_weight)) h ∙ ap not e
 
 pub new_line-spelled : (before : List Fragment) (p : Marked) → (with_new_line p).bytes ≡ p.bytes ++ spelled before (new_line_snippets p.bytes)
 new_line-spelled before p = grind (arith, append-nil p.bytes)
@@ -212,35 +199,23 @@ new_line_marks bytes = grind arith
 pub open_marks : (in_code : Bool) → fragments_in (open_snippets in_code) ≡ []
 open_marks in_code = grind arith
 
-pub close_marks : (in_code : Bool) → fragments_in (close_snippets in_code) ≡ []
-close_marks in_code = grind arith
-
 pub open-spelled : (before : List Fragment) (p : Marked) → (open_code p).bytes ≡ p.bytes ++ spelled before (open_snippets p.in_code)
 open-spelled before p = grind (arith, append-nil p.bytes)
 
 close-spelled : (before : List Fragment) (p : Marked) → (close_code p (codes "\n  ```\n")).bytes ≡ p.bytes ++ spelled before (close_snippets p.in_code)
 close-spelled before p = grind (arith, append-nil p.bytes)
 
-end_code-spelled : (before : List Fragment) (p : Marked) → (close_code p (codes "  ```\n")).bytes ≡ p.bytes ++ spelled before (end_code_snippets p.in_code)
-end_code-spelled before p = grind (arith, append-nil p.bytes)
-
 raw-spelled : (before : List Fragment) (p : Marked) (style : Style) (bytes : List ℕ) (weight : ℕ) → SameMono before p → (with_raw p bytes weight).bytes ≡ p.bytes ++ spelled before (raw_snippets p style bytes weight)
-raw-spelled before p style bytes weight mono = grind (arith, common_steps, by_weight, new_line-spelled, new_line_marks, fence_is_whole, open-spelled, open_marks, code_is_whole, words_text, others_are_ordinary, close-spelled, append_assoc, append-nil, marks_then, close_marks, whole_text)
-
-blank_line-spelled : (before : List Fragment) (p : Marked) → (with_blank_line p).bytes ≡ p.bytes ++ spelled before (blank_line_snippets p.bytes)
-blank_line-spelled before p = grind (arith, append-nil p.bytes)
-
-body_dash-spelled : (before : List Fragment) (p : Marked) → body_bytes p ≡ p.bytes ++ spelled before (body_dash p)
-body_dash-spelled before p = grind (arith, append-nil p.bytes)
+raw-spelled before p style bytes weight mono = grind (arith, common_steps, by_weight, new_line-spelled, new_line_marks, fence_is_whole, open-spelled, open_marks, code_is_whole, and-true, close-spelled, append_assoc, append-nil, marks_then, whole_text)
 
 start-spelled : (before : List Fragment) (p : Marked) (b : Block) → (own_after p (Start b)).bytes ≡ p.bytes ++ spelled before (start_snippets p b)
-start-spelled before p b = grind (arith, blank_line-spelled, append_assoc, marks_then, new_line-spelled, body_dash-spelled, new_line_marks, append-nil)
+start-spelled before p b = grind (arith, append_assoc, marks_then, new_line-spelled, new_line_marks, append-nil)
 
 end-spelled : (before : List Fragment) (p : Marked) (b : Block) → (own_after p (End b)).bytes ≡ p.bytes ++ spelled before (end_snippets p b)
 end-spelled before p b = grind (arith, append-nil)
 
 own-spelled : (before : List Fragment) (p : Marked) (f : Fragment) → SameMono before p → (own_after p f).bytes ≡ p.bytes ++ spelled before (own_snippets p f)
-own-spelled before p f h = grind (arith, raw-spelled, end_code-spelled, append_assoc, marks_then, append-nil, start-spelled, end-spelled)
+own-spelled before p f h = grind (arith, raw-spelled, append_assoc, marks_then, append-nil, start-spelled, end-spelled)
 
 pub item-spelled : (before : List Fragment) (p : Marked) (empty : Bool) → (with_item p empty).bytes ≡ p.bytes ++ spelled before (item_snippets p.pending empty)
 item-spelled before p empty = grind (arith, append-nil p.bytes)

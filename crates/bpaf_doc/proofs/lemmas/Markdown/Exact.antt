@@ -1,14 +1,14 @@
 -- The text that the code writes, one fragment after another, is the text as a function of the document, and this meets the laws.
 use Rattle.std.proofs.lemmas.Grind.{common_steps}
-use Rattle.std.proofs.Common.{◌≡◌, ℕ, ◌^◌, ◌<◌, Bool, true, false, List, [], ◌∷◌, ◌++◌, length, refl, sym, ap, ◌∙◌, append_assoc, append-nil, nat_lt, arith}
+use Rattle.std.proofs.Common.{◌≡◌, ℕ, ◌^◌, ◌<◌, Bool, false, List, [], ◌∷◌, ◌++◌, length, refl, sym, ap, ◌∙◌, append_assoc, append-nil, nat_lt, arith}
 use Rattle.std.specs.Prelude.{filter, if◌then◌else◌, codes}
 use Rattle.std.specs.List.{list_any}
 use Rattle.std.proofs.lemmas.List.{reverse-append}
 use Rattle.bpaf_doc.specs.Buffer.Parts.{Part}
 use Rattle.bpaf_doc.specs.Html.Fragments.{Fragment, shown_fragments}
-use Rattle.bpaf_doc.specs.Markdown.Page.{IsMarkdownOf, is_header_start, is_in_list, is_in_mono, is_item_start, is_after_empty_item}
-use Rattle.bpaf_doc.specs.Markdown.Exact.{new_line, blank_line, indented_line, decides_code, begins_with_code_line, is_in_code, opening_fence, raw_markdown, item_mark, fragment_markdown, markdown_after, markdown_page}
-use Rattle.bpaf_doc.specs.Markdown.Steps.Page.{Marked, blank_text, with_new_line, with_blank_line, with_item, open_code, close_code, with_raw, own_after, is_term_end, marked_after, marked_after_all}
+use Rattle.bpaf_doc.specs.Markdown.Page.{IsMarkdownOf, is_header_start, is_in_list, is_in_mono, is_after_empty_item}
+use Rattle.bpaf_doc.specs.Markdown.Exact.{new_line, blank_line, indented_line, decides_code, begins_with_code_line, is_in_code, raw_markdown, item_mark, fragment_markdown, markdown_after, markdown_page}
+use Rattle.bpaf_doc.specs.Markdown.Steps.Page.{Marked, blank_text, with_new_line, with_blank_line, with_item, with_raw, is_term_end, marked_after, marked_after_all}
 use Rattle.bpaf_doc.proofs.lemmas.Markdown.Cut.{by_weight, flags, item-flags, step-flags, code_next, item-code, step-code}
 use Rattle.bpaf_doc.proofs.lemmas.Markdown.Mind.{Agrees, Room, begins_is, after_empty_is, agrees_after, rooms_next, same_mono}
 use Rattle.bpaf_doc.proofs.lemmas.Markdown.Meets.{room_for, at_start, markdown_meets}
@@ -42,23 +42,12 @@ new_line_put p = grind (arith, append-nil p.bytes)
 blank_line_put : (p : Marked) → (with_blank_line p).bytes ≡ p.bytes ++ blank_line p.bytes
 blank_line_put p = grind (arith, append-nil p.bytes)
 
-open_put : (before : List Fragment) (p : Marked) → p.in_code ≡ is_in_code before → (open_code p).bytes ≡ p.bytes ++ opening_fence before
-open_put before p code = grind (arith, append-nil p.bytes, code)
-
-close_put : (before : List Fragment) (p : Marked) (fence : List ℕ) → p.in_code ≡ is_in_code before → (close_code p fence).bytes ≡ p.bytes ++ (if is_in_code before then fence else [])
-close_put before p fence code = grind (arith, append-nil p.bytes, code)
-
 -- first one text, and then another
 both : (bytes first second : List ℕ) (after : List ℕ) → after ≡ bytes ++ first → after ++ second ≡ bytes ++ (first ++ second)
 both bytes first second after e = ap (λ x. x ++ second) e ∙ append_assoc bytes first second
 
 raw_put : (before : List Fragment) (p : Marked) (bytes : List ℕ) (weight : ℕ) → Looks before p → (with_raw p bytes weight).bytes ≡ p.bytes ++ raw_markdown p.bytes before bytes weight
-raw_put before p bytes weight h = grind (arith, common_steps, by_weight, line_put, both, new_line_put, open_put, close_put)
-
--- a fragment that begins no item
-own_put : (before : List Fragment) (p : Marked) (f : Fragment) (fs : List Fragment) → Looks before p → is_item_start f ≡ false → (is_term_end f ≡ false → p.empty_item ≡ is_after_empty_item before)
-    → (own_after p f).bytes ≡ p.bytes ++ fragment_markdown p.bytes before f fs
-own_put before p f fs h1 h2 h3 = grind (arith, raw_put, both, close_put, blank_line_put, new_line_put, append_assoc, append-nil)
+raw_put before p bytes weight h = grind (arith, common_steps, by_weight, line_put, both, new_line_put, append-nil)
 
 -- ---- the dash that waits for the next fragment
 
@@ -71,16 +60,10 @@ item_put p f fs = grind (arith, append-nil p.bytes, begins_is f fs)
 last_item_put : (p : Marked) → (with_item p false).bytes ≡ p.bytes ++ waiting p.pending []
 last_item_put p = grind (arith, append-nil p.bytes)
 
-pending_next : (p : Marked) (f : Fragment) → (marked_after p f).pending ≡ (if is_item_start f then true else false)
-pending_next p f = ap (λ s. s.pending) (step-flags p f)
-
--- an item that begins here
-item_start_put : (q : Marked) (fs : List Fragment) → (with_new_line q).bytes ++ item_mark fs ≡ q.bytes ++ (new_line q.bytes ++ item_mark fs)
-item_start_put q fs = both q.bytes (new_line q.bytes) (item_mark fs) (with_new_line q).bytes (new_line_put q)
-
 step_put : (before : List Fragment) (p : Marked) (f : Fragment) (fs : List Fragment) → Looks before (with_item p (is_term_end f)) → (is_term_end f ≡ false → (with_item p (is_term_end f)).empty_item ≡ is_after_empty_item before)
     → (marked_after p f).bytes ++ waiting (marked_after p f).pending fs ≡ (with_item p (is_term_end f)).bytes ++ fragment_markdown (with_item p (is_term_end f)).bytes before f fs
-step_put before p f fs h empty = grind (arith, item_start_put, pending_next, append-nil, own_put)
+step_put before p f fs h empty =
+    grind (arith, step-flags, append-nil, raw_put, both, blank_line_put, new_line_put, append_assoc)
 
 -- ---- the text
 

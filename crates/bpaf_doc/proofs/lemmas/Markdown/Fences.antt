@@ -1,18 +1,18 @@
 -- Fences open and close in turn, and code stands between them.
 use Rattle.std.proofs.lemmas.Grind.{common_steps}
 use Rattle.std.proofs.Common.{◌≡◌, ℕ, ◌+◌, ◌<◌, Bool, true, false, List, [], ◌∷◌, ◌++◌, map, refl, ap, ◌∙◌, arith}
-use Rattle.std.specs.Prelude.{not, ◌&&◌, ◌||◌, ◌==◌, reverse, IsTrue}
+use Rattle.std.specs.Prelude.{not, ◌&&◌, ◌||◌, reverse, IsTrue}
 use Rattle.std.specs.List.{list_all}
 use Rattle.std.proofs.lemmas.Bool.{false≢true, eqb-true, and_parts, and_from}
 use Rattle.bpaf_doc.specs.declared.buffer.Style.TheVariants as styles
-use Rattle.bpaf_doc.specs.Splitter.Chunks.{Raw, Paragraph, LineBreak, code_weight, fence_weight, is_ordinary, is_code_line}
+use Rattle.bpaf_doc.specs.Splitter.Chunks.{Raw, Paragraph, LineBreak, is_ordinary, is_code_line}
 use Rattle.bpaf_doc.specs.Html.Fragments.{Fragment, TextStart, Shown, TextEnd, Hidden, Start, End, shows}
-use Rattle.bpaf_doc.specs.Markdown.Page.{TextFence, Fence, MarkdownSnippet, style_marks, is_text_fence, is_fence, opened_fences, closed_fences, is_text_end}
+use Rattle.bpaf_doc.specs.Markdown.Page.{TextFence, Fence, MarkdownSnippet, style_marks, is_fence, opened_fences, closed_fences, is_text_end}
 use Rattle.bpaf_doc.specs.Snippets.{Put, Of}
-use Rattle.bpaf_doc.specs.Markdown.Steps.Page.{Marked, is_term_end, marked_after}
+use Rattle.bpaf_doc.specs.Markdown.Steps.Page.{Marked, marked_after}
 use Rattle.bpaf_doc.proofs.lemmas.Lists.Counting.{one_if, count_by-cons}
-use Rattle.bpaf_doc.proofs.lemmas.Lists.Passing.{state_after, passes, passes_back, passes_both, passes_first, passes_rest}
-use Rattle.bpaf_doc.proofs.lemmas.Markdown.Cut.{by_weight, start_snippets, own_snippets, snippets_of, cut_from, item_snippets, end_code_snippets, code_next, step-code, item-code, fence_is_whole, code_is_whole, others_are_ordinary}
+use Rattle.bpaf_doc.proofs.lemmas.Lists.Passing.{state_after, passes, passes_back, passes_both, passes_first}
+use Rattle.bpaf_doc.proofs.lemmas.Markdown.Cut.{by_weight, start_snippets, own_snippets, cut_from, item_snippets, end_code_snippets, code_next, step-code, item-code, fence_is_whole, code_is_whole}
 
 -- where a block is open: a fence with `text` opens one, another closes it
 abbrev may_stand : Bool → MarkdownSnippet → Bool
@@ -32,16 +32,14 @@ well_fenced = passes may_stand fence_next
 abbrev fence_after : Bool → List MarkdownSnippet → Bool
 fence_after = state_after may_stand fence_next
 
-opened-cons : (s : MarkdownSnippet) (ss : List MarkdownSnippet) → opened_fences (s ∷ ss) ≡ one_if (is_text_fence s) + opened_fences ss
-opened-cons s ss = count_by-cons is_text_fence s ss
-
 closed-cons : (s : MarkdownSnippet) (ss : List MarkdownSnippet) → closed_fences (s ∷ ss) ≡ one_if (is_fence s) + closed_fences ss
 closed-cons s ss = count_by-cons is_fence s ss
 
 fences_counted : (q : Bool) (ss : List MarkdownSnippet) → well_fenced q ss ≡ true → one_if q + opened_fences ss ≡ closed_fences ss + one_if (fence_after q ss)
-fences_counted false (Put TextFence ∷ ss) h = omega (arith, opened-cons (Put TextFence) ss, closed-cons (Put TextFence) ss, fences_counted true ss h)
-fences_counted true (Put Fence ∷ ss) h = omega (arith, opened-cons (Put Fence) ss, closed-cons (Put Fence) ss, fences_counted false ss h)
-fences_counted q (s ∷ ss) h = grind (arith, fences_counted q ss, false≢true, passes_first, opened-cons, closed-cons, passes_rest)
+fences_counted false (Put TextFence ∷ ss) h = omega (arith, count_by-cons, closed-cons (Put TextFence) ss, fences_counted true ss h)
+fences_counted true (Put Fence ∷ ss) h = omega (arith, count_by-cons, closed-cons (Put Fence) ss, fences_counted false ss h)
+fences_counted q (s ∷ ss) h =
+    grind (arith, fences_counted q ss, false≢true, passes_first, count_by-cons, closed-cons, passes, and_parts)
 fences_counted x y h = grind (arith, false≢true, passes_first)
 
 -- ---- the steps
@@ -54,18 +52,11 @@ raw_stands : (bytes : List ℕ) (weight : ℕ) (code ordinary in_code : Bool) �
     → fits (is_code_line (Raw bytes weight)) (is_ordinary (Raw bytes weight)) in_code ≡ fits code ordinary in_code
 raw_stands bytes weight code ordinary in_code e h = ap (λ c. fits c (is_ordinary (Raw bytes weight)) in_code) e ∙ ap (λ o. fits code o in_code) h
 
-fence_is_no_code : (weight : ℕ) → (weight == fence_weight) ≡ true → (weight == code_weight) ≡ false
-fence_is_no_code weight e = ap (λ n. n == code_weight) (eqb-true weight fence_weight e)
-
 abbrev Fences : Bool → List MarkdownSnippet → Bool → Type 0
 Fences q ss next = (well_fenced q ss ≡ true) × (fence_after q ss ≡ next)
 
 then_fences : (q r next : Bool) (xs ys : List MarkdownSnippet) → Fences q xs r → Fences r ys next → Fences q (xs ++ ys) next
 then_fences q r next xs ys h k = grind (arith, common_steps, passes_both may_stand fence_next q xs ys h.0)
-
--- a fragment that asks nothing of fences, and is no text's end
-one_fences : (q : Bool) (f : Fragment) (rest : List MarkdownSnippet) (next : Bool) → may_stand q (Of f) ≡ true → Fences q rest next → Fences q (Of f ∷ rest) next
-one_fences q f rest next e h = (ap (λ b. b && well_fenced q rest) e ∙ h.0, h.1)
 
 item_fences : (q pending empty : Bool) → Fences q (item_snippets pending empty) q
 item_fences q pending empty = grind arith
@@ -79,12 +70,12 @@ is_plain (Of f) = not (shows is_code_line f) && not (shows is_ordinary f || is_t
 
 plain_fences : (q : Bool) (ss : List MarkdownSnippet) → list_all is_plain ss ≡ true → Fences q ss q
 plain_fences q [] h = (refl, refl)
-plain_fences q (s ∷ ss) h = grind (arith, plain_fences q ss, false≢true, and_parts, one_fences)
+plain_fences q (s ∷ ss) h = grind (arith, plain_fences q ss, false≢true, and_parts, may_stand)
 
 own_fences : (p : Marked) (f : Fragment) → Fences p.in_code (own_snippets p f) (code_next p.in_code f)
 own_fences p (TextStart styles.Text) = plain_fences p.in_code (own_snippets p (TextStart styles.Text)) refl
 own_fences p (TextStart style) = plain_fences p.in_code (own_snippets p (TextStart style)) refl
-own_fences p (Shown style (Raw bytes weight)) = grind (arith, by_weight, then_fences, one_fences, raw_stands, fence_is_no_code, fence_is_whole, code_is_whole, others_are_ordinary)
+own_fences p (Shown style (Raw bytes weight)) = grind (arith, by_weight, then_fences, may_stand, raw_stands, eqb-true, fence_is_whole, code_is_whole)
 own_fences p (Shown style Paragraph) = grind (arith, plain_fences)
 own_fences p (Shown style LineBreak) = plain_fences p.in_code (own_snippets p (Shown style LineBreak)) refl
 own_fences p (TextEnd styles.Text) = then_fences p.in_code false false (end_code_snippets p.in_code) (map Put (reverse (style_marks styles.Text)) ++ Of (TextEnd styles.Text) ∷ []) (grind arith) (refl, refl)
@@ -93,12 +84,9 @@ own_fences p Hidden = plain_fences p.in_code (own_snippets p Hidden) refl
 own_fences p (Start b) = plain_fences p.in_code (start_snippets p b) (grind arith)
 own_fences p (End b) = grind (arith, plain_fences)
 
-step_fences : (p : Marked) (f : Fragment) → Fences p.in_code (snippets_of p f) (marked_after p f).in_code
-step_fences p f = grind (arith, item-code p (is_term_end f), own_fences, step-code p f, then_fences p.in_code p.in_code (code_next p.in_code f) (item_snippets p.pending (is_term_end f)), item_fences p.in_code p.pending (is_term_end f))
-
 cut_fenced : (p : Marked) (fs : List Fragment) → well_fenced p.in_code (cut_from p fs) ≡ true
 cut_fenced p [] = (item_fences p.in_code p.pending false).0
-cut_fenced p (f ∷ fs) = grind (arith, cut_fenced (marked_after p f) fs, step_fences, passes_both)
+cut_fenced p (f ∷ fs) = grind (arith, cut_fenced (marked_after p f) fs, item-code, own_fences, step-code, then_fences, item_fences, passes_both)
 
 -- ---- the laws
 

@@ -1,13 +1,12 @@
 -- What stays of the snippets under a test.
-use Rattle.std.proofs.Common.{◌≡◌, Bool, false, List, [], ◌∷◌, ◌++◌, map, arith}
-use Rattle.std.specs.Prelude.{filter, flat_map, if◌then◌else◌}
+use Rattle.std.proofs.Common.{◌≡◌, Bool, false, List, [], ◌∷◌, map, arith, filter, flat_map, if◌then◌else◌}
 use Rattle.std.proofs.lemmas.List.Elements.{filter-append}
 use Rattle.bpaf_doc.specs.declared.buffer.Block.TheVariants as blocks
 use Rattle.bpaf_doc.specs.Html.Fragments.{Fragment, Start}
 use Rattle.bpaf_doc.specs.Markdown.Page.{Mark, Heading, SecondHeading, ThirdHeading, Dash, LongDash, styled_snippets, is_heading, is_style_mark}
-use Rattle.bpaf_doc.specs.Snippets.{Put, Of, fragments_in, is_mark_or_fragment}
-use Rattle.bpaf_doc.specs.Markdown.Steps.Page.{Marked, with_item, is_term_end, marked_after}
-use Rattle.bpaf_doc.proofs.lemmas.Markdown.Cut.{item_snippets, own_snippets, snippets_of, cut_from, item_marks}
+use Rattle.bpaf_doc.specs.Snippets.{Put, fragments_in, is_mark_or_fragment}
+use Rattle.bpaf_doc.specs.Markdown.Steps.Page.{Marked, marked_after}
+use Rattle.bpaf_doc.proofs.lemmas.Markdown.Cut.{item_snippets, snippets_of, cut_from, item_marks}
 use Rattle.bpaf_doc.proofs.lemmas.Snippets.{fragments-append}
 
 -- the heading or list mark that a fragment writes of its own
@@ -17,9 +16,6 @@ own_heading p (Start blocks.Section3) = ThirdHeading ∷ []
 own_heading p (Start blocks.ItemBody) = if p.in_list then (if p.empty_item then [] else (LongDash ∷ [])) else []
 own_heading p f = []
 
-pub own-fragments : (p : Marked) (f : Fragment) → fragments_in (own_snippets p f) ≡ f ∷ []
-own-fragments p f = grind arith
-
 -- the mark of an item that waited for it
 abbrev pub item_heading : Bool → Bool → List Mark
 item_heading pending empty = if pending then (if empty then [] else (Dash ∷ [])) else []
@@ -28,7 +24,7 @@ pub item-headings : (pending empty : Bool) → filter (is_mark_or_fragment is_he
 item-headings pending empty = grind arith
 
 pub step-fragments : (p : Marked) (f : Fragment) → fragments_in (snippets_of p f) ≡ f ∷ []
-step-fragments p f = grind (arith, fragments-append, item_marks, own-fragments)
+step-fragments p f = grind (arith, fragments-append, item_marks)
 
 pub cut-fragments : (p : Marked) (fs : List Fragment) → fragments_in (cut_from p fs) ≡ fs
 cut-fragments p [] = item_marks p.pending false
@@ -40,7 +36,3 @@ step-styles p f = grind (arith, filter-append)
 pub cut-styles : (p : Marked) (fs : List Fragment) → filter (is_mark_or_fragment is_style_mark) (cut_from p fs) ≡ flat_map styled_snippets fs
 cut-styles p [] = grind arith
 cut-styles p (f ∷ fs) = grind (arith, cut-styles (marked_after p f) fs, filter-append, step-styles)
-
-pub step-headings : (p : Marked) (f : Fragment)
-    → filter (is_mark_or_fragment is_heading) (snippets_of p f) ≡ map Put (item_heading p.pending (is_term_end f)) ++ Of f ∷ map Put (own_heading (with_item p (is_term_end f)) f)
-step-headings p f = grind (arith, filter-append, item-headings)

@@ -8,13 +8,13 @@ use Rattle.std.proofs.lemmas.List.Sums.{AllPass-from_list_all, list_all-from_All
 use Rattle.std.proofs.lemmas.List.Folds.{list_all-append}
 use Rattle.std.proofs.lemmas.Bool.{false≢true, and_parts, eqb-true}
 use Rattle.bpaf_doc.specs.declared.buffer.Style.{Style}
-use Rattle.bpaf_doc.specs.Splitter.Chunks.{Chunk, Raw, Paragraph, LineBreak, fence_weight, is_whole_line}
+use Rattle.bpaf_doc.specs.Splitter.Chunks.{Chunk, Raw, fence_weight, is_whole_line}
 use Rattle.bpaf_doc.specs.Html.Fragments.{Fragment, TextStart, Shown, TextEnd, shows}
 use Rattle.bpaf_doc.specs.Markdown.Page.{mark_text, MarkdownSnippet, fragment_text, EndsInBlankLine, is_item_start}
 use Rattle.bpaf_doc.specs.Snippets.{Put, Of, fragments_in}
-use Rattle.bpaf_doc.specs.Markdown.Steps.Page.{Marked, put, starts_line, with_new_line, open_code, with_line, with_raw, with_chunk, marked_after}
+use Rattle.bpaf_doc.specs.Markdown.Steps.Page.{Marked, put, starts_line, with_new_line, open_code, with_chunk, marked_after}
 use Rattle.bpaf_doc.proofs.lemmas.Lists.Passing.{passes}
-use Rattle.bpaf_doc.proofs.lemmas.Markdown.Cut.{raw_cut, by_weight, spelled, own_snippets, snippets_of, cut_from, item_snippets, open_snippets, close_snippets, line_snippets, new_line_snippets, flags, step-flags, step-code, item_marks, step-spelled, new_line-spelled, open-spelled, new_line_marks, open_marks, close-code}
+use Rattle.bpaf_doc.proofs.lemmas.Markdown.Cut.{raw_cut, by_weight, spelled, own_snippets, snippets_of, cut_from, item_snippets, open_snippets, close_snippets, line_snippets, new_line_snippets, flags, step-flags, step-code, item_marks, step-spelled, new_line-spelled, open-spelled, new_line_marks, open_marks}
 use Rattle.bpaf_doc.proofs.lemmas.Markdown.Kept.{step-fragments}
 use Rattle.bpaf_doc.proofs.lemmas.Markdown.Mind.{Agrees, Room, agrees_after, rooms_next, same_mono}
 
@@ -39,9 +39,6 @@ one_blank : (text : List ℕ) → EndsInBlankLine text → EndsInBlankLine (text
 one_blank text h =
     AllPass-from_list_all (λ c. c == 32) (last_line (text ++ 32 ∷ []))
     (ap (list_all (λ c. c == 32)) (last_line-blank text) ∙ list_all-append (λ c. c == 32) (last_line text) (32 ∷ []) ∙ ap (λ b. b && true) (list_all-from_AllPass (λ c. c == 32) (last_line text) h))
-
-two_blanks : (text : List ℕ) → EndsInBlankLine text → EndsInBlankLine (text ++ codes "  ")
-two_blanks text h = subst EndsInBlankLine (append_assoc text (32 ∷ []) (32 ∷ [])) (one_blank (text ++ 32 ∷ []) (one_blank text h))
 
 nothing_blank : EndsInBlankLine []
 nothing_blank = AllPass-from_list_all (λ c. c == 32) [] refl
@@ -136,17 +133,6 @@ Keeps true p = (p.pending ≡ false) × (p.in_code ≡ true → EndsInBlankLine 
 never : {X : Type 0} (b : Bool) → b ≡ false → b ≡ true → X
 never b e h = absurd (false≢true (sym e ∙ h))
 
-with_line_blank : (p : Marked) (text : List ℕ) → EndsInBlankLine (with_line p text).bytes
-with_line_blank p text = blank_newline ((p.bytes ++ codes "  ") ++ text)
-
-raw_keeps : (p : Marked) (bytes : List ℕ) (weight : ℕ) → (with_raw p bytes weight).in_code ≡ true → EndsInBlankLine (with_raw p bytes weight).bytes
-raw_keeps p bytes weight = grind (arith, by_weight weight, with_line_blank (with_new_line p) bytes, with_line_blank (open_code p) bytes, close-code p)
-
-chunk_keeps : (p : Marked) (chunk : Chunk) → (with_chunk p chunk).in_code ≡ true → EndsInBlankLine (with_chunk p chunk).bytes
-chunk_keeps p (Raw bytes weight) = raw_keeps p bytes weight
-chunk_keeps p Paragraph = grind (arith, common_steps, append_assoc, two_blanks, blank_newline)
-chunk_keeps p LineBreak = λ _. blank_newline p.bytes
-
 -- what the step of a chunk is where no item waits
 chunk_step : (p : Marked) (style : Style) (chunk : Chunk) → p.pending ≡ false → marked_after p (Shown style chunk) ≡ with_chunk p chunk
 chunk_step p style chunk e = ap (λ b. with_chunk (if b then record p { bytes = p.bytes ++ codes "- "; pending = false; empty_item = false } else p) chunk) e
@@ -155,7 +141,7 @@ pending_after : (p : Marked) (f : Fragment) → is_item_start f ≡ false → (m
 pending_after p f e = ap (λ s. s.pending) (step-flags p f) ∙ ap (λ b. if b then true else false) e
 
 chunk_next : (p : Marked) (style : Style) (chunk : Chunk) → Keeps true p → Keeps true (marked_after p (Shown style chunk))
-chunk_next p style chunk keeps = grind (arith, common_steps, pending_after p (Shown style chunk) refl, chunk_step p style chunk keeps.0, chunk_keeps p chunk)
+chunk_next p style chunk keeps = grind (arith, common_steps, pending_after p (Shown style chunk) refl, chunk_step p style chunk keeps.0, by_weight, append_assoc, one_blank, blank_newline)
 
 step_stands : (t : Bool) (before : List Fragment) (p : Marked) (f : Fragment) → may_come t f ≡ true → Keeps t p → LinesStand before p.bytes (snippets_of p f)
 step_stands t before p f h1 h2 = grind (arith, raw_stands, false≢true, other_stands, step-fragments)

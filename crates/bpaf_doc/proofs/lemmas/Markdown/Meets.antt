@@ -9,7 +9,7 @@ use Rattle.bpaf_doc.specs.Markdown.Page.{IsMarkdownOf, MarkdownSnippet, Newline,
 use Rattle.bpaf_doc.specs.Snippets.{Put, Of}
 use Rattle.bpaf_doc.specs.Html.Steps.Walk.{visible, text_rest, part_walk, walk, depth_after}
 use Rattle.bpaf_doc.specs.Markdown.Steps.Page.{blank_text, with_item, marked_after_all}
-use Rattle.bpaf_doc.proofs.lemmas.Lists.Counting.{one_if, one_at_most, count_by-cons, count_by-append}
+use Rattle.bpaf_doc.proofs.lemmas.Lists.Counting.{one_if, count_by-cons, count_by-append}
 use Rattle.bpaf_doc.proofs.lemmas.Html.Fragments.Walking.{walked}
 use Rattle.bpaf_doc.proofs.lemmas.Markdown.Cut.{places-spelled, cut_from, flags}
 use Rattle.bpaf_doc.proofs.lemmas.Markdown.Kept.{cut-fragments, cut-styles}
@@ -24,12 +24,10 @@ chunks_form : (style : Style) (chunks : List Chunk) (fs : List Fragment) → wel
 chunks_form style [] fs = refl
 chunks_form style (c ∷ cs) fs = chunks_form style cs fs
 
-text_form : (full : Bool) (style : Style) (chunks : List Chunk) (fs : List Fragment) → well_formed true (text_rest full style chunks ++ fs) ≡ well_formed false fs
-text_form full style chunks fs = ap (well_formed true) (append_assoc (map (Shown style) (visible full chunks)) (TextEnd style ∷ []) fs) ∙ chunks_form style (visible full chunks) fs
-
 walk_form : (full : Bool) (depth : ℕ) (parts : List Part) → well_formed false (walk full depth parts) ≡ true
 walk_form full depth [] = refl
-walk_form full zero (Text bytes style ∷ parts) = grind (arith, walk_form full (depth_after full (Text bytes style) zero) parts, text_form)
+walk_form full zero (Text bytes style ∷ parts) =
+    grind (arith, walk_form full (depth_after full (Text bytes style) zero) parts, append_assoc, chunks_form)
 walk_form full (suc depth) (Text bytes style ∷ parts) = walk_form full (suc depth) parts
 walk_form full depth (PartStart b ∷ parts) = walk_form full (depth_after full (PartStart b) depth) parts
 walk_form full depth (PartEnd b ∷ parts) = walk_form full (depth_after full (PartEnd b) depth) parts
@@ -47,7 +45,7 @@ text_count p c full style chunks = chunks_count p c style (visible full chunks) 
 
 part_count : (p : Fragment → Bool) → Counts p → (full : Bool) (part : Part) (depth : ℕ) → count_by p (part_walk full part depth) ≤ 1
 part_count p c full (Text bytes style) zero = omega (arith, count_by-cons p (TextStart style) (text_rest full style (chunks_of bytes)), ap one_if (c.0 style), text_count p c full style (chunks_of bytes))
-part_count p c full s depth = grind (arith, count_by-cons, one_at_most)
+part_count p c full s depth = grind (arith, count_by-cons)
 
 walk_count : (p : Fragment → Bool) → Counts p → (full : Bool) (depth : ℕ) (parts : List Part) → count_by p (walk full depth parts) ≤ length parts
 walk_count p c full depth [] = omega arith

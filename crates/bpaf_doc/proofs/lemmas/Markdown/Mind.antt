@@ -11,7 +11,7 @@ use Rattle.bpaf_doc.specs.Snippets.{Put, Of, is_mark_or_fragment}
 use Rattle.bpaf_doc.specs.Markdown.Steps.Page.{Marked, with_item, is_term_end, marked_after, marked_after_all, one_more}
 use Rattle.bpaf_doc.proofs.lemmas.Lists.Counting.{one_if, count_by-cons, count_by-push}
 use Rattle.bpaf_doc.proofs.lemmas.Markdown.Cut.{Flags, flags, flags_next, item-flags, step-flags, is_list_start, is_list_end, SameMono, spelled, spelled-append, step-spelled, cut_from, snippets_of, item-spelled}
-use Rattle.bpaf_doc.proofs.lemmas.Markdown.Kept.{own_heading, item_heading, item-headings, step-headings, step-fragments}
+use Rattle.bpaf_doc.proofs.lemmas.Markdown.Kept.{own_heading, item_heading, item-headings, step-fragments}
 
 -- ---- one fragment more before
 
@@ -124,7 +124,7 @@ all-headings before p (f ∷ fs) h room =
     let own : List Mark = own_heading (with_item p (is_term_end f)) f in
     let later : List MarkdownSnippet = flat_map_places_from headed_snippets (before ++ f ∷ []) fs in
     filter-append (is_mark_or_fragment is_heading) (snippets_of p f) (cut_from next fs)
-    ∙ ap (λ x. x ++ filter (is_mark_or_fragment is_heading) (cut_from next fs)) (step-headings p f)
+    ∙ ap (λ x. x ++ filter (is_mark_or_fragment is_heading) (cut_from next fs)) (grind (arith, filter-append, item-headings))
     ∙ ap (λ x. (first ++ Of f ∷ map Put own) ++ x) (all-headings (before ++ f ∷ []) next fs (agrees_after before p f fs h room) (rooms_next before f fs room))
     ∙ ap (λ s. (first ++ Of f ∷ map Put own) ++ (map Put (item_heading s.pending (begins_with_term_end fs)) ++ later)) (step-flags p f)
     ∙ append_assoc first (Of f ∷ map Put own) (map Put (item_heading (flags_next (flags p) f).pending (begins_with_term_end fs)) ++ later)

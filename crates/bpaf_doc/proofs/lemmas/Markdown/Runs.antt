@@ -34,16 +34,6 @@ put_on p a b = ap (λ x. record p { bytes = x }) (append_assoc p.bytes a b)
 abbrev IsSettled : Marked → Type 0
 IsSettled p = (p.pending ≡ false) × (p.in_code ≡ false)
 
-no_item : (p : Marked) → p.pending ≡ false → with_item p false ≡ p
-no_item p e = ap (λ b. if b then record p { bytes = p.bytes ++ codes "- "; pending = false; empty_item = false } else p) e
-
-no_code : (p : Marked) → p.in_code ≡ false → close_code p (codes "\n  ```\n") ≡ p
-no_code p e = ap (λ b. if b then record p { bytes = p.bytes ++ codes "\n  ```\n"; in_code = false } else p) e
-
--- words where nothing waits
-words_settled : (p : Marked) (text : List ℕ) → IsSettled p → with_words p text ≡ put p (spelled p.ends p.starts text)
-words_settled p text s = ap (λ q. put q (spelled p.ends p.starts text)) (no_code p s.1)
-
 -- a raw chunk that is no line of code
 raw_words : (p : Marked) (bytes : List ℕ) (weight : ℕ) → weight < 1_000_000 → with_raw p bytes weight ≡ with_words p bytes
 raw_words p bytes weight few = grind (arith, ne_eqb)
@@ -52,7 +42,7 @@ raw_words p bytes weight few = grind (arith, ne_eqb)
 words_more : {chunks : List Chunk} {text : List ℕ} → AreWords chunks text → length text ≤ 300_000 → (p : Marked) (style : Style) → IsSettled p
     → marked_after_all p (map (Shown style) chunks) ≡ put p (spelled p.ends p.starts text)
 words_more (no_words ec et) le p style s = grind (arith, append-nil)
-words_more {chunks} {text} (a_word bytes rest others ec et w) le p style s = grind (arith, words_more w (omega (arith, (ap length et ∙ length-append bytes rest), le)) (put p (spelled p.ends p.starts bytes)) style, length-append, columns_few, no_item, raw_words, words_settled, put_on, spelled_on)
+words_more {chunks} {text} (a_word bytes rest others ec et w) le p style s = grind (arith, words_more w (omega (arith, (ap length et ∙ length-append bytes rest), le)) (put p (spelled p.ends p.starts bytes)) style, length-append, columns_few, raw_words, put_on, spelled_on)
 
 -- ---- words where something may wait
 

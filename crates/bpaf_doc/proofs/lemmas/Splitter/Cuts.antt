@@ -4,12 +4,11 @@ use Rattle.std.specs.Char.{char_set_contains}
 use Rattle.std.specs.Str.{NoCharPasses}
 use Rattle.std.specs.Str.Pattern.{HasPassingCharAt}
 use Rattle.std.specs.List.{list_all}
-use Rattle.std.proofs.Common.{inl, inr, arith, get_or, length-take}
+use Rattle.std.proofs.Common.{inl, inr, arith, get_or, length-take, get_or-take}
 use Rattle.std.proofs.lemmas.Str.{NoCharPasses-byte}
 use Rattle.std.proofs.lemmas.Str.Pattern.{drop_at_char}
 use Rattle.std.proofs.lemmas.Bool.{cases_lt}
 use Rattle.std.proofs.lemmas.Bool.Decides.{nat_tests}
-use Rattle.std.proofs.lemmas.List.{get_or-take}
 use Rattle.memchr.specs.Find.{Nowhere, NoneBefore, Passes, is_byte}
 use denote.Ref.{Bor}
 use Rattle.bpaf_doc.specs.Splitter.Chunks.{is_line_byte, is_word_byte, IsLine, IsLineEnd, IsWordEnd, IsPastNewline}

@@ -2,8 +2,7 @@
 use Rattle.std.specs.Prelude.{◌≡◌, ℕ, List, [], ◌++◌, refl, length, slice_range}
 use Rattle.std.specs.List.{All, flat_map}
 use Rattle.std.specs.Str.{IsUtf8}
-use Rattle.std.proofs.Common.{sym, ◌∙◌, ap, subst, arith, append_assoc}
-use Rattle.std.proofs.lemmas.List.{append-nil, take_at, drop_at, length-append}
+use Rattle.std.proofs.Common.{sym, ◌∙◌, ap, subst, arith, append_assoc, append-nil, take_at, drop_at, length-append}
 use Rattle.std.proofs.lemmas.List.Elements.{All-nil, All-cons, All-same}
 use Rattle.std.proofs.lemmas.List.Folds.{list_all-append}
 use Rattle.bpaf_doc.specs.Buffer.Parts.{ink}
@@ -34,12 +33,9 @@ one_line_of_pieces {chunks} (piece gap there after rest chunk others ec et g h t
 pub one_line_chunks : (text : List ℕ) → All IsOneLine (chunks_of text)
 one_line_chunks text = one_line_of_pieces (pieces (spells_its_chunks text))
 
-text_of_piece : (chunk : Chunk) (there : List ℕ) → StandsFor chunk there → IsUtf8 there → IsText chunk
-text_of_piece chunk there h2 h3 = grind (arith, IsUtf8-blank)
-
 texts_of_pieces : {chunks : List Chunk} {text : List ℕ} → Pieces chunks text → IsUtf8 text → All IsText chunks
 texts_of_pieces {chunks} (none ec et) u = All-same IsText chunks [] ec (All-nil IsText)
-texts_of_pieces {chunks} (piece gap there after rest chunk others ec et g h t l w s) u = grind (arith, texts_of_pieces s, All-same, All-cons, text_of_piece)
+texts_of_pieces {chunks} (piece gap there after rest chunk others ec et g h t l w s) u = grind (arith, texts_of_pieces s, All-same, All-cons, IsUtf8-blank)
 
 -- each Raw of a UTF-8 text is UTF-8
 pub text_chunks : (text : List ℕ) → IsUtf8 text → All IsText (chunks_of text)

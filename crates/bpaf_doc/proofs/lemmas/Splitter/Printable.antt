@@ -1,10 +1,9 @@
 -- Printable ASCII without blanks is a word, and each of its characters takes a column.
-use Rattle.std.specs.Prelude.{◌≡◌, ℕ, ◌<◌, ◌≤◌, Bool, true, IsTrue, List, [], ◌∷◌, refl, length, take}
 use Rattle.std.specs.Char.{is_ascii_graphic}
 use Rattle.std.specs.Int.{is_in_range}
 use Rattle.std.specs.List.{All, list_all}
 use Rattle.std.specs.Str.{IsAscii, IsUtf8, IsCharBoundary}
-use Rattle.std.proofs.Common.{arith}
+use Rattle.std.proofs.Common.{arith, ◌≡◌, ℕ, ◌<◌, ◌≤◌, Bool, true, IsTrue, List, [], ◌∷◌, refl, length, take}
 use Rattle.std.proofs.lemmas.Bool.{and_parts}
 use Rattle.std.proofs.lemmas.Bool.Decides.{nat_tests}
 use Rattle.std.proofs.lemmas.List.Sums.{AllPass-from_list_all}
@@ -17,15 +16,12 @@ use Rattle.bpaf_doc.specs.Splitter.Chunks.{columns, is_word_byte}
 word_one : (b : ℕ) → is_ascii_graphic b ≡ true → is_word_byte b ≡ true
 word_one b h = grind (arith, nat_tests)
 
-small_one : (b : ℕ) → is_ascii_graphic b ≡ true → b < 128
-small_one b h = grind (arith, nat_tests)
-
 pub each : (p q : ℕ → Bool) (bytes : List ℕ) → ((b : ℕ) → p b ≡ true → q b ≡ true) → list_all p bytes ≡ true → list_all q bytes ≡ true
 each p q [] one h = refl
 each p q (b ∷ bytes) one h = grind (arith, each p q bytes one, and_parts)
 
 all_small : (bytes : List ℕ) → list_all is_ascii_graphic bytes ≡ true → All (λ b. b < 128) bytes
-all_small bytes h k d l = small_one _ (AllPass-from_list_all is_ascii_graphic bytes h k d l)
+all_small bytes h k d l = grind (arith, nat_tests, AllPass-from_list_all is_ascii_graphic bytes h k d l)
 
 ascii : (bytes : List ℕ) → list_all is_ascii_graphic bytes ≡ true → IsAscii bytes
 ascii bytes h = IsAscii-from_all bytes (all_small bytes h)
@@ -39,11 +35,7 @@ printable_columns bytes h = grind (arith, chars-IsAscii, ascii, str_width-printa
 pub printable_cut : (text : List ℕ) (n : ℕ) → IsUtf8 text → n ≤ length text → list_all is_ascii_graphic (take n text) ≡ true → IsCharBoundary text n
 printable_cut text n u l h = IsCharBoundary-from_take text n u l (IsUtf8-from_ascii (take n text) (ascii (take n text) h))
 
--- a line of printable ASCII, blanks among it
-wide_small : (b : ℕ) → is_in_range 0x20 0x7E b ≡ true → b < 128
-wide_small b h = grind (arith, nat_tests)
-
 pub line_columns_are : (bytes : List ℕ) → list_all (is_in_range 0x20 0x7E) bytes ≡ true → length bytes ≡ columns bytes
-line_columns_are bytes h = grind (arith, chars-IsAscii, IsAscii-from_all, wide_small, AllPass-from_list_all, str_width-printable)
+line_columns_are bytes h = grind (arith, chars-IsAscii, IsAscii-from_all, nat_tests, AllPass-from_list_all, str_width-printable)
 
 pub ruleset printable_words = (printable_word, printable_columns, printable_cut)

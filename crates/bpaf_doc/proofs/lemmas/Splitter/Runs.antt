@@ -1,5 +1,5 @@
 -- The chunks of a run, and of a text that begins with one.
-use Rattle.std.specs.Prelude.{◌≡◌, ◌≢◌, ℕ, ◌<◌, ◌≤◌, Bool, true, IsTrue, ◌⊎◌, List, [], ◌∷◌, ◌++◌, codes, refl, length, take, drop, Option, Some, None, unwrap_or}
+use Rattle.std.specs.Prelude.{◌≡◌, ℕ, ◌<◌, ◌≤◌, Bool, true, IsTrue, ◌⊎◌, List, [], ◌∷◌, ◌++◌, codes, refl, length, take, drop, Option, Some, None, unwrap_or}
 use Rattle.std.specs.List.{list_all}
 use Rattle.std.proofs.Common.{sym, ◌∙◌, ap, subst, inl, inr, arith, append_assoc, get_or, take-append-drop, take_all, drop-cons, length-take}
 use Rattle.std.proofs.lemmas.List.{take-take, drop_all, get_or-take}
@@ -83,15 +83,12 @@ module _ (text window : List ℕ) (n : ℕ) (le : n ≤ length text) (is : windo
   inside : (k : ℕ) → k < length window → k < n
   inside k lt = omega (arith, lt, ap length is, length-take n text)
 
-  byte_same : (k : ℕ) → k < length window → get_or text k 0 ≡ get_or window k 0
-  byte_same k lt = sym (ap (λ w. get_or w k 0) is ∙ get_or-take n text k 0 (inside k lt))
-
   front_same : (k : ℕ) → k ≤ n → take k text ≡ take k window
   front_same k le = sym (ap (take k) is ∙ take-take k n text le)
 
   -- a place where a byte ends a word
   ended_at : (k b : ℕ) → k < length window → get_or window k 0 ≡ b → (b ≡ 10) ⊎ (b ≡ 32) → IsLine (take k window) → IsRunEnd text k
-  ended_at k b lt e ends line = grind (arith, inside k lt, front_same k, drop-cons text k 0, byte_same k lt)
+  ended_at k b lt e ends line = grind (arith, inside k lt, front_same k, drop-cons text k 0, get_or-take)
 
   line_front : (k : ℕ) → IsLine window → IsLine (take k window)
   line_front k line = grind (arith, and_left (list_all is_line_byte (take k window)) (list_all is_line_byte (drop k window)), list_all-append is_line_byte (take k window) (drop k window), take-append-drop k window)
@@ -110,7 +107,3 @@ pub last_blank_run : (text window : List ℕ) (n : ℕ) (r : Option ℕ) → n �
     → 0 < unwrap_or r 0 → IsRunEnd text (unwrap_or r 0)
 last_blank_run text window n None le is none last some = absurd (omega (arith, some))
 last_blank_run text window n (Some k) le is none last some = blank_run text window n le is k none last.0 last.1
-
--- a text that is not empty has some
-pub words_some : {chunks : List Chunk} {text : List ℕ} → AreWords chunks text → text ≢ [] → 0 < length chunks
-words_some h1 h2 = grind arith

@@ -1,8 +1,7 @@
 -- Each text is spelled by its chunks, and by no other list.
 use Rattle.std.specs.Prelude.{◌≡◌, ◌≢◌, ℕ, zero, suc, ◌+◌, ◌<◌, ◌≤◌, Bool, true, false, ◌&&◌, ◌==◌, IsTrue, ◌⊎◌, List, [], ◌∷◌, ◌++◌, codes, refl, length, drop, take_while}
 use Rattle.std.specs.List.{list_all, prefix_len}
-use Rattle.std.proofs.Common.{sym, ◌∙◌, ap, subst, inl, inr, arith}
-use Rattle.std.proofs.lemmas.List.{take-append-drop, length-drop, length-append}
+use Rattle.std.proofs.Common.{sym, ◌∙◌, ap, subst, inl, inr, arith, take-append-drop, length-drop, length-append}
 use Rattle.std.proofs.lemmas.List.Sums.{take_while-cons}
 use Rattle.std.proofs.lemmas.Bool.Decides.{nat_tests}
 use Rattle.std.proofs.lemmas.Bool.{eqb-true, cases_Bool}
@@ -35,9 +34,6 @@ take_while_false test b bytes e = rw (take_while-cons test b bytes, e) refl
 drop_more : (k b : ℕ) (bytes : List ℕ) → drop (1 + k) (b ∷ bytes) ≡ drop k bytes
 drop_more k b bytes = let e : 1 + k ≡ suc k = omega arith in rw e refl
 
-without_true : (test : ℕ → Bool) (b : ℕ) (bytes : List ℕ) → test b ≡ true → without_front test (b ∷ bytes) ≡ without_front test bytes
-without_true test b bytes e = rw (e, drop_more (prefix_len test bytes) b bytes) refl
-
 without_false : (test : ℕ → Bool) (b : ℕ) (bytes : List ℕ) → test b ≡ false → without_front test (b ∷ bytes) ≡ b ∷ bytes
 without_false test b bytes e = rw e refl
 
@@ -52,13 +48,13 @@ line_end : (bytes : List ℕ) → IsLineEnd (without_front is_line_byte bytes)
 line_end [] = tt
 line_end (b ∷ bytes) = at (cases_Bool (is_line_byte b)) (line_end bytes) where
   at : (is_line_byte b ≡ true) ⊎ (is_line_byte b ≡ false) → IsLineEnd (without_front is_line_byte bytes) → IsLineEnd (without_front is_line_byte (b ∷ bytes))
-  at h1 h2 = grind (arith, without_true, without_false, nat_tests)
+  at h1 h2 = grind (arith, drop_more, without_false, nat_tests)
 
 word_end : (bytes : List ℕ) → IsWordEnd (without_front is_word_byte bytes)
 word_end [] = tt
 word_end (b ∷ bytes) = at (cases_Bool (is_word_byte b)) (word_end bytes) where
   at : (is_word_byte b ≡ true) ⊎ (is_word_byte b ≡ false) → IsWordEnd (without_front is_word_byte bytes) → IsWordEnd (without_front is_word_byte (b ∷ bytes))
-  at h1 h2 = grind (arith, without_true, without_false, cases_Bool, nat_tests)
+  at h1 h2 = grind (arith, drop_more, without_false, cases_Bool, nat_tests)
 
 past_newline : (rest : List ℕ) → IsLineEnd rest → IsPastNewline rest (drop 1 rest)
 past_newline rest h = grind arith
@@ -78,13 +74,10 @@ take_while_append test (b ∷ front) rest h e = grind (arith, take_while_append 
 
 without_append : (test : ℕ → Bool) (front rest : List ℕ) → IsTrue (list_all test front) → (without_front test rest ≡ rest) → without_front test (front ++ rest) ≡ rest
 without_append test [] rest h e = e
-without_append test (b ∷ front) rest h e = grind (arith, without_append test front rest, without_true, and_left, and_right)
+without_append test (b ∷ front) rest h e = grind (arith, without_append test front rest, drop_more, and_left, and_right)
 
 line_stops : (rest : List ℕ) → IsLineEnd rest → (take_while is_line_byte rest ≡ []) × (without_front is_line_byte rest ≡ rest)
 line_stops rest h = grind (arith, take_while_false, without_false)
-
-word_stops : (rest : List ℕ) → IsWordEnd rest → (take_while is_word_byte rest ≡ []) × (without_front is_word_byte rest ≡ rest)
-word_stops rest h = grind (arith, take_while_false, without_false)
 
 next_len : (text line rest next : List ℕ) (n : ℕ) → text ≡ line ++ rest → IsPastNewline rest next → length text ≤ suc n → length next ≤ n
 next_len text line rest next n h1 h2 h3 = grind (arith, length-append)
@@ -98,9 +91,6 @@ not_zero text front rest e some h = grind (arith, length-append)
 empty_len : (text : List ℕ) → length text ≤ 0 → text ≢ [] → ⊥
 empty_len [] h e = e refl
 empty_len (b ∷ text) h e = omega arith
-
-ticks_len : (line : List ℕ) → IsTrue (starts line (codes "```")) → 0 < length line
-ticks_len line h = grind arith
 
 ticks_some : (text line rest : List ℕ) → text ≡ line ++ rest → IsTrue (starts line (codes "```")) → text ≢ []
 ticks_some text line rest e t none = let h : IsTrue (starts [] (codes "```")) = subst (λ xs. IsTrue (starts xs (codes "```"))) none (text_ticks text line rest e t) in cc
@@ -144,16 +134,12 @@ word_some : (bytes rest : List ℕ) → bytes ≢ [] → bytes ++ rest ≡ [] �
 word_some [] rest e none = e refl
 word_some (b ∷ bytes) rest e none = cc
 
-newline_is : (n : ℕ) (rest : List ℕ) → ¬ IsTrue (starts rest (codes "\n")) → ¬ IsTrue (starts rest (codes " "))
-    → Raw (codes " ") 1 ∷ chunks_within n Plain rest ≡ chunks_within (suc n) Plain (10 ∷ rest)
-unfolding chunks_within
-newline_is n rest t f = grind (arith, starts_front)
-
 word_is : (n : ℕ) (bytes rest : List ℕ) (others : List Chunk) → IsWord bytes → IsWordEnd rest → others ≡ chunks_within n Plain rest
     → Raw bytes (columns bytes) ∷ others ≡ chunks_within (suc n) Plain (bytes ++ rest)
 unfolding chunks_within
 word_is n [] rest others w r e = absurd (w.0 refl)
-word_is n (b ∷ bytes) rest others w r e = grind (arith, take_while_append is_word_byte (b ∷ bytes) rest w.1, word_stops rest r, without_append is_word_byte (b ∷ bytes) rest w.1, and_right)
+word_is n (b ∷ bytes) rest others w r e =
+    grind (arith, take_while_append is_word_byte (b ∷ bytes) rest w.1, take_while_false, without_false, without_append is_word_byte (b ∷ bytes) rest w.1, and_right)
 
 unique : {form : Form} {chunks : List Chunk} {text : List ℕ} → Spells form chunks text → (n : ℕ) → length text ≤ n → chunks ≡ chunks_within n form text
 unfolding chunks_within
@@ -170,7 +156,7 @@ unique {text = text} (paragraph rest others ec et t f s) (suc n) h = grind (arit
 unique {text = text} (line_break rest others ec et t s) zero h = absurd (not_zero text (codes "\n ") rest et (omega arith) h)
 unique {text = text} (line_break rest others ec et t s) (suc n) h = grind (arith, unique s n, rest_len)
 unique {text = text} (newline rest others ec et t f s) zero h = absurd (not_zero text (codes "\n") rest et (omega arith) h)
-unique {text = text} (newline rest others ec et t f s) (suc n) h = grind (arith, unique s n, rest_len, newline_is)
+unique {text = text} (newline rest others ec et t f s) (suc n) h = grind (arith, unique s n, rest_len, starts_front)
 unique {text = text} (blank rest others ec et s) zero h = absurd (not_zero text (codes " ") rest et (omega arith) h)
 unique {text = text} (blank rest others ec et s) (suc n) h = grind (arith, unique s n, rest_len)
 unique {text = text} (word bytes rest others ec et w r s) zero h = absurd (empty_len text h (λ none. word_some bytes rest w.0 (sym et ∙ none)))
@@ -186,7 +172,7 @@ unique {text = text} (closing_paragraph line rest others ec et il t f s) zero h 
 unique {text = text} (closing_paragraph line rest others ec et il t f s) (suc n) h =
     ec ∙ joined n Plain line (take_while is_line_byte text) rest (without_front is_line_byte text) others
     (line_of text line rest et il end) (rest_of text line rest et il end)
-    (unique s n (rest_len text line rest n et (ticks_len line t) h))
+    (unique s n (rest_len text line rest n et (grind arith) h))
     ∙ sym (closing_paragraph_is n text (ticks_some text line rest et t) (text_ticks text line rest et t)
     (subst (λ xs. starts xs (codes "\n\n") ≡ true) (sym (rest_of text line rest et il end)) f)) where
       end : IsLineEnd rest
@@ -270,7 +256,7 @@ module _ (n : ℕ) (ih : SpelledTo n) where
       elim (cases_Bool (starts (b ∷ rest) (codes "```"))) [
         | inl e ↦ elim (cases_Bool (starts back (codes "\n\n"))) [
           | inl f ↦
-              let s = ih Plain back (rest_len text line back n whole (ticks_len line (line_ticks text e)) (omega (arith, h))) in
+              let s = ih Plain back (rest_len text line back n whole (grind (arith, line_ticks text e)) (omega (arith, h))) in
               (Raw line fence_weight ∷ s.0, closing_paragraph line back s.0 refl whole all (line_ticks text e) f s.1)
           | inr f ↦
               let s = ih Plain (drop 1 back) (length_next n b rest h) in

@@ -4,9 +4,8 @@ use Rattle.std.proofs.Common.{sym, subst, ap, arith, inl, inr, ◌∙◌}
 use Rattle.std.proofs.lemmas.Bool.Decides.{nat_tests}
 use Rattle.bpaf_doc.specs.Splitter.Chunks.{is_whole_line}
 use Rattle.bpaf_doc.specs.Console.Layout.{Shows, Stretch, Gap, Placed, Passed, Place, chunk_at, is_placed}
-use Rattle.bpaf_doc.proofs.lemmas.Console.Layout.State.{State, Piece, Lines, Begins, first, stays, wraps, places, drops, Next, Grows, placing, breaking, passing, padded, trimmed, put}
-use Rattle.bpaf_doc.proofs.lemmas.Console.Layout.Back.{by_cases, EachPlace, each_grows, place_of, by_lines, same_padded}
-use Rattle.bpaf_doc.proofs.lemmas.Console.Layout.Text.{IsStarting, has_place, or_true_right}
+use Rattle.bpaf_doc.proofs.lemmas.Console.Layout.State.{State, Piece, Lines, Begins, first, stays, wraps, places, drops, Next, Grows, placing, breaking, passing, padded, trimmed}
+use Rattle.bpaf_doc.proofs.lemmas.Console.Layout.Back.{by_cases, EachPlace, each_grows, place_of, by_lines, same_padded, IsStarting, has_place, or_true_right}
 use Rattle.bpaf_doc.proofs.lemmas.Console.Layout.Split.{Cut, cut_cons, cut_gap, AfterPassed, cut_passed, cut_padded, has_newline}
 
 -- ---- helpers
@@ -49,11 +48,9 @@ alone_begins p base small start h (wraps t mid l w b s) = λ m before e there wh
 alone_padded : (n : ℕ) (r : List Stretch) (f : Place) → AloneBefore r f → AloneBefore (padded n r) f
 alone_padded n r f h = grind (arith, cut_padded n r, same_padded has_newline)
 
-heavy_put : (p : Piece) (base : State) (n : ℕ) → AloneBefore (padded n base.back) (place_of p) → IsHeavy (put n p.part p.bytes p.weight base)
-heavy_put p base n alone = grind (arith, cut_cons, nat_tests)
-
 pub heavy_grows : {width : ℕ} {st after : State} {next : Next} → width < 1_000_000 → IsStarting st → Grows width st next after → IsHeavy st → IsHeavy after
-heavy_grows small start (placing p e (places base n b d a)) h = subst IsHeavy (sym a) (heavy_put p base n (alone_padded n base.back (place_of p) (alone_begins p base small start h b)))
+heavy_grows small start (placing p e (places base n b d a)) h =
+    subst IsHeavy (sym a) (grind (arith, cut_cons, nat_tests, alone_padded n base.back (place_of p) (alone_begins p base small start h b)))
 heavy_grows small start (placing p e (drops t mid l w b a)) h = subst IsHeavy (sym a) (λ m before g there whole none.
     let found : AfterPassed _ (Gap 10 ∷ trimmed mid.back) m g before = cut_passed _ (Gap 10 ∷ trimmed mid.back) m g before there in
     let line : has_newline m ≡ true = ap has_newline found.is ∙ line_since (Gap 10 ∷ trimmed mid.back) (trimmed mid.back) found.rest before g refl found.there in absurd cc)

@@ -1,17 +1,13 @@
 -- The first inked chunk of a line stands at its margin, where only marks or one blank stand before it.
-use Rattle.std.specs.Prelude.{◌≡◌, ℕ, ◌+◌, ◌<◌, Bool, true, false, not, ◌&&◌, List, [], ◌∷◌, length, codes, refl, ◌⊎◌}
+use Rattle.std.specs.Prelude.{◌≡◌, ℕ, ◌+◌, ◌<◌, Bool, true, false, not, ◌&&◌, List, [], ◌∷◌, codes, refl, ◌⊎◌}
 use Rattle.std.proofs.Common.{sym, subst, ap, arith, inl, inr, ◌∙◌}
-use Rattle.bpaf_doc.specs.declared.buffer.Block.{Block}
 use Rattle.bpaf_doc.specs.Splitter.Chunks.{Chunk, Raw, is_inked}
-use Rattle.bpaf_doc.specs.Shown.{is_term_ref, mark_bytes}
 use Rattle.bpaf_doc.specs.Console.Layout.{Event, Shows, Stretch, Gap, Placed, Passed, Place, chunk_at, is_raw_or_ref}
 use Rattle.bpaf_doc.specs.Console.Exact.{NoBreak}
 use Rattle.bpaf_doc.proofs.lemmas.Console.Layout.State.{State, Piece, Lines, Pads, Begins, first, stays, wraps, places, drops, Next, raw, mark, Grows, placing, breaking, passing, padded, put, Suits}
-use Rattle.bpaf_doc.proofs.lemmas.Console.Layout.Back.{by_cases, EachPlace, each_grows, place_of, fits_of, by_lines, same_padded, by_mark}
-use Rattle.bpaf_doc.proofs.lemmas.Console.Layout.Columns.{Fills, column_back, column_padded, Agrees}
-use Rattle.bpaf_doc.proofs.lemmas.Console.Layout.Text.{EachPassed, NoInk, ink_text, IsStarting, begins_column, begins_margin, or_false_right}
+use Rattle.bpaf_doc.proofs.lemmas.Console.Layout.Back.{by_cases, EachPlace, each_grows, place_of, fits_of, by_lines, same_padded, by_mark, Fills, column_back, column_padded, Agrees, EachPassed, NoInk, ink_text, IsStarting, begins_column, begins_margin, or_false_right}
 use Rattle.bpaf_doc.proofs.lemmas.Console.Layout.Pads.{pads_back, HasNoPads, pads_begins}
-use Rattle.bpaf_doc.proofs.lemmas.Console.Layout.Split.{events_back, Cut, FirstOrLater, here, later, cut_cons, cut_gap, AfterPassed, cut_passed, AfterPads, cut_padded, has_newline, inked_line, inked_since, ink_at, Earlier, after_lines, lines_same}
+use Rattle.bpaf_doc.proofs.lemmas.Console.Layout.Split.{events_back, Cut, FirstOrLater, here, later, cut_cons, cut_gap, AfterPassed, cut_passed, AfterPads, cut_padded, has_newline, inked_line, inked_since, ink_at, Earlier, after_lines}
 
 -- ---- only marks since the last ink
 
@@ -22,12 +18,9 @@ is_quiet (Gap b ∷ r) = is_quiet r
 is_quiet (Placed e ∷ r) = is_inked (chunk_at e)
 is_quiet (Passed event ∷ r) = not (is_raw_or_ref event) && is_quiet r
 
-no_backquote : (b : Block) → is_term_ref b ≡ false → length (mark_bytes b) ≡ 0
-no_backquote b h = rw h refl
-
 quiet_column : (r : List Stretch) → is_quiet r ≡ true → inked_line r ≡ false → pads_back r ≡ 0 → column_back r ≡ 0
 quiet_column [] q i p = refl
-quiet_column (x ∷ r) q i p = grind (arith, quiet_column r, no_backquote, or_false_right)
+quiet_column (x ∷ r) q i p = grind (arith, quiet_column r, or_false_right)
 
 -- ---- one blank since the last ink
 
@@ -47,7 +40,7 @@ IsAtStart st = (m before : List Stretch) (e : Place) (k : ℕ) → Cut st.back m
 last_lines : {st mid : State} → IsLast st → Lines st mid → (m before : List Stretch) (e : Place) → Cut mid.back m e before → is_inked (chunk_at e) ≡ true → events_back m ≡ [] → m ≡ []
 last_lines {st} {mid} h l m before e there i none =
     let earlier : Earlier st.back m e before = after_lines l m before e there in
-    let same : mid ≡ st = lines_same (h earlier.rest before e earlier.there i (earlier.events ∙ none)).1 l in
+    let same : mid ≡ st = grind arith in
     (h m before e (subst (λ (x : State). Cut x.back m e before) same there) i none).0
 
 start_put : {width : ℕ} {st : State} (p : Piece) (base : State) (n : ℕ) → EachPlace Fills st.back → EachPassed NoInk st.back → IsLast st → Begins width st p base
@@ -97,9 +90,6 @@ module _ (margin_of : ℕ → ℕ) where
   abbrev pub IsExact : List Stretch → Place → Type 0
   IsExact r f = inked_line r ≡ false → (is_quiet r ≡ true) ⊎ AfterBlank r f.part → column_back r ≡ margin_of f.part
 
-  lines_start : {st mid : State} → IsAtStart st → Lines st mid → IsAtStart mid
-  lines_start h l = by_lines IsAtStart l h (λ m before e k there i blank line. refl) (λ m before e k there i blank line. refl) (λ m before e k there i blank line. refl)
-
   pub exact_grows : {width : ℕ} {st after : State} {next : Next} → width < 1_000_000 → EachPlace Fills st.back → EachPassed NoInk st.back → IsStarting st → Agrees st → HasNoPads st → IsAtStart st
       → Suits margin_of st next → Grows width st next after → EachPlace IsExact st.back → EachPlace IsExact after.back
   exact_grows {width} {st} {after} {next} small f q start agrees none h suits g all = each_grows IsExact (λ r p i x. x) core g all where
@@ -119,7 +109,7 @@ module _ (margin_of : ℕ → ℕ) where
             blank = sym (ap events_back cut_there.is ∙ same_padded events_back (λ x. refl) n cut_there.rest) ∙ found.blank
 
             at : (has_newline cut_there.rest ≡ true) ⊎ (has_newline cut_there.rest ≡ false) → column_back base.back ≡ 0
-            at h1 = grind (arith, lines_start, blank, inked_since)
+            at h1 = grind (arith, by_lines, blank, inked_since)
           after_blank clear found cut_there (wraps t mid l w x s) = ap (λ (y : State). column_back y.back) s
 
           zero_at : inked_line base.back ≡ false → (is_quiet (padded n base.back) ≡ true) ⊎ AfterBlank (padded n base.back) p.part → column_back base.back ≡ 0

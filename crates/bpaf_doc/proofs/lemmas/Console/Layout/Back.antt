@@ -1,10 +1,20 @@
--- Facts that hold of each place of a page, and what keeps them.
-use Rattle.std.specs.Prelude.{◌≡◌, ℕ, zero, suc, ◌+◌, ◌<◌, ◌≤◌, ⊤, Bool, true, false, List, [], ◌∷◌, ◌++◌, codes, refl, if◌then◌else◌}
-use Rattle.std.proofs.Common.{arith, sym, subst, ◌∙◌, ◌⊎◌}
-use Rattle.bpaf_doc.specs.Splitter.Chunks.{Chunk, Paragraph, LineBreak, columns, is_inked, has_some}
+-- Facts that hold of each place of a page, and what keeps them; the column and the text of a page as it grows.
+use Rattle.std.specs.Prelude.{◌≡◌, ℕ, zero, suc, ◌+◌, ◌<◌, ◌≤◌, ⊤, Bool, true, false, List, [], ◌∷◌, ◌++◌, codes, refl, if◌then◌else◌, not, ◌&&◌, ◌||◌, ◌==◌, length, filter, chars, ◌⊎◌}
+use Rattle.std.proofs.Common.{arith, sym, subst, ◌∙◌, ◌⊎◌, rules, inl, inr}
+use Rattle.bpaf_doc.specs.Splitter.Chunks.{Chunk, Paragraph, LineBreak, columns, is_inked, has_some, Raw, IsOrdinary, code_weight, fence_weight}
 use Rattle.bpaf_doc.specs.declared.buffer.Block.{Block}
-use Rattle.bpaf_doc.specs.Console.Layout.{Event, Shows, Opens, Closes, is_inline_block, Stretch, Gap, Placed, Passed, Place, chunk_at, event_bytes}
-use Rattle.bpaf_doc.proofs.lemmas.Console.Layout.State.{State, Piece, Lines, Pads, Begins, places, drops, Next, raw, break, mark, Grows, placing, breaking, passing, padded, trimmed, cut, Fits, Suits, raw_suits, paragraph_suits, line_break_suits, open_suits, close_suits, on_new_line, sat, put, dropped, wrapped, broken, passed}
+use Rattle.bpaf_doc.specs.Console.Layout.{Event, Shows, Opens, Closes, is_inline_block, Stretch, Gap, Placed, Passed, Place, chunk_at, event_bytes, stretch_columns, is_newline, is_inked_event, is_inked_stretch, is_placed, is_written}
+use Rattle.bpaf_doc.proofs.lemmas.Console.Layout.State.{State, Piece, Lines, Pads, Begins, places, drops, Next, raw, break, mark, Grows, placing, breaking, passing, padded, trimmed, cut, Fits, Suits, on_new_line, sat, put, dropped, wrapped, broken, passed, has_text, ends_line, IsClear}
+use Rattle.std.specs.Str.{trim_end, drop_trailing_whitespace, chars}
+use Rattle.std.specs.Char.{is_not_whitespace}
+use Rattle.std.proofs.lemmas.Bool.{cases_lt}
+use Rattle.std.proofs.lemmas.Str.{length-le-encodes}
+use Rattle.std.proofs.lemmas.Bool.Decides.{nat_tests}
+use Rattle.unicode_width.specs.Width.{str_width}
+use Rattle.bpaf_doc.specs.Buffer.Parts.{ink}
+use Rattle.std.specs.List.{list_any}
+
+-- ---- facts that hold of each place of a page, and what keeps them
 
 pub by_cases : (b : Bool) → (b ≡ true) ⊎ (b ≡ false)
 by_cases s = grind arith
@@ -94,11 +104,7 @@ each_grows P keeps core g h = by_grows (λ s. EachPlace P s.back) g
 
 -- what suits a chunk that is placed
 pub fits_of : {margin_of : ℕ → ℕ} {st : State} {next : Next} {p : Piece} → Suits margin_of st next → next ≡ raw p → Fits margin_of st p
-fits_of {margin_of} {st} {next} {p} (raw_suits q e f) h = let same : q ≡ p = cc in subst (λ (x : Piece). Fits margin_of st x) same f
-fits_of (paragraph_suits k e l m) h = absurd cc
-fits_of (line_break_suits k e l m) h = absurd cc
-fits_of (open_suits b margin e l u) h = absurd cc
-fits_of (close_suits b margin e l u) h = absurd cc
+fits_of h1 h2 = grind arith
 
 -- Q of a mark that comes next, where it opens a block and where it closes one
 pub by_mark : {margin_of : ℕ → ℕ} {st : State} {next : Next} {event : Event} {margin : ℕ} (Q : Event → ℕ → Type 0) → Suits margin_of st next
@@ -112,3 +118,198 @@ pub by_break : {margin_of : ℕ → ℕ} {st : State} {next : Next} {k : ℕ} {c
     → ((j : ℕ) → st.latest ≤ j → (st.marked ≡ true → st.latest < j) → Q Paragraph j)
     → ((j : ℕ) → st.latest ≤ j → (st.marked ≡ true → st.latest < j) → Q LineBreak j) → Q chunk k
 by_break Q h1 h2 h3 h4 = grind arith
+
+-- ---- a chunk with ink keeps some bytes when its blank end is cut
+
+pub whole_trim : (cs : List ℕ) → has_some (filter is_not_whitespace cs) ≡ true → 0 < length (drop_trailing_whitespace cs)
+whole_trim [] h = absurd cc
+whole_trim (c ∷ cs) h = grind (arith, nat_tests, whole_trim cs)
+
+some_of_length : (xs : List ℕ) → 0 < length xs → has_some xs ≡ true
+some_of_length xs h = grind arith
+
+pub inked_trim : (bytes : List ℕ) → has_some (ink bytes) ≡ true → has_some (trim_end bytes) ≡ true
+unfolding trim_end
+inked_trim bytes h = search (rules, whole_trim, some_of_length, length-le-encodes)
+
+pub inked_some : (bytes : List ℕ) → has_some (ink bytes) ≡ true → has_some bytes ≡ true
+unfolding chars
+inked_some bytes h = grind arith
+
+-- ---- what is shown of a chunk is empty only where the chunk is
+
+abbrev pub Fills : List Stretch → Place → Type 0
+Fills r f = has_some f.shown ≡ has_some f.bytes
+
+fills_cut : KeepsCut Fills
+fills_cut r f i h = inked_trim f.bytes i ∙ sym (inked_some f.bytes i)
+
+pub fills_grows : {width : ℕ} {st after : State} {next : Next} → Grows width st next after → EachPlace Fills st.back → EachPlace Fills after.back
+fills_grows g h = each_grows Fills fills_cut (λ p base n e b d. refl) g h
+
+pub fills_begins : {width : ℕ} {st : State} {p : Piece} {base : State} → Begins width st p base → EachPlace Fills st.back → EachPlace Fills base.back
+fills_begins b h = each_begins Fills fills_cut b h
+
+-- ---- the column in the last line
+
+abbrev pub column_back : List Stretch → ℕ
+column_back [] = 0
+column_back (x ∷ r) = if is_newline x then 0 else (stretch_columns x + column_back r)
+
+-- one of the stretches of the last line
+abbrev pub any_in_line : (Stretch → Bool) → List Stretch → Bool
+any_in_line p [] = false
+any_in_line p (x ∷ r) = if is_newline x then false else (p x || any_in_line p r)
+
+pub column_padded : (n : ℕ) (r : List Stretch) → column_back (padded n r) ≡ n + column_back r
+column_padded zero r = omega arith
+column_padded (suc n) r = let ih : column_back (padded n r) ≡ n + column_back r = column_padded n r in omega arith
+
+no_columns : columns [] ≡ 0
+unfolding chars str_width
+no_columns = refl
+
+pub no_bytes : (xs : List ℕ) → has_some xs ≡ false → length xs ≡ 0
+no_bytes xs h = grind arith
+
+-- a page that ends in a newline is at column 0
+pub ends_line_column : (r : List Stretch) → EachPlace Fills r → ends_line r ≡ true → column_back r ≡ 0
+ends_line_column [] f h = refl
+ends_line_column (x ∷ r) f h = grind (arith, ends_line_column r, no_columns, no_bytes)
+
+-- a page without text is at column 0
+pub no_text_column : (r : List Stretch) → EachPlace Fills r → has_text r ≡ false → column_back r ≡ 0
+no_text_column [] f h = refl
+no_text_column (x ∷ r) f h = grind (arith, no_text_column r, no_columns, no_bytes)
+
+-- ---- the column that is kept
+
+-- the column that is kept is the page's, or no chunk fits after it
+abbrev pub Agrees : State → Type 0
+Agrees st = (st.column ≡ column_back st.back) ⊎ (1_000_000 ≤ st.column)
+
+pub agrees_lines : {st mid : State} → EachPlace Fills st.back → Lines st mid → Agrees st → Agrees mid
+agrees_lines f e h = grind (arith, ends_line_column)
+
+pub heavy : (weight : ℕ) → (not (weight == code_weight) && not (weight == fence_weight)) ≡ false → 1_000_000 ≤ weight
+heavy weight o = grind (arith, nat_tests)
+
+pub sat_agrees : (a b : ℕ) → a ≡ b → (sat a ≡ b) ⊎ (1_000_000 ≤ sat a)
+sat_agrees a b e = elim (cases_lt a 18446744073709551616) [ inl l ↦ inl (omega arith) | inr l ↦ inr (omega arith) ]
+
+pub agrees_put : (n : ℕ) (p : Piece) (base : State) → (IsOrdinary (Raw p.bytes p.weight) → p.weight ≡ columns p.bytes) → Agrees base → Agrees (put n p.part p.bytes p.weight base)
+agrees_put n p base weighed h = grind (arith, sat_agrees, column_padded, heavy)
+
+pub agrees_grows : {width : ℕ} {margin_of : ℕ → ℕ} {st after : State} {next : Next} → Suits margin_of st next → EachPlace Fills st.back
+    → Grows width st next after → Agrees st → Agrees after
+agrees_grows {st = st} suits f g h = by_grows Agrees g (λ p base n e b d. agrees_put n p base (fits_of suits e).weighed (grind (arith, agrees_lines))) (λ p mid e l w b. inl refl) (λ k chunk e. inl refl)
+    (λ event margin e. elim h [ inl c ↦ sat_agrees (st.column + length (event_bytes event)) (length (event_bytes event) + column_back st.back) (omega arith) | inr c ↦ inr (omega arith) ])
+
+-- ---- what has no place has no ink
+
+-- Q of each event that has no place
+abbrev pub EachPassed : (Event → Type 0) → List Stretch → Type 0
+EachPassed Q [] = ⊤
+EachPassed Q (Gap b ∷ r) = EachPassed Q r
+EachPassed Q (Placed f ∷ r) = EachPassed Q r
+EachPassed Q (Passed event ∷ r) = Q event × EachPassed Q r
+
+abbrev pub NoInk : Event → Type 0
+NoInk event = is_inked_event event ≡ false
+
+pub no_ink_trimmed : (r : List Stretch) → EachPassed NoInk r → EachPassed NoInk (trimmed r)
+no_ink_trimmed = by_trimmed (λ r t. EachPassed NoInk r → EachPassed NoInk t) (λ h. h) (λ b r t ih h. ih h) (λ e r i h. h) (λ e r t i ih h. (i, ih h)) (λ event r i h. h) (λ event r t i ih h. (h.0, ih h.1))
+
+pub no_ink_lines : {st mid : State} → Lines st mid → EachPassed NoInk st.back → EachPassed NoInk mid.back
+no_ink_lines l h = lines_back (EachPassed NoInk) (λ r x. x) l h
+
+pub no_ink_begins : {width : ℕ} {st : State} {p : Piece} {base : State} → Begins width st p base → EachPassed NoInk st.back → EachPassed NoInk base.back
+no_ink_begins b h = begins_back (EachPassed NoInk) (λ r x. x) no_ink_trimmed b h
+
+blank_ink : (k weight : ℕ) → is_inked_event (Shows k (Raw (codes " ") weight)) ≡ false
+unfolding chars
+blank_ink k weight = refl
+
+pub no_ink_blank : (k weight : ℕ) (bytes : List ℕ) → bytes ≡ codes " " → is_inked_event (Shows k (Raw bytes weight)) ≡ false
+no_ink_blank k weight bytes e = rw e (blank_ink k weight)
+
+pub no_ink_grows : {width : ℕ} {margin_of : ℕ → ℕ} {st after : State} {next : Next} → Suits margin_of st next
+    → Grows width st next after → EachPassed NoInk st.back → EachPassed NoInk after.back
+no_ink_grows suits g h = by_grows (λ s. EachPassed NoInk s.back) g (λ p base n e b d. by_padded (EachPassed NoInk) (λ x y. y) n base.back (no_ink_begins b h))
+    (λ p mid e l w b. (no_ink_blank p.part p.weight p.bytes b, no_ink_trimmed mid.back (no_ink_lines l h)))
+    (λ k chunk e. (by_break (λ c j. is_inked_event (Shows j c) ≡ false) suits e (λ j l m. refl) (λ j l m. refl), h))
+    (λ event margin e. (by_mark (λ x m. is_inked_event x ≡ false) suits e (λ b m l u. refl) (λ b m l u. refl), h))
+
+-- ---- ink is text
+
+pub ink_text : (r : List Stretch) → EachPlace Fills r → EachPassed NoInk r → list_any is_inked_stretch r ≡ true → has_text r ≡ true
+ink_text [] f q h = absurd cc
+ink_text (x ∷ r) f q h = grind (arith, ink_text r, inked_some)
+
+-- ---- nothing is written
+
+abbrev pub has_place : List Stretch → Bool
+has_place r = list_any is_placed r
+
+-- before the first byte no chunk is placed, and the column is 0
+abbrev pub IsStarting : State → Type 0
+IsStarting st = has_text st.back ≡ false → (st.column ≡ 0) × (has_place st.back ≡ false)
+
+pub or_false_left : (a b : Bool) → (a || b) ≡ false → a ≡ false
+or_false_left a b h = grind arith
+
+pub or_false_right : (a b : Bool) → (a || b) ≡ false → b ≡ false
+or_false_right a b h = grind arith
+
+pub or_true_right : (a b : Bool) → b ≡ true → (a || b) ≡ true
+or_true_right a b h = grind arith
+
+-- a page that goes on after some text has text
+pub text_lines : {st mid : State} → Lines st mid → has_text st.back ≡ true → has_text mid.back ≡ true
+text_lines l h = lines_back (λ r. has_text r ≡ true) (λ r x. refl) l h
+
+starting_put : {width : ℕ} {margin_of : ℕ → ℕ} (st : State) (p : Piece) (base : State) (n : ℕ)
+    → Fits margin_of st p → IsClear st (raw p) → Begins width st p base → has_text (put n p.part p.bytes p.weight base).back ≡ true
+starting_put st p base n fits clear h = grind (arith, fits.filled, clear, or_true_right, by_padded, text_lines)
+
+pub starting_grows : {width : ℕ} {margin_of : ℕ → ℕ} {st after : State} {next : Next}
+    → Suits margin_of st next → IsClear st next → Grows width st next after → IsStarting st → IsStarting after
+starting_grows {st = st} suits clear g h = by_grows IsStarting g
+    (λ p base n e b d none. let some : has_text (put n p.part p.bytes p.weight base).back ≡ true = starting_put st p base n (fits_of suits e) (subst (λ (x : Next). IsClear st x) e clear) b in absurd cc)
+    (λ p mid e l w b none. absurd cc) (λ k chunk e none. absurd cc)
+    (λ event margin e none.
+    let before : (st.column ≡ 0) × (has_place st.back ≡ false) = h (or_false_right (has_some (event_bytes event)) (has_text st.back) none) in
+    let bare : length (event_bytes event) ≡ 0 = no_bytes (event_bytes event) (or_false_left (has_some (event_bytes event)) (has_text st.back) none) in
+    let zero_column : st.column ≡ 0 = before.0 in
+    (omega arith, before.1))
+
+-- ---- what is written stays
+
+pub text_stays : {width : ℕ} {st after : State} {next : Next} → Grows width st next after → has_text st.back ≡ true → has_text after.back ≡ true
+text_stays g h = by_grows (λ s. has_text s.back ≡ true) g
+    (λ p base n e b d. or_true_right (has_some p.bytes) (has_text (padded n base.back)) (by_padded (λ x. has_text x ≡ true) (λ x y. refl) n base.back (begins_back (λ r. has_text r ≡ true) (λ r x. refl) (λ r x. refl) b h)))
+    (λ p mid e l w b. refl) (λ k chunk e. refl) (λ event margin e. or_true_right (has_some (event_bytes event)) _ h)
+
+-- what comes next, as an event
+abbrev pub next_event : Next → Event
+next_event (raw p) = Shows p.part (Raw p.bytes p.weight)
+next_event (break k chunk) = Shows k chunk
+next_event (mark event level) = event
+
+-- what puts a byte on the page leaves some text
+pub text_written : {width : ℕ} {margin_of : ℕ → ℕ} {st after : State} {next : Next} → Suits margin_of st next → Grows width st next after → is_written (next_event next) ≡ true → has_text after.back ≡ true
+text_written {st = st} suits g h = grind (arith, by_grows, by_mark)
+
+-- ---- where a chunk begins
+
+-- the column that is kept is the page's where a chunk is placed
+pub begins_column : {width : ℕ} {st : State} {p : Piece} {base : State} → width < 1_000_000 → EachPlace Fills st.back → IsStarting st → Agrees st
+    → Begins width st p base → base.column ≡ column_back base.back
+begins_column small f start h e = grind (arith, no_text_column, agrees_lines)
+
+-- and the margin is still the one in force, and what was asked for after a term still holds
+pub lines_margin : {st mid : State} → Lines st mid → (mid.margin ≡ st.margin) × (mid.pending ≡ st.pending)
+lines_margin {st} l = by_lines (λ s. (s.margin ≡ st.margin) × (s.pending ≡ st.pending)) l (refl, refl) (refl, refl) (refl, refl) (refl, refl)
+
+pub begins_margin : {width : ℕ} {st : State} {p : Piece} {base : State} → Begins width st p base → (base.margin ≡ st.margin) × (base.pending ≡ st.pending)
+begins_margin h = grind (arith, lines_margin)

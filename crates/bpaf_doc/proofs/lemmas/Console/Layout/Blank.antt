@@ -1,18 +1,15 @@
 -- A blank line stands where one is asked for.
 use Rattle.std.specs.Prelude.{◌≡◌, ℕ, zero, suc, ◌≤◌, Bool, true, false, ◌&&◌, ◌||◌, ◌==◌, List, [], ◌∷◌, ◌++◌, reverse, codes, refl, if◌then◌else◌}
 use Rattle.std.specs.List.{list_any}
-use Rattle.std.proofs.Common.{sym, subst, ap, arith, inl, inr, ◌∙◌, append_assoc}
+use Rattle.std.proofs.Common.{sym, subst, ap, arith, ◌∙◌, append_assoc}
 use Rattle.std.proofs.lemmas.List.{reverse-append, append-nil}
 use Rattle.std.proofs.lemmas.Grind.{flat_map-append, common_steps}
 use Rattle.std.proofs.lemmas.Bool.{and_parts, eqb-true, or_cases}
 use Rattle.bpaf_doc.specs.Splitter.Chunks.{columns, is_inked, has_some}
 use Rattle.bpaf_doc.specs.Console.Layout.{Event, Stretch, Gap, Placed, Passed, Place, chunk_at, event_bytes, stretch_bytes, asks_blank_line, is_raw_event, text_of, HasBlankLine, is_inked_stretch, asks_newline}
-use Rattle.bpaf_doc.specs.Console.Exact.{Request, NoBreak, BlankLine, at_least_new_line}
-use Rattle.bpaf_doc.specs.Buffer.Parts.{ink}
+use Rattle.bpaf_doc.specs.Console.Exact.{BlankLine}
 use Rattle.bpaf_doc.proofs.lemmas.Console.Layout.State.{State, Piece, Lines, Pads, Begins, first, stays, wraps, Next, raw, Grows, padded, trimmed, ends_line, ends_blank, passed, Suits, is_nothing}
-use Rattle.bpaf_doc.proofs.lemmas.Console.Layout.Back.{by_cases, EachPlace, each_grows, place_of, lines_back, by_trimmed, same_padded, by_break, by_grows}
-use Rattle.bpaf_doc.proofs.lemmas.Console.Layout.Columns.{Fills, inked_some, fills_begins, no_bytes}
-use Rattle.bpaf_doc.proofs.lemmas.Console.Layout.Text.{EachPassed, NoInk, ink_text, or_true_right, or_false_left, or_false_right}
+use Rattle.bpaf_doc.proofs.lemmas.Console.Layout.Back.{by_cases, EachPlace, each_grows, place_of, lines_back, by_trimmed, same_padded, by_break, by_grows, Fills, inked_some, fills_begins, no_bytes, EachPassed, NoInk, ink_text, or_true_right, or_false_left, or_false_right}
 use Rattle.bpaf_doc.proofs.lemmas.Console.Layout.Split.{events_back, Cut, AfterPads, cut_padded, ink_at, inked_line}
 
 -- ---- a newline
@@ -32,12 +29,9 @@ record NothingOwed (r : List Stretch) : Type 0 where
   owes : owes_line r ≡ false
   line : inked_line r ≡ false
 
-no_ink_of_none : (bytes : List ℕ) → has_some bytes ≡ false → has_some (ink bytes) ≡ false
-no_ink_of_none bytes none = elim (by_cases (has_some (ink bytes))) [ inl i ↦ let some : has_some bytes ≡ true = inked_some bytes i in absurd cc | inr i ↦ i ]
-
 ends_line_owes : (r : List Stretch) → EachPlace Fills r → EachPassed NoInk r → ends_line r ≡ true → NothingOwed r
 ends_line_owes [] f q h = record { owes = refl; line = refl }
-ends_line_owes (x ∷ r) f q h = grind (arith, ends_line_owes r, no_ink_of_none)
+ends_line_owes (x ∷ r) f q h = grind (arith, ends_line_owes r, by_cases, inked_some)
 
 -- what ends in two newlines ends in one
 pub blank_line_ends : (r : List Stretch) → ends_blank r ≡ true → ends_line r ≡ true
@@ -52,17 +46,11 @@ owes_ink : (r : List Stretch) → owes_line r ≡ true → list_any is_inked_str
 owes_ink [] h = absurd cc
 owes_ink (x ∷ r) h = grind (arith, owes_ink r, inked_line_ink)
 
-not_owed : (st : State) → IsAskedLine st → st.asked ≡ NoBreak → owes_line st.back ≡ false
-not_owed st h a = elim (by_cases (owes_line st.back)) [ inl o ↦ let some : is_nothing st.asked ≡ false = h o in let none : is_nothing st.asked ≡ true = rw a refl in absurd cc | inr o ↦ o ]
-
 owes_begins : {width : ℕ} {st : State} {p : Piece} {base : State} → EachPlace Fills st.back → EachPassed NoInk st.back → IsAskedLine st → Begins width st p base → owes_line base.back ≡ false
-owes_begins f q h e = grind (arith, ink_text, owes_ink, not_owed, ends_line_owes, blank_line_ends)
-
-at_least_something : (a : Request) → is_nothing (at_least_new_line a) ≡ false
-at_least_something a = grind arith
+owes_begins f q h e = grind (arith, ink_text, owes_ink, by_cases, ends_line_owes, blank_line_ends)
 
 asked_line_passed : (event : Event) (margin : ℕ) (st : State) → IsAskedLine st → IsAskedLine (passed event margin st)
-asked_line_passed event margin st h = grind (arith, at_least_something st.asked, h)
+asked_line_passed event margin st h = grind (arith, h)
 
 pub asked_line_grows : {width : ℕ} {st after : State} {next : Next} → EachPlace Fills st.back → EachPassed NoInk st.back
     → Grows width st next after → IsAskedLine st → IsAskedLine after
@@ -121,15 +109,9 @@ owes_fresh _ f o h = h
 
 -- ---- what is owed is asked for
 
-at_least_blank : (a : Request) → a ≡ BlankLine → at_least_new_line a ≡ BlankLine
-at_least_blank a h = rw h refl
-
-asked_blank_passed : (event : Event) (margin : ℕ) (st : State) → IsAskedBlank st → IsAskedBlank (passed event margin st)
-asked_blank_passed event margin st h = λ o. grind (arith, at_least_blank, h)
-
 pub asked_blank_grows : {width : ℕ} {margin_of : ℕ → ℕ} {st after : State} {next : Next} → Suits margin_of st next
     → Grows width st next after → IsAskedBlank st → IsAskedBlank after
-asked_blank_grows {st = st} suits g h = grind (arith, by_grows, by_break, asked_blank_passed)
+asked_blank_grows {st = st} suits g h = grind (arith, by_grows, by_break)
 
 -- ---- the text between
 

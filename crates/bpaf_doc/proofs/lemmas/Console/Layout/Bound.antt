@@ -5,9 +5,7 @@ use Rattle.std.proofs.lemmas.Bool.{cases_lt}
 use Rattle.bpaf_doc.specs.Splitter.Chunks.{columns, has_some}
 use Rattle.bpaf_doc.specs.Console.Layout.{Event, Stretch, event_bytes}
 use Rattle.bpaf_doc.proofs.lemmas.Console.Layout.State.{State, Piece, Lines, Pads, Begins, Next, raw, break, mark, Grows, padded, trimmed}
-use Rattle.bpaf_doc.proofs.lemmas.Console.Layout.Back.{EachPlace, lines_back, begins_back, by_trimmed, by_padded, by_grows}
-use Rattle.bpaf_doc.proofs.lemmas.Console.Layout.Columns.{Fills, column_back, column_padded, no_text_column, Agrees, agrees_lines, no_bytes}
-use Rattle.bpaf_doc.proofs.lemmas.Console.Layout.Text.{EachPassed, lines_margin}
+use Rattle.bpaf_doc.proofs.lemmas.Console.Layout.Back.{EachPlace, lines_back, begins_back, by_trimmed, by_padded, by_grows, Fills, column_back, column_padded, no_text_column, Agrees, agrees_lines, no_bytes, EachPassed, lines_margin}
 
 -- Q of what stands up to each stretch
 abbrev pub EachFront : (List Stretch → Type 0) → List Stretch → Type 0
@@ -45,9 +43,6 @@ bare_lines l h = lines_back (EachPassed IsBare) (λ r x. x) l h
 bare_trimmed : (r : List Stretch) → EachPassed IsBare r → EachPassed IsBare (trimmed r)
 bare_trimmed = by_trimmed (λ r t. EachPassed IsBare r → EachPassed IsBare t) (λ h. h) (λ b r t ih h. ih h) (λ e r i h. h) (λ e r t i ih h. (refl, ih h)) (λ event r i h. h) (λ event r t i ih h. (h.0, ih h.1))
 
-bare_begins : {width : ℕ} {st : State} {p : Piece} {base : State} → Begins width st p base → EachPassed IsBare st.back → EachPassed IsBare base.back
-bare_begins b h = begins_back (EachPassed IsBare) (λ r x. x) bare_trimmed b h
-
 -- what comes writes no backquote
 abbrev pub WritesNone : Next → Type 0
 WritesNone (raw p) = ⊤
@@ -55,7 +50,7 @@ WritesNone (break k chunk) = ⊤
 WritesNone (mark event margin) = IsBare event
 
 pub bare_grows : {width : ℕ} {st after : State} {next : Next} → WritesNone next → Grows width st next after → EachPassed IsBare st.back → EachPassed IsBare after.back
-bare_grows writes g h = grind (arith, by_grows, by_padded (EachPassed IsBare), bare_begins, bare_trimmed, bare_lines)
+bare_grows writes g h = grind (arith, by_grows, by_padded (EachPassed IsBare), begins_back, bare_trimmed, bare_lines)
 
 -- the columns of a chunk that comes are at most these
 abbrev pub IsNarrow : ℕ → Next → Type 0
@@ -67,12 +62,9 @@ module _ (width deepest most : ℕ) where
   abbrev pub bound : ℕ
   bound = deepest + 2 + max width most
 
-  within_first : (n : ℕ) (base : State) → base.margin ≤ deepest → column_back base.back ≡ 0 → Pads base n → n + column_back base.back ≤ deepest + 2
-  within_first n base m c h = grind arith
-
   within_put : {st : State} (p : Piece) (base : State) (n : ℕ) → width < 1_000_000 → EachPlace Fills st.back → Agrees st → st.margin ≤ deepest → columns p.bytes ≤ most
       → Begins width st p base → Pads base n → columns p.bytes + (n + column_back base.back) ≤ bound
-  within_put p base n small f h m c e d = grind (arith, no_text_column, within_first, agrees_lines, lines_margin, cases_lt)
+  within_put p base n small f h m c e d = grind (arith, no_text_column, agrees_lines, lines_margin, cases_lt)
 
   pub within_grows : {st after : State} {next : Next} → width < 1_000_000 → EachPlace Fills st.back → EachPassed IsBare st.back → Agrees st → st.margin ≤ deepest
       → WritesNone next → IsNarrow most next → Grows width st next after → EachFront (Within bound) st.back → EachFront (Within bound) after.back

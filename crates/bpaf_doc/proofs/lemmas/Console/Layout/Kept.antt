@@ -5,8 +5,7 @@ use Rattle.std.proofs.Common.{sym, subst, arith, inl, inr}
 use Rattle.bpaf_doc.specs.Splitter.Chunks.{Chunk, Raw, is_inked}
 use Rattle.bpaf_doc.specs.Console.Layout.{Event, Shows, Stretch, Gap, Placed, Passed, Place, chunk_at, is_inked_stretch, is_inked_event, is_raw_event}
 use Rattle.bpaf_doc.proofs.lemmas.Console.Layout.State.{State, Piece, Lines, Pads, Begins, first, stays, wraps, places, drops, Next, raw, break, Grows, placing, breaking, passing, padded, trimmed, put, passed, Suits}
-use Rattle.bpaf_doc.proofs.lemmas.Console.Layout.Back.{each_back, by_cases, EachPlace, each_grows, each_begins, each_trimmed, each_lines, place_of, fits_of, by_lines, by_padded, same_padded, by_mark, by_break, by_grows}
-use Rattle.bpaf_doc.proofs.lemmas.Console.Layout.Text.{or_false_right, begins_margin, lines_margin, no_ink_blank}
+use Rattle.bpaf_doc.proofs.lemmas.Console.Layout.Back.{each_back, by_cases, EachPlace, each_grows, each_begins, each_trimmed, each_lines, place_of, fits_of, by_lines, by_padded, same_padded, by_mark, by_break, by_grows, or_false_right, begins_margin, lines_margin, no_ink_blank}
 use Rattle.bpaf_doc.proofs.lemmas.Console.Layout.Split.{Cut, FirstOrLater, here, later, cut_cons, cut_gap, AfterPassed, cut_passed, AfterPads, cut_padded, has_newline, inked_line, inked_since}
 
 -- ---- parts come in order

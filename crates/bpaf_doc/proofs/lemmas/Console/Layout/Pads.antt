@@ -5,9 +5,7 @@ use Rattle.std.proofs.lemmas.List.{reverse-append}
 use Rattle.bpaf_doc.specs.Splitter.Chunks.{columns}
 use Rattle.bpaf_doc.specs.Console.Layout.{Event, Stretch, Gap, Placed, Passed, Place, is_newline, is_placed, is_gap, holds_line, leads_to_place, opens_body}
 use Rattle.bpaf_doc.proofs.lemmas.Console.Layout.State.{State, Piece, Lines, Pads, Begins, first, stays, wraps, Next, raw, Grows, padded, trimmed, has_text, Suits}
-use Rattle.bpaf_doc.proofs.lemmas.Console.Layout.Back.{by_cases, EachPlace, KeepsCut, each_grows, place_of, fits_of, by_lines, lines_back, begins_back, by_trimmed, by_padded, same_padded, by_grows}
-use Rattle.bpaf_doc.proofs.lemmas.Console.Layout.Columns.{Fills, column_back, column_padded, Agrees, any_in_line}
-use Rattle.bpaf_doc.proofs.lemmas.Console.Layout.Text.{IsStarting, has_place, begins_column, begins_margin, or_true_right, or_false_left, or_false_right}
+use Rattle.bpaf_doc.proofs.lemmas.Console.Layout.Back.{by_cases, EachPlace, KeepsCut, each_grows, place_of, fits_of, by_lines, lines_back, begins_back, by_trimmed, by_padded, same_padded, by_grows, Fills, column_back, column_padded, Agrees, any_in_line, IsStarting, has_place, begins_column, begins_margin, or_true_right, or_false_left, or_false_right}
 
 -- ---- added blanks
 
@@ -88,11 +86,9 @@ leads_newline r h = (λ t. absurd cc, h)
 led_lines : {st mid : State} → Lines st mid → IsLed st → IsLed mid
 led_lines l h = lines_back (Leads false) leads_newline l h
 
-led_begins : {width : ℕ} {st : State} {p : Piece} {base : State} → Begins width st p base → IsLed st → IsLed base
-led_begins b h = begins_back (Leads false) leads_newline (λ r x. leads_newline (trimmed r) (leads_trimmed r false x)) b h
-
 pub led_grows : {width : ℕ} {st after : State} {next : Next} → Grows width st next after → IsLed st → IsLed after
-led_grows {st = st} g h = grind (arith, by_grows IsLed g, by_padded (Leads true), leads_more, led_begins, leads_newline, leads_trimmed, led_lines)
+led_grows {st = st} g h =
+    grind (arith, by_grows IsLed g, by_padded (Leads true), leads_more, begins_back, leads_newline, leads_trimmed, led_lines)
 
 -- a blank of the page leads to a place
 pub leads_at : (place : Bool) (m r rest : List Stretch) → Leads place (m ++ Gap 32 ∷ r) → (place ≡ true → leads_to_place rest ≡ true) → leads_to_place (reverse m ++ rest) ≡ true
@@ -118,9 +114,6 @@ body_trimmed = by_trimmed (λ r t. body_back r ≡ true → body_back t ≡ true
 pending_lines : {st mid : State} → Lines st mid → IsPending st → IsPending mid
 pending_lines l h = by_lines IsPending l h h h h
 
-pub pending_begins : {width : ℕ} {st : State} {p : Piece} {base : State} → Begins width st p base → IsPending st → IsPending base
-pending_begins e h = grind (arith, pending_lines, body_trimmed)
-
 pub pending_grows : {width : ℕ} {st after : State} {next : Next} → Grows width st next after → IsPending st → IsPending after
 pending_grows g h = by_grows IsPending g (λ p base n e b d t. absurd cc) (λ p mid e l w b t. body_trimmed mid.back (pending_lines l h t)) (λ k chunk e t. h t) (λ event margin e t. grind (arith, h))
 
@@ -142,4 +135,4 @@ module _ (margin_of : ℕ → ℕ) where
     core : (p : Piece) (base : State) (n : ℕ) → next ≡ raw p → Begins width st p base → Pads base n → PadsOnly (padded n base.back) (place_of p)
     core p base n e b d =
         let in_force : base.margin ≡ margin_of p.part = (begins_margin b).0 ∙ (fits_of suits e).margin_is in
-        pads_only n base (margin_of p.part) in_force (begins_column small f start agrees b) (pads_begins b none) (pending_begins b pending) d
+        pads_only n base (margin_of p.part) in_force (begins_column small f start agrees b) (pads_begins b none) (grind (arith, pending_lines, body_trimmed)) d

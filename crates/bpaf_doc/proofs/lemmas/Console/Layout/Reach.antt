@@ -8,11 +8,9 @@ use Rattle.bpaf_doc.specs.Console.Exact.{Request, NoBreak}
 use Rattle.bpaf_doc.specs.Splitter.Chunks.{Chunk, Raw, Paragraph, LineBreak, columns, IsOrdinary}
 use Rattle.bpaf_doc.specs.Console.Layout.{Event, Shows, Opens, Closes, Stretch, Gap, Placed, Passed, Place, chunk_at, event_bytes, is_inline_block}
 use Rattle.bpaf_doc.proofs.lemmas.Console.Layout.State.{State, Piece, Lines, Pads, Begins, first, stays, wraps, Next, raw, break, mark, Grows, padded, trimmed, sat, wrapped, put, passed, dropped, broken, asked_after, pending_after, Suits, IsShallow}
-use Rattle.bpaf_doc.proofs.lemmas.Console.Layout.Back.{EachPlace, each_grows, place_of, fits_of, same_padded, by_mark, by_break, by_grows}
-use Rattle.bpaf_doc.proofs.lemmas.Console.Layout.Columns.{Fills, column_back, column_padded, Agrees}
-use Rattle.bpaf_doc.proofs.lemmas.Console.Layout.Text.{IsStarting, begins_column}
+use Rattle.bpaf_doc.proofs.lemmas.Console.Layout.Back.{EachPlace, each_grows, place_of, fits_of, same_padded, by_mark, by_break, by_grows, Fills, column_back, column_padded, Agrees, IsStarting, begins_column}
 use Rattle.bpaf_doc.proofs.lemmas.Console.Layout.Alone.{place_in}
-use Rattle.bpaf_doc.proofs.lemmas.Console.Layout.Split.{events_back, lines_same, Earlier, after_lines, Cut, FirstOrLater, here, later, cut_cons, AfterGap, cut_gap, AfterPassed, cut_passed, AfterPads, cut_padded, FromTrimmed, cut_trimmed, has_newline}
+use Rattle.bpaf_doc.proofs.lemmas.Console.Layout.Split.{events_back, Earlier, after_lines, Cut, FirstOrLater, here, later, cut_cons, AfterGap, cut_gap, AfterPassed, cut_passed, AfterPads, cut_padded, FromTrimmed, cut_trimmed, has_newline}
 
 -- ---- rules
 
@@ -103,7 +101,7 @@ module _ (width : ℕ) (rule : Rule) where
   known_lines {st} {mid} h l m before e there run =
       let earlier : Earlier st.back m e before = after_lines l m before e there in
       let old : Known st earlier.rest e before = h earlier.rest before e earlier.there (run_on m earlier.rest e earlier.events run) in
-      let is : mid ≡ st = lines_same old.reach.asked l in
+      let is : mid ≡ st = grind arith in
       subst (λ (x : State). Known x m e before) (sym is) (h m before e (subst (λ (x : State). Cut x.back m e before) is there) run)
 
   -- the page without its blank end

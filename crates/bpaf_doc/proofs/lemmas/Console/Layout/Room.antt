@@ -2,15 +2,12 @@
 use Rattle.std.specs.Prelude.{◌≡◌, ℕ, ◌+◌, ◌<◌, ◌≤◌, ⊤, Bool, true, false, not, ◌&&◌, List, [], ◌∷◌, ◌++◌, refl, if◌then◌else◌, ◌⊎◌}
 use Rattle.std.specs.List.{list_any, list_all}
 use Rattle.std.proofs.Common.{sym, subst, arith, ◌∙◌}
-use Rattle.bpaf_doc.specs.declared.buffer.Block.{Block}
-use Rattle.bpaf_doc.specs.Splitter.Chunks.{Chunk, is_inked}
+use Rattle.bpaf_doc.specs.Splitter.Chunks.{is_inked}
 use Rattle.bpaf_doc.specs.Console.Layout.{Event, Shows, Opens, Closes, Stretch, Placed, Place, is_inked_event, is_inked_stretch, asks_newline, room_of}
-use Rattle.bpaf_doc.proofs.lemmas.Console.Layout.State.{State, Pads, Piece, Begins, Next, raw, break, mark, Grows, padded, Suits}
-use Rattle.bpaf_doc.proofs.lemmas.Console.Layout.Back.{EachPlace, each_grows, place_of, fits_of, same_padded, by_mark, by_break}
-use Rattle.bpaf_doc.proofs.lemmas.Console.Layout.Columns.{heavy}
-use Rattle.bpaf_doc.proofs.lemmas.Console.Layout.Text.{or_false_left, or_false_right}
+use Rattle.bpaf_doc.proofs.lemmas.Console.Layout.State.{State, Pads, Piece, Begins, Next, raw, mark, Grows, padded, Suits}
+use Rattle.bpaf_doc.proofs.lemmas.Console.Layout.Back.{EachPlace, each_grows, place_of, fits_of, same_padded, by_mark, by_break, heavy, or_false_left, or_false_right}
 use Rattle.bpaf_doc.proofs.lemmas.Console.Layout.Split.{events_back, events_begins, events_grows}
-use Rattle.bpaf_doc.proofs.lemmas.Console.Layout.Reach.{Rule, IsSound, IsQuiet, sum_of}
+use Rattle.bpaf_doc.proofs.lemmas.Console.Layout.Reach.{Rule, IsSound, sum_of}
 
 -- ---- chunks of one text have no mark between them
 
@@ -40,24 +37,9 @@ pub record IsInOrder (st : State) (es : List Event) : Type 0 where
 abbrev pub ComesInOrder : State → Type 0
 ComesInOrder st = IsInOrder st (events_back st.back)
 
-pub in_order_blank : (st : State) → st.back ≡ [] → ComesInOrder st
-in_order_blank st e = subst (λ r. IsInOrder st (events_back r)) (sym e) (record { after = λ k l. tt; next = λ k l m. tt })
-
-in_order_mark : (st after : State) (event : Event) → is_chunk event ≡ false → after.latest ≡ st.latest → after.marked ≡ true → ComesInOrder st
-    → IsInOrder after (event ∷ events_back st.back)
-in_order_mark st after event c is marked h = grind arith
-
-mark_chunk : {margin_of : ℕ → ℕ} (st : State) (next : Next) (event : Event) (margin : ℕ) → Suits margin_of st next → next ≡ mark event margin
-    → is_chunk event ≡ false
-mark_chunk st next event margin suits e = by_mark (λ x m. is_chunk x ≡ false) suits e (λ b m l u. refl) (λ b m l u. refl)
-
-break_order : {margin_of : ℕ → ℕ} (st : State) (next : Next) (k : ℕ) (chunk : Chunk) → Suits margin_of st next → next ≡ break k chunk
-    → (st.latest ≤ k) × (st.marked ≡ true → st.latest < k)
-break_order st next k chunk suits e = by_break (λ c j. (st.latest ≤ j) × (st.marked ≡ true → st.latest < j)) suits e (λ j l m. (l, m)) (λ j l m. (l, m))
-
 pub in_order_grows : {width : ℕ} {margin_of : ℕ → ℕ} {st after : State} {next : Next} → Suits margin_of st next → Grows width st next after
     → ComesInOrder st → ComesInOrder after
-in_order_grows {st = st} {after = after} {next = next} suits g h = grind (arith, events_grows, fits_of, break_order, in_order_mark, mark_chunk)
+in_order_grows {st = st} {after = after} {next = next} suits g h = grind (arith, events_grows, fits_of, by_break, mark, by_mark)
 
 -- what stands before a chunk is of texts up to its own
 abbrev pub IsAfterAll : List Stretch → Place → Type 0
@@ -88,14 +70,8 @@ allowance deepest es = if list_all is_chunk es then 0 else deepest
 abbrev pub idle : ℕ → Rule
 idle deepest = record { begins = is_inked; follows = is_idle; has_chunks = true; takes = room_of; taken = λ es. sum_of room_of es + allowance deepest es }
 
-idle_open : (b : Block) (deepest level margin : ℕ) → margin ≤ deepest → is_idle (Opens b) ≡ true → IsQuiet (idle deepest) level margin (Opens b)
-idle_open b deepest level margin deep h = grind arith
-
-idle_close : (b : Block) (deepest level margin : ℕ) → margin ≤ level → is_idle (Closes b) ≡ true → IsQuiet (idle deepest) level margin (Closes b)
-idle_close b deepest level margin low h = grind arith
-
 pub idle_sound : (width deepest : ℕ) → width < 1_000_000 → IsSound width deepest (idle deepest)
-idle_sound width deepest small = grind (arith, heavy, idle_open, idle_close)
+idle_sound width deepest small = grind (arith, heavy)
 
 -- without ink and without a newline asked for, all is idle
 pub idle_all : (m : List Stretch) → list_any is_inked_stretch m ≡ false → list_any asks_newline (events_back m) ≡ false

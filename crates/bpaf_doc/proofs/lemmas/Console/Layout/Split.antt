@@ -1,15 +1,11 @@
 -- A page cut before one of its places.
-use Rattle.std.specs.Prelude.{◌≡◌, ℕ, zero, suc, Bool, true, false, List, [], ◌∷◌, ◌++◌, refl}
 use Rattle.std.specs.List.{list_any}
-use Rattle.std.proofs.Common.{sym, ap, ◌∙◌, arith}
+use Rattle.std.proofs.Common.{sym, ap, ◌∙◌, arith, ◌≡◌, ℕ, zero, suc, Bool, true, false, List, [], ◌∷◌, ◌++◌, refl}
 use Rattle.std.proofs.lemmas.Bool.{or_parts}
 use Rattle.bpaf_doc.specs.Splitter.Chunks.{is_inked, has_some}
 use Rattle.bpaf_doc.specs.Console.Layout.{Event, Shows, Stretch, Gap, Placed, Passed, Place, chunk_at, event_bytes, is_newline, is_inked_stretch}
-use Rattle.bpaf_doc.proofs.lemmas.Console.Layout.Columns.{any_in_line}
+use Rattle.bpaf_doc.proofs.lemmas.Console.Layout.Back.{any_in_line, next_event, lines_back, begins_back, by_trimmed, same_padded}
 use Rattle.bpaf_doc.proofs.lemmas.Console.Layout.State.{State, Piece, Lines, Begins, places, drops, Next, Grows, placing, breaking, passing, padded, trimmed, cut}
-use Rattle.bpaf_doc.proofs.lemmas.Console.Layout.Text.{next_event}
-use Rattle.bpaf_doc.specs.Console.Exact.{NoBreak}
-use Rattle.bpaf_doc.proofs.lemmas.Console.Layout.Back.{lines_back, begins_back, by_trimmed, same_padded}
 
 -- ---- the events, newest first
 
@@ -141,10 +137,6 @@ cut_trimmed r = by_trimmed ComesFrom (same_cut []) gap inked plain (λ event r i
   bare event r t i = passes (Passed event) event r t (λ x y s. ap (λ z. event ∷ z) s)
 
 -- ---- what was asked for
-
--- the page and what is asked for are as they were, since nothing was asked for
-pub lines_same : {st mid : State} → st.asked ≡ NoBreak → Lines st mid → mid ≡ st
-lines_same h e = grind arith
 
 -- a cut after what was asked for is one of the page before, at the same events
 pub record Earlier (r m : List Stretch) (e : Place) (before : List Stretch) : Type 0 where

@@ -6,16 +6,15 @@ use Rattle.std.specs.Char.{is_whitespace, is_not_whitespace}
 use Rattle.std.proofs.Common.{rules, sym, subst, ap, arith, inl, inr, ◌∙◌, append_assoc}
 use Rattle.std.proofs.lemmas.List.{append-nil, nil_from_length, same_from_push}
 use Rattle.std.proofs.lemmas.Str.{chars-append, encodes-chars, chars-encodes, scalars-chars, encodes-append, IsUtf8-append, IsUtf8-nil, IsUtf8-from_ascii}
-use Rattle.std.proofs.Math.Utf8.{encodes, scalars, scalar}
+use Rattle.std.proofs.Math.Utf8.{scalars, scalar}
 use Rattle.std.proofs.lemmas.Bool.Decides.{nat_tests}
 use Rattle.std.proofs.lemmas.Bool.{and_parts, eqb-true, or_parts}
-use Rattle.bpaf_doc.proofs.lemmas.Console.Layout.Columns.{whole_trim}
+use Rattle.bpaf_doc.proofs.lemmas.Console.Layout.Back.{whole_trim, by_cases, by_test, by_trimmed}
 use Rattle.bpaf_doc.specs.Buffer.Parts.{ink}
-use Rattle.bpaf_doc.specs.Splitter.Chunks.{is_inked, has_some, IsLine}
+use Rattle.bpaf_doc.specs.Splitter.Chunks.{has_some, IsLine}
 use Rattle.bpaf_doc.specs.Shown.{is_term_ref}
-use Rattle.bpaf_doc.specs.Console.Layout.{Event, Shows, Opens, Closes, Stretch, Gap, Placed, Passed, Place, chunk_at, event_bytes, stretch_bytes}
+use Rattle.bpaf_doc.specs.Console.Layout.{Event, Shows, Opens, Closes, Stretch, Gap, Placed, Passed, Place, event_bytes, stretch_bytes}
 use Rattle.bpaf_doc.proofs.lemmas.Console.Layout.State.{has_text, ends_line, ends_blank, trimmed, IsLegible}
-use Rattle.bpaf_doc.proofs.lemmas.Console.Layout.Back.{by_cases, by_test, by_trimmed}
 use Rattle.bpaf_doc.proofs.lemmas.Console.Layout.Blank.{text_back, text_back_cons, some_none}
 
 -- ---- trimming
@@ -86,12 +85,6 @@ trim_line text u l = let front : (rest : List ℕ) × (text ≡ trim_end text ++
 
 -- ---- the text of a page
 
-utf8_blank : IsUtf8 (32 ∷ [])
-utf8_blank = IsUtf8-from_ascii (32 ∷ []) (search rules)
-
-utf8_newline : IsUtf8 (10 ∷ [])
-utf8_newline = IsUtf8-from_ascii (10 ∷ []) (search rules)
-
 utf8_backquote : IsUtf8 (96 ∷ [])
 utf8_backquote = IsUtf8-from_ascii (96 ∷ []) (search rules)
 
@@ -100,16 +93,13 @@ event_utf8 (Shows k chunk) = IsUtf8-nil
 event_utf8 (Opens b) = elim (is_term_ref b) as (λ (t : Bool). IsUtf8 (if t then 96 ∷ [] else [])) [ true ↦ utf8_backquote | false ↦ IsUtf8-nil ]
 event_utf8 (Closes b) = elim (is_term_ref b) as (λ (t : Bool). IsUtf8 (if t then 96 ∷ [] else [])) [ true ↦ utf8_backquote | false ↦ IsUtf8-nil ]
 
-gap_utf8 : (b : ℕ) → (b ≡ 32) ⊎ (b ≡ 10) → IsUtf8 (b ∷ [])
-gap_utf8 b h = grind (arith, utf8_blank, utf8_newline)
-
 shown_utf8 : (e : Place) → IsUtf8 e.bytes → (e.shown ≡ e.bytes) ⊎ (e.shown ≡ trim_end e.bytes) → IsUtf8 e.shown
 shown_utf8 e u (inl s) = subst IsUtf8 (sym s) u
 shown_utf8 e u (inr s) = subst IsUtf8 (sym s) (trim_utf8 e.bytes u)
 
 pub text_utf8 : (r : List Stretch) → IsLegible r → IsUtf8 (text_back r)
 text_utf8 [] h = IsUtf8-nil
-text_utf8 (Gap b ∷ r) h = subst IsUtf8 (sym (text_back_cons (Gap b) r)) (IsUtf8-append (text_back r) (b ∷ []) (text_utf8 r h.1) (gap_utf8 b h.0))
+text_utf8 (Gap b ∷ r) h = subst IsUtf8 (sym (text_back_cons (Gap b) r)) (IsUtf8-append (text_back r) (b ∷ []) (text_utf8 r h.1) (grind (arith, IsUtf8-from_ascii)))
 text_utf8 (Placed e ∷ r) h = subst IsUtf8 (sym (text_back_cons (Placed e) r)) (IsUtf8-append (text_back r) e.shown (text_utf8 r h.1) (shown_utf8 e h.0.0 h.0.2))
 text_utf8 (Passed event ∷ r) h = subst IsUtf8 (sym (text_back_cons (Passed event) r)) (IsUtf8-append (text_back r) (event_bytes event) (text_utf8 r h) (event_utf8 event))
 
@@ -146,9 +136,6 @@ line_end_lem (b ∷ front) h = grind (arith, line_end_lem front)
 shown_line : (e : Place) → IsUtf8 e.bytes → IsLine e.bytes → (e.shown ≡ e.bytes) ⊎ (e.shown ≡ trim_end e.bytes) → IsLine e.shown
 shown_line e u l h = grind (arith, trim_line)
 
-event_line : (event : Event) → IsLine (event_bytes event)
-event_line event = grind arith
-
 ends_in : (r : List Stretch) (x : Stretch) (front : List ℕ) → has_some (stretch_bytes x) ≡ true → text_back (x ∷ r) ≡ front ++ 10 ∷ [] → (back : List ℕ) × (stretch_bytes x ≡ back ++ 10 ∷ [])
 ends_in r x front s e =
     let last : LastByte (stretch_bytes x) = last_byte (stretch_bytes x) s in
@@ -171,7 +158,7 @@ text_ends_line (Placed p ∷ r) front h e =
     (λ s. text_ends_line r front h.1 (sym (bare_text r (Placed p) s) ∙ e))
 text_ends_line (Passed event ∷ r) front h e =
     by_test (λ b. b ≡ true) (has_some (event_bytes event)) false (ends_line r)
-    (λ s. let found : (back : List ℕ) × (event_bytes event ≡ back ++ 10 ∷ []) = ends_in r (Passed event) front s e in absurd (line_end_lem found.0 (subst IsLine found.1 (event_line event))))
+    (λ s. let found : (back : List ℕ) × (event_bytes event ≡ back ++ 10 ∷ []) = ends_in r (Passed event) front s e in absurd (line_end_lem found.0 (subst IsLine found.1 (grind arith))))
     (λ s. text_ends_line r front h (sym (bare_text r (Passed event) s) ∙ e))
 
 pub text_ends_blank : (r : List Stretch) (front : List ℕ) → IsLegible r → text_back r ≡ (front ++ 10 ∷ []) ++ 10 ∷ [] → ends_blank r ≡ true
@@ -183,7 +170,7 @@ text_ends_blank (Placed p ∷ r) front h e =
     (λ s. text_ends_blank r front h.1 (sym (bare_text r (Placed p) s) ∙ e))
 text_ends_blank (Passed event ∷ r) front h e =
     by_test (λ b. b ≡ true) (has_some (event_bytes event)) false (ends_blank r)
-    (λ s. let found : (back : List ℕ) × (event_bytes event ≡ back ++ 10 ∷ []) = ends_in r (Passed event) (front ++ 10 ∷ []) s e in absurd (line_end_lem found.0 (subst IsLine found.1 (event_line event))))
+    (λ s. let found : (back : List ℕ) × (event_bytes event ≡ back ++ 10 ∷ []) = ends_in r (Passed event) (front ++ 10 ∷ []) s e in absurd (line_end_lem found.0 (subst IsLine found.1 (grind arith))))
     (λ s. text_ends_blank r front h (sym (bare_text r (Passed event) s) ∙ e))
 
 -- ---- the trimmed page
@@ -211,29 +198,17 @@ no_ink_nil : has_some (ink []) ≡ false
 unfolding chars
 no_ink_nil = refl
 
-shown_trim : (e : Place) → IsUtf8 e.bytes → (e.shown ≡ e.bytes) ⊎ (e.shown ≡ trim_end e.bytes) → trim_end e.shown ≡ trim_end e.bytes
-shown_trim e u h = grind (arith, trim_twice)
-
 kept_ink : (cs : List ℕ) → filter is_not_whitespace (drop_trailing_whitespace cs) ≡ filter is_not_whitespace cs
 kept_ink [] = refl
-kept_ink (c ∷ cs) = elim (by_cases (is_whitespace c && (length (drop_trailing_whitespace cs) == 0))) [
-  | inl t ↦
-      let parts = and_parts (is_whitespace c) (length (drop_trailing_whitespace cs) == 0) t in
-      let none : drop_trailing_whitespace cs ≡ [] = nil_from_length (drop_trailing_whitespace cs) (eqb-true _ 0 parts.1) in
-      rw t (rw parts.0 (ap (λ ds. filter is_not_whitespace ds) (sym none) ∙ kept_ink cs))
-  | inr t ↦ rw t (rw (kept_ink cs) refl)
-]
+kept_ink (c ∷ cs) = grind (arith, by_cases, and_parts, nil_from_length, eqb-true, kept_ink cs)
 
 pub trim_ink : (text : List ℕ) → IsUtf8 text → ink (trim_end text) ≡ ink text
 unfolding trim_end
 trim_ink text u = ap (λ cs. filter is_not_whitespace cs) (chars-encodes (drop_trailing_whitespace (chars text)) (kept_scalars text u)) ∙ kept_ink (chars text)
 
-shown_inked : (e : Place) → IsUtf8 e.bytes → (e.shown ≡ e.bytes) ⊎ (e.shown ≡ trim_end e.bytes) → is_inked (chunk_at e) ≡ true → has_some (ink e.shown) ≡ true
-shown_inked e u h i = grind (arith, trim_ink)
-
 pub trim_text : (r : List Stretch) → IsLegible r → trim_end (text_back r) ≡ text_back (trimmed r)
 trim_text [] h = plain_trim [] no_ink_nil
-trim_text (x ∷ r) h = grind (arith, trim_text r, text_back_cons, trim_white, text_utf8, gap_plain, trim_some, shown_inked, shown_trim, plain_trim, no_ink_nil, bare_text, event_ink, event_trim)
+trim_text (x ∷ r) h = grind (arith, trim_text r, text_back_cons, trim_white, text_utf8, gap_plain, trim_some, trim_ink, trim_twice, plain_trim, no_ink_nil, bare_text, event_ink, event_trim)
 
 -- ---- what may be read stays so
 

@@ -9,9 +9,7 @@ use Rattle.std.proofs.lemmas.Grind.{flat_map-append}
 use Rattle.std.proofs.lemmas.List.Elements.{All-cons, All-nil}
 use Rattle.std.proofs.Math.Seq.{drop-append_seam}
 use Rattle.bpaf_doc.specs.Console.Layout.{Stretch, stretch_columns, events_of, is_newline, is_placed, is_gap, is_inked_stretch, line_before, column, padding, stretch_lines, opens_body, is_raw_or_ref, events_since_ink}
-use Rattle.bpaf_doc.proofs.lemmas.Console.Layout.Back.{by_cases}
-use Rattle.bpaf_doc.proofs.lemmas.Console.Layout.Columns.{column_back, any_in_line}
-use Rattle.bpaf_doc.proofs.lemmas.Console.Layout.Text.{EachPassed, NoInk}
+use Rattle.bpaf_doc.proofs.lemmas.Console.Layout.Back.{by_cases, column_back, any_in_line, EachPassed, NoInk}
 use Rattle.bpaf_doc.proofs.lemmas.Console.Layout.Bound.{EachFront, whole_front}
 use Rattle.bpaf_doc.proofs.lemmas.Console.Layout.Pads.{pads_back, body_back}
 use Rattle.bpaf_doc.proofs.lemmas.Console.Layout.Split.{events_back}
@@ -174,8 +172,3 @@ lines_bounded bound back h =
 -- the stretches in order, cut at a place, are the page newest first, cut at it
 pub turned_at : (back before after : List Stretch) (x : Stretch) → reverse back ≡ before ++ x ∷ after → back ≡ reverse after ++ x ∷ reverse before
 turned_at back before after x s = grind (arith, reverse-reverse back, reverse-append before (x ∷ after), reverse_cons x after, append_assoc (reverse after) (x ∷ []) (reverse before))
-
--- two places in order
-pub turned_between : (before between after : List Stretch) (x y : Stretch)
-    → reverse (before ++ x ∷ (between ++ y ∷ after)) ≡ reverse after ++ y ∷ (reverse between ++ x ∷ reverse before)
-turned_between before between after x y = grind (arith, reverse-append, reverse_cons, append_assoc)

@@ -16,14 +16,12 @@ use Rattle.bpaf_doc.specs.Shown.{console_ink}
 use Rattle.bpaf_doc.specs.Console.Margin.{margin, greatest_margin}
 use Rattle.bpaf_doc.specs.Console.Layout.{Event, Shows, Stretch, Gap, Placed, Passed, Place, AreApart, chunk_at, event_bytes, event_columns, stretch_columns, text_of, events_of, shown_events, is_newline, is_placed, holds_line, leads_to_place, is_inked_stretch, is_empty_code, is_written, is_raw_event, is_ref, asks_newline, asks_blank_line, is_light, is_light_mark, opens_body, column, padding, line_before, stretch_lines, MayStand, BreaksWhereAsked, KeepsBlanks, IsKept, BeginsClear, IsFirstInLine, events_since_ink, is_raw_or_ref, FollowsBlank, KeepsMargin, WrapsOnlyIfNeeded, IsBounded, FitsWidth, PadsToMargin, StandsAlone, room_of, BreaksForRoom, HasBlankLine, widest, IsLayout}
 use Rattle.bpaf_doc.proofs.lemmas.Console.Layout.State.{State, has_text, IsShallow, Next, Grows, Suits, IsClear, blank_page, Written, nothing, more, Ends, as_is, with_newline}
-use Rattle.bpaf_doc.proofs.lemmas.Console.Layout.Back.{each_back, by_cases, EachPlace, by_grows}
-use Rattle.bpaf_doc.proofs.lemmas.Console.Layout.Columns.{Fills, fills_grows, Agrees, agrees_grows, column_back}
-use Rattle.bpaf_doc.proofs.lemmas.Console.Layout.Text.{EachPassed, NoInk, no_ink_grows, IsStarting, starting_grows, next_event, text_stays, text_written, begins_margin, lines_margin}
+use Rattle.bpaf_doc.proofs.lemmas.Console.Layout.Back.{each_back, by_cases, EachPlace, by_grows, Fills, fills_grows, Agrees, agrees_grows, column_back, EachPassed, NoInk, no_ink_grows, IsStarting, starting_grows, next_event, text_stays, text_written, begins_margin, lines_margin}
 use Rattle.bpaf_doc.proofs.lemmas.Console.Layout.Margin.{AtMargin, at_margin_grows}
 use Rattle.bpaf_doc.proofs.lemmas.Console.Layout.Bound.{EachFront, Within, IsBare, WritesNone, IsNarrow, bare_grows, bound, within_grows}
 use Rattle.bpaf_doc.proofs.lemmas.Console.Layout.Pads.{FitsBefore, fits_width_grows, holds_back, IsLed, Leads, led_grows, leads_at, HasNoPads, no_pads_grows, IsPending, pending_grows, PadsOnly, pads_only_grows, pads_back, body_back}
 use Rattle.bpaf_doc.proofs.lemmas.Console.Layout.Reach.{Rule, sum_of, IsRun, HasNoRoom, BreaksBy, IsSound, breaks_grows}
-use Rattle.bpaf_doc.proofs.lemmas.Console.Layout.Room.{ComesInOrder, in_order_blank, in_order_grows, IsAfterAll, after_all_grows, part_later, is_chunk, allowance, is_idle, idle_all, idle, idle_sound}
+use Rattle.bpaf_doc.proofs.lemmas.Console.Layout.Room.{ComesInOrder, in_order_grows, IsAfterAll, after_all_grows, part_later, is_chunk, allowance, is_idle, idle_all, idle, idle_sound}
 use Rattle.bpaf_doc.proofs.lemmas.Console.Layout.Alone.{IsHeavy, heavy_grows, AloneBefore, alone_grows}
 use Rattle.bpaf_doc.proofs.lemmas.Console.Layout.Split.{events_back, events_grows, Cut, has_newline, inked_line, inked_since}
 use Rattle.bpaf_doc.proofs.lemmas.Console.Layout.Blank.{IsAskedBlank, asked_blank_grows, IsFreshAtZero, fresh_grows, HasBlankBefore, blank_before_grows, text_back, text_back_cons, IsAskedLine, asked_line_grows, IsFreeOfDebt, free_of_debt_grows, owes_line}
@@ -31,7 +29,7 @@ use Rattle.bpaf_doc.proofs.lemmas.Console.Layout.Kept.{InOrder, order_grows, IsS
 use Rattle.bpaf_doc.proofs.lemmas.Console.Layout.Needed.{is_plain, light, light_sound, light_marks, light_marks_sound}
 use Rattle.bpaf_doc.proofs.lemmas.Console.Layout.AtMargin.{IsLast, last_grows, IsAtStart, start_grows, AfterBlank, IsExact, exact_grows, is_quiet}
 use Rattle.bpaf_doc.proofs.lemmas.Console.Layout.Cuts.{MayEnd, IsWhole, whole_grows, may_end_line}
-use Rattle.bpaf_doc.proofs.lemmas.Console.Layout.Turned.{reverse_cons, any_turned, all_turned, sum_turned, events_turned, events_between, column_turned, line_turned, padding_turned, body_turned, quiet_turned, lines_bounded, turned_at, turned_between}
+use Rattle.bpaf_doc.proofs.lemmas.Console.Layout.Turned.{reverse_cons, any_turned, all_turned, sum_turned, events_turned, events_between, column_turned, line_turned, padding_turned, body_turned, quiet_turned, lines_bounded, turned_at}
 
 -- ---- the events of a page
 
@@ -231,13 +229,10 @@ record Spacious (width deepest : ℕ) (st : State) : Type 0 where
 breaks_blank : (width : ℕ) (rule : Rule) → BreaksBy width rule blank_page
 breaks_blank width rule = record { roomy = λ m before e h run. nothing_cut m before e h; no_room = tt }
 
-spacious_blank : (width deepest : ℕ) → Spacious width deepest blank_page
-spacious_blank width deepest = search (rules, in_order_blank, breaks_blank)
-
 module _ {width : ℕ} {margin_of : ℕ → ℕ} {clear : State → Next → Type 0} where
   written_spacious : {nexts : List Next} {st : State} (deepest : ℕ) → width < 1_000_000 → Written width margin_of clear nexts st → clear_front (map next_event nexts) ≡ true
       → EachNext (IsShallow deepest) nexts → Spacious width deepest st
-  written_spacious deepest small (nothing e s) h shallow = subst (Spacious width deepest) (sym s) (spacious_blank width deepest)
+  written_spacious deepest small (nothing e s) h shallow = subst (Spacious width deepest) (sym s) (search (rules, breaks_blank))
   written_spacious {st = st} deepest small (more earlier before next e w suits c g) h shallow =
       let front : clear_front (map next_event earlier ++ next_event next ∷ []) ≡ true = subst (λ es. clear_front es ≡ true) (ap (λ ns. map next_event ns) e ∙ map_snoc earlier next) h in
       let first : clear_front (map next_event earlier) ≡ true = (clear_snoc (map next_event earlier) (next_event next) front).0 in
@@ -315,7 +310,7 @@ module _ (width : ℕ) (document : List Part) (st : State) (final : List Stretch
   -- the page newest first, cut at two places
   apart_at : (before between after : List Stretch) (e f : Place) → stretches ≡ before ++ Placed e ∷ (between ++ Placed f ∷ after)
       → final ≡ reverse after ++ Placed f ∷ (reverse between ++ Placed e ∷ reverse before)
-  apart_at before between after e f s = sym (reverse-reverse final) ∙ ap (λ ys. reverse ys) s ∙ turned_between before between after (Placed e) (Placed f)
+  apart_at before between after e f s = sym (reverse-reverse final) ∙ ap (λ ys. reverse ys) s ∙ (grind (arith, reverse-append, reverse_cons, append_assoc))
 
   law_at : (P : List Stretch → Place → Type 0) → EachPlace P st.back → (before between after : List Stretch) (e f : Place) → stretches ≡ before ++ Placed e ∷ (between ++ Placed f ∷ after)
       → P (reverse between ++ Placed e ∷ reverse before) f
@@ -350,9 +345,6 @@ module _ (width : ℕ) (document : List Part) (st : State) (final : List Stretch
       (refl, h.first_inked, any_turned is_inked_stretch between ∙ not-true (list_any is_inked_stretch between) plain, any_turned is_newline between ∙ not-true (list_any is_newline between) bare) in
       (found.0, subst (λ ys. All (IsKept (e.part ≢ f.part)) ys) (reverse-reverse between) (all_kept (e.part ≢ f.part) (reverse between) found.1))
 
-  no_ink_final : EachPassed NoInk final
-  no_ink_final = grind arith
-
   stand_law : (before after : List Stretch) (x : Stretch) → stretches ≡ before ++ x ∷ after → MayStand x after
   stand_law before after x s =
       let split : final ≡ reverse after ++ x ∷ reverse before = turned_at final before after x s in
@@ -361,11 +353,11 @@ module _ (width : ℕ) (document : List Part) (st : State) (final : List Stretch
         arith,
         base,
         may_end_line,
-      ))) (subst (λ ys. EachPassed NoInk ys) split no_ink_final))
+      ))) (subst (λ ys. EachPassed NoInk ys) split (grind arith)))
 
   module _ (clearly : Clearly width (margin document) st) where
     no_ink_front : (before after : List Stretch) (f : Place) → stretches ≡ before ++ Placed f ∷ after → EachPassed NoInk (reverse before)
-    no_ink_front before after f s = passed_back NoInk (reverse after) (Placed f ∷ reverse before) (subst (λ ys. EachPassed NoInk ys) (turned_at final before after (Placed f) s) no_ink_final)
+    no_ink_front before after f s = passed_back NoInk (reverse after) (Placed f ∷ reverse before) (subst (λ ys. EachPassed NoInk ys) (turned_at final before after (Placed f) s) (grind arith))
 
     column_is : (before : List Stretch) → column before ≡ column_back (reverse before)
     column_is before = ap column (sym (reverse-reverse before)) ∙ column_turned (reverse before)
@@ -415,15 +407,12 @@ module _ (width : ℕ) (document : List Part) (st : State) (final : List Stretch
         let pads : padding before ≡ pads_back (reverse before) = padding_is before in
         omega arith
 
-    led_final : Leads false final
-    led_final = grind (arith, base)
-
     padded_law : PadsToMargin document stretches
     padded_law = record {
       up_to_margin = λ before after f s some. at before (one_at (PadsOnly (margin document)) clearly.pads_only before after f s (subst (λ (n : ℕ). 0 < n) (padding_is before) some));
       before_place = λ before after s.
           let split : final ≡ reverse after ++ Gap 32 ∷ reverse before = turned_at final before after (Gap 32) s in
-          let leads : leads_to_place (reverse (reverse after) ++ []) ≡ true = leads_at false (reverse after) (reverse before) [] (subst (λ ys. Leads false ys) split led_final) (λ t. absurd cc) in
+          let leads : leads_to_place (reverse (reverse after) ++ []) ≡ true = leads_at false (reverse after) (reverse before) [] (subst (λ ys. Leads false ys) split (grind (arith, base))) (λ t. absurd cc) in
           subst (λ ys. leads_to_place ys ≡ true) (append-nil (reverse (reverse after)) ∙ reverse-reverse after) leads;
     } where
       at : (before : List Stretch) {m : ℕ} → (column_back (reverse before) ≡ m) ⊎ ((pads_back (reverse before) ≡ 2) × (body_back (reverse before) ≡ true))

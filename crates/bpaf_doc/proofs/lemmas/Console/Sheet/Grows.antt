@@ -1,5 +1,5 @@
 -- Each step of the exact page is a step of the console's rules.
-use Rattle.std.specs.Prelude.{◌≡◌, ℕ, zero, suc, ◌+◌, ◌-◌, ◌<◌, ◌≤◌, Bool, true, false, not, ◌&&◌, ◌||◌, List, [], ◌∷◌, ◌++◌, length, take, replicate, refl, ◌⊎◌, IsUtf8, nat_eq, nat_le}
+use Rattle.std.specs.Prelude.{◌≡◌, ℕ, zero, suc, ◌+◌, ◌-◌, ◌<◌, ◌≤◌, true, false, not, ◌&&◌, ◌||◌, List, [], ◌∷◌, ◌++◌, length, take, replicate, refl, ◌⊎◌, IsUtf8, nat_eq, nat_le}
 use Rattle.std.specs.List.{ends_with}
 use Rattle.std.specs.Str.{bytes_eq}
 use Rattle.std.proofs.Common.{sym, subst, ap, arith, inl, inr, ◌∙◌, append_assoc}
@@ -17,7 +17,7 @@ use Rattle.bpaf_doc.specs.declared.buffer.Block.{Block}
 use Rattle.bpaf_doc.specs.Shown.{mark_bytes}
 use Rattle.bpaf_doc.proofs.lemmas.Console.Layout.State.{State, Piece, Lines, none_asked, line_there, line_put, blank_there, second_put, both_put, Begins, first, stays, wraps, Places, places, drops, Pads, to_margin, IsPut, sat, padded, put, wrapped, dropped, spaced, on_new_line, has_text, ends_line, ends_blank, IsLegible, passed, asked_after, pending_after}
 use Rattle.bpaf_doc.proofs.lemmas.Console.Layout.Back.{by_cases, by_test, by_padded}
-use Rattle.bpaf_doc.proofs.lemmas.Console.Layout.Blank.{text_back, text_back_cons}
+use Rattle.bpaf_doc.proofs.lemmas.Console.Layout.Blank.{some_none, text_back, text_back_cons}
 use Rattle.bpaf_doc.proofs.lemmas.Console.Layout.Stretches.{no_text, some_text, text_ends_line, text_ends_blank, trim_text, legible_trimmed}
 
 -- ---- the exact page looks as it grew by the rules
@@ -37,15 +37,9 @@ padded_more (suc a) b r = let e : suc a + b ≡ suc (a + b) = omega arith in ap 
 ends_front : (needle text : List ℕ) → ends_with nat_eq text needle ≡ true → (front : List ℕ) × (text ≡ front ++ needle)
 ends_front needle text h = (take (length text - length needle) text, (ends_is Decides-eqb text needle (ends_with nat_eq text needle) refl).0 h)
 
-ends_when : (needle text front : List ℕ) → text ≡ front ++ needle → ends_with nat_eq text needle ≡ true
-ends_when needle text front e = (ends_is Decides-eqb text needle (ends_with nat_eq text needle) refl).1 front e
-
 -- a text that ends in two newlines after one more ended in one before
 one_before : (text : List ℕ) → ends_with nat_eq (text ++ 10 ∷ []) (10 ∷ 10 ∷ []) ≡ true → ends_with nat_eq text (10 ∷ []) ≡ true
-one_before text h = grind (arith, common_steps, ends_when (10 ∷ []) text, same_from_push text, append_assoc)
-
-has_none : (xs : List ℕ) → has_some xs ≡ false → xs ≡ []
-has_none xs h = grind arith
+one_before text h = grind (arith, common_steps, ends_is, Decides-eqb, same_from_push text, append_assoc)
 
 -- with this margin in force
 module _ (level : ℕ) where
@@ -167,7 +161,7 @@ module _ (level : ℕ) where
       (λ k. from (page.request_met s) lines.0 lines.2 (stays (some h) lines.1 (under k))))
       (λ h. from s st d (first (empty h) refl)) where
         empty : has_some s.text ≡ false → has_text st.back ≡ false
-        empty h = elim (by_cases (has_text st.back)) [ inl t ↦ absurd (some_text st.back t (sym d.bytes ∙ has_none s.text h)) | inr t ↦ t ]
+        empty h = elim (by_cases (has_text st.back)) [ inl t ↦ absurd (some_text st.back t (sym d.bytes ∙ some_none s.text h)) | inr t ↦ t ]
 
         some : has_some s.text ≡ true → has_text st.back ≡ true
         some h = elim (by_cases (has_text st.back)) [ inl t ↦ t | inr t ↦ absurd (let no : true ≡ false = sym h ∙ ap has_some (d.bytes ∙ no_text st.back t) in cc) ]
@@ -193,15 +187,6 @@ module _ (level : ℕ) where
 
 -- ---- the marks of a document
 
-start_asked : (a : Request) (b : Block) → page.request_at_start b a ≡ asked_after (Opens b) a
-start_asked a b = grind arith
-
-start_body : (p : Bool) (b : Block) → (p || page.is_item_body b) ≡ pending_after (Opens b) p
-start_body p b = grind (arith, or-false, or-true)
-
-end_body : (p : Bool) (b : Block) → (p && not (page.is_item_body b)) ≡ pending_after (Closes b) p
-end_body p b = grind (arith, and-false, and-true)
-
 -- the backquote of a term reference, over a page on which all else is as the mark leaves it
 draws_marked : (level : ℕ) (event : Event) (b : Block) (s : PageSoFar) (st : State) → event_bytes event ≡ mark_bytes b → s.text ≡ text_back st.back → s.column ≡ st.column → s.column ≤ 18446744073709551615
     → s.request ≡ asked_after event st.asked → s.is_pending ≡ pending_after event st.pending → IsLegible st.back → Draws level (page.backquoted b s) (passed event level st)
@@ -210,7 +195,7 @@ draws_marked level event b s st e o c l a p g = grind (arith, by_test, text_back
 pub draws_opened : (level next : ℕ) (b : Block) (s : PageSoFar) (st : State) → Draws level s st → Draws next (page.start_put b s) (passed (Opens b) next st)
 draws_opened level next b s st d =
     draws_marked next (Opens b) b (record s { request = page.request_at_start b s.request; is_pending = s.is_pending || page.is_item_body b }) st refl d.bytes d.column d.fits
-    (start_asked s.request b ∙ ap (asked_after (Opens b)) d.asked) (start_body s.is_pending b ∙ ap (pending_after (Opens b)) d.body) d.legible
+    ((grind arith) ∙ ap (asked_after (Opens b)) d.asked) ((grind (arith, or-false, or-true)) ∙ ap (pending_after (Opens b)) d.body) d.legible
 
 pub draws_closed : (level next : ℕ) (b : Block) (s : PageSoFar) (st : State) → Draws level s st → Draws next (page.end_put b s) (passed (Closes b) next st)
-draws_closed level next b s st d = grind (arith, common_steps, draws_marked next (Closes b) b, end_body st.pending b)
+draws_closed level next b s st d = grind (arith, common_steps, draws_marked next (Closes b) b, and-false, and-true)

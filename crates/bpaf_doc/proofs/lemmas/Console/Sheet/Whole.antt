@@ -14,9 +14,9 @@ use Rattle.bpaf_doc.specs.declared.buffer.Style.{Style}
 use Rattle.bpaf_doc.specs.Buffer.Parts.{Part, Text, Start, End, ink, part_bytes, HasUtf8Texts}
 use Rattle.bpaf_doc.specs.Splitter.Chunks.{Chunk, Raw, Paragraph, LineBreak, IsLine, IsWord, IsOrdinary, has_some, columns, chunks_of, chunk_ink, code_weight, fence_weight, Spells, Plain, nothing, code_line, fence, before_code, paragraph, line_break, newline, blank, word, opening, later, closing, closing_paragraph, Form}
 use Rattle.bpaf_doc.specs.Splitter.Promises.{IsText}
-use Rattle.bpaf_doc.specs.Shown.{console_ink, mark_bytes, numbered, shown_chunks, shown_part_ink, is_term_ref}
+use Rattle.bpaf_doc.specs.Shown.{console_ink, mark_bytes, numbered, shown_chunks, shown_part_ink}
 use Rattle.bpaf_doc.specs.Console.Margin.{margin, greatest_margin, is_skipped, Level}
-use Rattle.bpaf_doc.specs.Console.Layout.{Event, Shows, Opens, Closes, part_events, shown_events, IsLayout, Stretch, Gap, Passed, event_bytes}
+use Rattle.bpaf_doc.specs.Console.Layout.{Event, Shows, Opens, Closes, part_events, shown_events, IsLayout, Stretch, Gap, Passed}
 use Rattle.bpaf_doc.specs.Console.Laws.{IsExactPageLayout}
 use Rattle.bpaf_doc.specs.Console.Exact as page
 use Rattle.bpaf_doc.specs.Console.Exact.{PageSoFar, console_page}
@@ -25,11 +25,10 @@ use Rattle.bpaf_doc.proofs.lemmas.Splitter.Ink.{ink-nil, ink-append, ink_before_
 use Rattle.bpaf_doc.proofs.lemmas.Splitter.Spelling.{spells_in}
 use Rattle.bpaf_doc.proofs.lemmas.Console.Ink.{ink-backquote}
 use Rattle.bpaf_doc.proofs.lemmas.Console.Layout.State.{State, piece, Next, raw, break, mark, placing, breaking, passing, Fits, Suits, raw_suits, paragraph_suits, line_break_suits, open_suits, close_suits, Written, nothing, more, blank_page, broken, passed, chunk_next, IsLegible, IsShallow, Ends, as_is, with_newline}
-use Rattle.bpaf_doc.proofs.lemmas.Console.Layout.Back.{by_test}
+use Rattle.bpaf_doc.proofs.lemmas.Console.Layout.Back.{by_test, EachPassed, NoInk, next_event}
 use Rattle.bpaf_doc.proofs.lemmas.Console.Layout.Blank.{text_back, text_back_cons, some_none}
 use Rattle.bpaf_doc.proofs.lemmas.Console.Layout.Split.{events_back}
 use Rattle.bpaf_doc.proofs.lemmas.Console.Layout.Stretches.{text_utf8, trim_ink}
-use Rattle.bpaf_doc.proofs.lemmas.Console.Layout.Text.{EachPassed, NoInk, next_event}
 use Rattle.bpaf_doc.proofs.lemmas.Console.Layout.Turned.{reverse_cons}
 use Rattle.bpaf_doc.proofs.lemmas.Console.Layout.Whole.{EachNext, layout_of_page, written_base, written_events}
 use Rattle.bpaf_doc.proofs.lemmas.Console.Margins.{top, stack_at, shift_at, shift_at-shown, shift_at-skipped, shift_at-text, top-margin, margin-le, margin-le-greatest, margin-level, margin-end}
@@ -90,9 +89,6 @@ text_good text = good_chunks (spells_in Plain text)
 each_taken : (P : Chunk → Type 0) (n : ℕ) (xs : List Chunk) → Each P xs → Each P (take n xs)
 each_taken P (suc n) (x ∷ xs) h = (h.0, each_taken P n xs h.1)
 each_taken P _ _ h = grind arith
-
-each_shown : (P : Chunk → Type 0) (full : Bool) (before : List Part) (bytes : List ℕ) → Each P (chunks_of bytes) → Each P (shown_chunks full before bytes)
-each_shown P full before bytes h = grind (arith, each_taken)
 
 -- ---- a text
 
@@ -216,11 +212,6 @@ module _ (full : Bool) (document : List Part) (width : ℕ) (few : length docume
     fits : margin document index ≤ 18446744073709551615
     fits = omega (arith, margin-le document index, within, few)
 
-    more_events : (added : List Next) → part_events full document index part ≡ map next_event added → map next_event (g.nexts ++ added) ++ events_from full document (index + 1) rest ≡ shown_events full document
-    more_events added e =
-        ap (λ es. es ++ events_from full document (index + 1) rest) (map_append g.nexts added ∙ ap (λ es. map next_event g.nexts ++ es) (sym e))
-        ∙ append_assoc (map next_event g.nexts) (part_events full document index part) (events_from full document (index + 1) rest) ∙ g.events
-
     -- some chunks of this part are written, and no margin moves
     chunks_step : (added : List Next) (t : PageSoFar) → part_events full document index part ≡ map next_event added → shift_at document index part ≡ Level → EachNext (IsShallow (greatest_margin document)) added
         → AfterText document width (margin document index) index (g.nexts ++ added) t → Going (index + 1) rest t
@@ -230,7 +221,7 @@ module _ (full : Bool) (document : List Part) (width : ℕ) (few : length docume
       later = record { st = l.0.st; written = l.0.written; draws = subst (λ n. Draws n t l.0.st) (sym (top-margin document index)) l.0.draws };
       order = let a : l.0.st.latest ≤ index = l.1.order in omega arith;
       moved = λ m. let a : l.0.st.latest ≤ index = l.1.order in omega arith;
-      events = more_events added e;
+      events = (grind (arith, map_append, append_assoc));
       shallow = shallow_append (greatest_margin document) g.nexts added g.shallow shallow;
     }
 
@@ -260,7 +251,7 @@ module _ (full : Bool) (document : List Part) (width : ℕ) (few : length docume
       };
       order = let a : g.later.st.latest ≤ index = g.order in omega arith;
       moved = λ m. let a : g.later.st.latest ≤ index = g.order in omega arith;
-      events = more_events (mark event (margin document index) ∷ []) one;
+      events = (grind (arith, map_append, append_assoc));
       shallow = shallow_append (greatest_margin document) g.nexts (mark event (margin document index) ∷ []) g.shallow (margin-le-greatest document index within, tt);
     }
 
@@ -273,7 +264,7 @@ module _ (full : Bool) (document : List Part) (width : ℕ) (few : length docume
       subst (λ n. Going (index + 1) rest (page.chunks_put width n chunks s)) (sym level)
       (chunks_step index (Text bytes style) rest s g (map (chunk_next index) chunks) (page.chunks_put width (margin document index) chunks s) (sym (shows_chunks index chunks)) still (shallow_chunks (greatest_margin document) index chunks)
       (text_steps document width (margin document index) index chunks g.nexts s (before_chunks index (Text bytes style) rest s g still)
-      (each_shown IsText full (take index document) bytes (each_of_all IsText (chunks_of bytes) (text_chunks bytes u))) (each_shown IsGood full (take index document) bytes (text_good bytes))))
+      (grind (arith, each_taken, each_of_all IsText (chunks_of bytes) (text_chunks bytes u))) (grind (arith, each_taken, text_good bytes))))
   part_step index (Start b) rest s g =
       by_test (Going (index + 1) rest) (is_skipped document index) s (page.start_put b s)
       (λ e. quiet_step index (Start b) rest s g (rw e refl) (shift_at-skipped document index (Start b) e))
@@ -300,13 +291,7 @@ module _ (full : Bool) (document : List Part) (width : ℕ) (few : length docume
     pub shallow : EachNext (IsShallow (greatest_margin document)) nexts
 
   going_on : (parts : List Part) (index : ℕ) (s : PageSoFar) → Going index parts s → Done (page.parts_put full width document (enumerate_from index parts) s)
-  going_on [] index s g = record {
-    nexts = g.nexts;
-    level = top (stack_at document index);
-    later = g.later;
-    events = sym (append-nil (map next_event g.nexts)) ∙ g.events;
-    shallow = g.shallow;
-  }
+  going_on [] index s g = grind (arith, append-nil)
   going_on (part ∷ parts) index s g = going_on parts (index + 1) (page.part_put full width document index part s) (part_step index part parts s g)
 
   abbrev whole : PageSoFar
@@ -334,18 +319,9 @@ event_ink (Shows k chunk) = chunk_ink chunk
 event_ink (Opens b) = mark_bytes b
 event_ink (Closes b) = mark_bytes b
 
-mark_ink : (b : Block) → ink (mark_bytes b) ≡ mark_bytes b
-mark_ink b = elim (is_term_ref b) as (λ (c : Bool). ink (if c then 96 ∷ [] else []) ≡ (if c then 96 ∷ [] else [])) [ true ↦ ink-backquote | false ↦ ink-nil ]
-
-passed_ink : (event : Event) → NoInk event → ink (event_bytes event) ≡ event_ink event
-passed_ink event none = grind (arith, ink-nil, some_none, mark_ink)
-
-inks_cons : (x : Event) (xs : List Event) → flat_map event_ink (reverse (x ∷ xs)) ≡ flat_map event_ink (reverse xs) ++ event_ink x
-inks_cons x xs = grind (arith, reverse_cons, flat_map-append, append-nil)
-
 ink_back : (r : List Stretch) → IsLegible r → EachPassed NoInk r → ink (text_back r) ≡ flat_map event_ink (reverse (events_back r))
 ink_back [] legible none = ink-nil
-ink_back (x ∷ r) legible none = grind (arith, ink_back r, text_back_cons, ink_before_gap, text_utf8, ink-append, trim_ink, inks_cons, passed_ink)
+ink_back (x ∷ r) legible none = grind (arith, ink_back r, text_back_cons, ink_before_gap, text_utf8, ink-append, trim_ink, event_ink, reverse_cons, flat_map-append, append-nil, ink-nil, some_none, ink-backquote)
 
 -- ---- the ink of what is shown
 
@@ -384,11 +360,8 @@ module _ (full : Bool) (width : ℕ) (document : List Part) (all : HasUtf8Texts 
   ended : Done full document width few (text_is_utf8 document all) page_at_end
   ended = page_done full document width few (text_is_utf8 document all)
 
-  out_ink : ink page_at_end.text ≡ console_ink full document
-  out_ink = grind (arith, ended, ink_back, written_base, written_events, reverse-reverse, parts_ink full document document 0 refl)
-
   pub page_ink : ink (console_page full width document) ≡ console_ink full document
-  page_ink = grind (arith, ended, text_utf8, ink_before_gap, out_ink)
+  page_ink = grind (arith, ended, text_utf8, ink_before_gap, ink_back, written_base, written_events, reverse-reverse, parts_ink)
 
   -- the text of the page is that of its stretches, with a last newline where one is asked for
   pub page_layout : IsLayout document full width (console_page full width document)

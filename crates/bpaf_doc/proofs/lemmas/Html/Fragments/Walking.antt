@@ -8,8 +8,8 @@ use Rattle.std.proofs.lemmas.Bool.{false≢true}
 use Rattle.bpaf_doc.specs.Buffer.Parts.{Part, Text}
 use Rattle.bpaf_doc.specs.Splitter.Chunks.{Chunk, Raw, IsLine, chunks_of, columns, is_paragraph}
 use Rattle.bpaf_doc.specs.Splitter.Steps.Runs.{IsRun}
-use Rattle.bpaf_doc.proofs.lemmas.Splitter.Runs.{AreWords, no_words, a_word, words_of_line, words_some}
-use Rattle.bpaf_doc.specs.Shown.{is_hidden, through_paragraph}
+use Rattle.bpaf_doc.proofs.lemmas.Splitter.Runs.{AreWords, no_words, a_word, words_of_line}
+use Rattle.bpaf_doc.specs.Shown.{is_hidden}
 use Rattle.bpaf_doc.specs.Html.Fragments.{Fragment, Shown, part_fragments, shown_fragments}
 use Rattle.bpaf_doc.proofs.lemmas.Console.Hiding.{not_zero, Counts, Counts-nil, Counts-more, is_hidden-Counts}
 use Rattle.bpaf_doc.specs.Html.Steps.Walk.{depth_after, depth_after_text, visible, text_rest, part_walk, walk}
@@ -51,9 +51,6 @@ full_depth (s ∷ parts) = grind (arith, full_depth parts)
 
 -- ---- the walk
 
-pub before_first-stop : {X : Type 0} (p : X → Bool) (x : X) (xs : List X) → p x ≡ true → before_first p (x ∷ xs) ≡ []
-before_first-stop p x xs e = ap (λ b. take (cond (not b) (1 + position_or_len p xs) 0) (x ∷ xs)) e
-
 pub before_first-skip : {X : Type 0} (p : X → Bool) (x : X) (xs : List X) → p x ≡ false → before_first p (x ∷ xs) ≡ x ∷ before_first p xs
 before_first-skip p x xs e = grind arith
 
@@ -63,14 +60,11 @@ one_more n = omega arith
 -- what stands before the first is the same in what goes through it
 before_through : {X : Type 0} (p : X → Bool) (xs : List X) → before_first p (take (position_or_len p xs + 1) xs) ≡ before_first p xs
 before_through p [] = refl
-before_through p (x ∷ xs) = grind (arith, before_through p xs, before_first-stop, one_more, before_first-skip)
-
-before_break : (chunks : List Chunk) → before_first is_paragraph (through_paragraph chunks) ≡ before_first is_paragraph chunks
-before_break chunks = before_through is_paragraph chunks
+before_through p (x ∷ xs) = grind (arith, before_through p xs, cond, one_more, before_first-skip)
 
 part_same : (full : Bool) (before : List Part) (part : Part) → part_walk full part (depth_after_all full 0 before) ≡ part_fragments full before part
 part_same true before (Text bytes style) = ap (part_walk true (Text bytes style)) (full_depth before)
-part_same false before (Text bytes style) = grind (arith, before_break, not_zero, depth_hides)
+part_same false before (Text bytes style) = grind (arith, before_through, not_zero, depth_hides)
 part_same full before _ = refl
 
 walk-along : (full : Bool) (before parts : List Part) → walk full (depth_after_all full 0 before) parts ≡ along (part_fragments full) before parts
@@ -116,4 +110,4 @@ left_run now full in_text style run chunks rest depth parts view begun e line =
 
 -- and fewer fragments are left
 pub fewer_left : (now after : List Fragment) (style : Style) (run : List ℕ) → IsRun run → now ≡ map (Shown style) (chunks_of run) ++ after → length after < length now
-fewer_left now after style run is e = grind (arith, words_some, words_of_line run is.line, length-append (map (Shown style) (chunks_of run)) after, length-map (chunks_of run) (Shown style))
+fewer_left now after style run is e = grind (arith, words_of_line run is.line, length-append (map (Shown style) (chunks_of run)) after, length-map (chunks_of run) (Shown style))
