@@ -1,6 +1,6 @@
 -- Elements of lists, by recursion.
-use Rattle.std.proofs.Common.{◌≡◌, Bool, List, [], ◌∷◌, ◌++◌, ◌⊎◌, inl, inr, refl, sym, ap, subst, map, arith}
-use Rattle.std.specs.Prelude.{filter, flat_map, Contains, All}
+use Rattle.std.proofs.Common.{◌≡◌, List, [], ◌∷◌, ◌++◌, ◌⊎◌, inl, inr, refl, sym, ap, subst, map}
+use Rattle.std.specs.Prelude.{flat_map, Contains, All}
 use Rattle.std.proofs.lemmas.List.Elements.{Contains-push, Contains-append_left, Contains-append_right, All-nil, All-cons}
 
 abbrev pub Among : {X : Type 0} → X → List X → Type 0
@@ -42,9 +42,6 @@ pub in_flat : {X Y : Type 0} (f : X → List Y) (x : X) (y : Y) (xs : List X) �
 in_flat f x y [] a b = absurd a
 in_flat f x y (z ∷ xs) (inl e) b = among_left y (f z) (flat_map f xs) (subst (λ w. Among y (f w)) (sym e) b)
 in_flat f x y (z ∷ xs) (inr a) b = among_right y (f z) (flat_map f xs) (in_flat f x y xs a b)
-
-pub in_filter : {X : Type 0} (p : X → Bool) (b : Bool) (x y : X) (xs : List X) → p y ≡ b → Among x (filter p xs) → Among x (filter p (y ∷ xs))
-in_filter p b x y xs h5 h6 = grind arith
 
 pub none_among : {X : Type 0} (xs : List X) → ((x : X) → ¬ Among x xs) → xs ≡ []
 none_among [] f = refl

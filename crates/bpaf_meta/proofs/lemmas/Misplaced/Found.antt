@@ -32,7 +32,3 @@ finds_then n k j xs ys p m (fine b) f below above r s =
 finds_then n k j xs ys p m (wrong l) f below above r s =
     let here = below (r.0, l) r.1 in
     (r.0, among_left (r.0, l) xs ys r.1, λ x a. elim (among_cases x xs ys a) [ inl h ↦ r.2 x h | inr h ↦ let later = above x h in omega (arith, here.1, later.0) ])
-
--- a tree of its own goes without the mark
-pub finds_within : (xs : List Numbered) (m a : Bool) (c : Check) → Finds xs m c → Finds xs a (then_check c (λ b. fine a))
-finds_within xs m a c h4 = grind arith

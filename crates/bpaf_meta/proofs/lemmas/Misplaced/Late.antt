@@ -16,14 +16,11 @@ abbrev pub late_after : Bool → Line → List Numbered
 late_after true line = filter is_named line
 late_after false line = late_items line
 
-pub after_first-here : (p : Numbered → Bool) (x : Numbered) (xs : Line) → p x ≡ true → after_first p (x ∷ xs) ≡ xs
-after_first-here p x xs e = rw e refl
-
 pub after_first-later : (p : Numbered → Bool) (x : Numbered) (xs : Line) → p x ≡ false → after_first p (x ∷ xs) ≡ after_first p xs
 after_first-later p x xs e = let step : (1 + position_or_len p xs) + 1 ≡ suc (position_or_len p xs + 1) = omega arith in rw (e, step) refl
 
 late_step : (x : Numbered) (front back : Line) (b : Bool) → is_positional x.1 ≡ b → late_items (front ++ back) ≡ late_items front ++ late_after (list_any at_positional front) back → late_items (x ∷ front ++ back) ≡ late_items (x ∷ front) ++ late_after (b || list_any at_positional front) back
-late_step x front back true e h = grind (arith, after_first-here, filter-append)
+late_step x front back true e h = grind (arith, filter-append)
 late_step x front back false e h = grind (arith, after_first-later at_positional x (front ++ back) e, after_first-later at_positional x front e)
 
 late_first : (front back : Line) → late_items (front ++ back) ≡ late_items front ++ late_after (list_any at_positional front) back

@@ -10,9 +10,9 @@ use Rattle.std.proofs.lemmas.List.Folds.{list_any-append}
 use Rattle.bpaf_meta.specs.Content.{Tree, and_of, or_of, optional, required, adjacent, item, many, subsection, suffix, skip, custom_usage, strict, Trees, no_trees, tree, Leaf, command}
 use Rattle.bpaf_meta.specs.Meta.Misplaced.{Numbered, Line, Scope, is_positional, first_item, items_of, items_of_parts, items_within, number_after, joined_lines, at_least_empty, lines_from, and_lines, branch_lines, scopes_within, scopes_within_parts, command_scopes, late_items, misplaced_items, IsWellPlaced, IsFirstMisplaced}
 use Rattle.bpaf_meta.specs.Meta.Steps.Walk.{Check, fine, wrong, then_check, beside, walked, walked_within, walked_parts, walked_branches}
-use Rattle.bpaf_meta.proofs.lemmas.Misplaced.Among.{Among, among_left, among_right, among_cases, among_map, in_map, among_flat, in_flat, in_filter, none_among, contains, all_among}
-use Rattle.bpaf_meta.proofs.lemmas.Misplaced.Late.{is_named, at_positional, late_after, after_first-here, after_first-later, late-append}
-use Rattle.bpaf_meta.proofs.lemmas.Misplaced.Found.{Same, AreFrom, from_then, Finds, finds_same, finds_then, finds_within}
+use Rattle.bpaf_meta.proofs.lemmas.Misplaced.Among.{Among, among_left, among_right, among_cases, among_map, in_map, among_flat, in_flat, none_among, contains, all_among}
+use Rattle.bpaf_meta.proofs.lemmas.Misplaced.Late.{is_named, at_positional, late_after, after_first-later, late-append}
+use Rattle.bpaf_meta.proofs.lemmas.Misplaced.Found.{Same, AreFrom, from_then, Finds, finds_same, finds_then}
 
 abbrev has_positional : Line → Bool
 has_positional = list_any at_positional
@@ -36,7 +36,7 @@ among_at_least line lines h2 = grind arith
 
 -- what is late after no mark is late after one
 late_step : (b : Bool) (y x : Numbered) (line : Line) → is_positional y.1 ≡ b → (Among x (late_items line) → Among x (filter is_named line)) → Among x (late_items (y ∷ line)) → Among x (filter is_named (y ∷ line))
-late_step b y x line h4 h5 h6 = grind (arith, in_filter, after_first-here, after_first-later)
+late_step b y x line h4 h5 h6 = grind (arith, after_first-later)
 
 late_is_named : (x : Numbered) (line : Line) → Among x (late_items line) → Among x (filter is_named line)
 late_is_named x [] a = a
@@ -44,10 +44,6 @@ late_is_named x (y ∷ line) a = late_step (is_positional y.1) y x line refl (la
 
 late_more : (a b : Bool) (x : Numbered) (line : Line) → (a ≡ true → b ≡ true) → Among x (late_after a line) → Among x (late_after b line)
 late_more a b x line h4 h5 = grind (arith, late_is_named)
-
--- a line alone
-alone_late : (n : ℕ) (l : Leaf) (a p : Bool) → is_positional l ≡ p → late_after a ((n, l) ∷ []) ≡ (if a && not p then (n, l) ∷ [] else [])
-alone_late n l a p h4 = grind (arith, after_first-here, after_first-later)
 
 -- what lines mark: one of them as much as all do
 record Marks (lines : List Line) (mark : Bool) : Type 0 where
@@ -156,11 +152,8 @@ record BranchesAgree (n k : ℕ) (lines : List Line) (scopes : List Scope) (chec
   numbers : (a : Bool) → AreFrom n k (faults lines scopes a)
   finds : (a seen : Bool) → (a ≡ true → seen ≡ true) → Finds (faults lines scopes a) (seen || mark) (check a seen)
 
-no_late : (a : Bool) (x : Numbered) → ¬ Among x (faults ([] ∷ []) [] a)
-no_late a x h2 = grind arith
-
 nothing_agrees : (n k : ℕ) → Agrees n k ([] ∷ []) [] fine
-nothing_agrees n k = grind (arith, line_marks, no_late, or-false)
+nothing_agrees n k = grind (arith, line_marks, or-false)
 
 joined_agree : (n k j l : ℕ) (fronts backs : List Line) (scopes others : List Scope) (c d : Bool → Check) → l ≡ k + j → Agrees n k fronts scopes c → Agrees (n + k) j backs others d → Agrees n l (joined_lines fronts backs) (scopes ++ others) (λ a. then_check (c a) d)
 joined_agree n k j l fronts backs scopes others c d e f g =
@@ -172,9 +165,6 @@ joined_agree n k j l fronts backs scopes others c d e f g =
       finds = λ a. finds_same _ _ _ _ (then_check (c a) d) (late a) (or_assoc a f.mark g.mark) (finds_then n k j _ _ (a || f.mark) _ (c a) d (f.numbers a) (g.numbers (a || f.mark)) (f.finds a) (g.finds (a || f.mark)));
     }
 
-seen_or : (a seen m r : Bool) → (a ≡ true → seen ≡ true) → ((seen || (a || m)) || r) ≡ (seen || (m || r))
-seen_or a seen m r h4 = grind arith
-
 branch_agrees : (n k j l : ℕ) (lines others : List Line) (scopes more : List Scope) (c : Bool → Check) (d : Bool → Bool → Check) → l ≡ k + j → Agrees n k lines scopes c → BranchesAgree (n + k) j others more d → BranchesAgree n l (lines ++ others) (scopes ++ more) (λ a seen. then_check (c a) (λ b. d a (seen || b)))
 branch_agrees n k j l lines others scopes more c d e f g =
     let late : (a : Bool) → Same (faults (lines ++ others) (scopes ++ more) a) (faults lines scopes a ++ faults others more a) = λ a. late_then _ _ _ scopes more (λ x. rw (flat_map-append (late_after a) lines others) ((λ h. h), (λ h. h))) in
@@ -184,7 +174,7 @@ branch_agrees n k j l lines others scopes more c d e f g =
       numbers = λ a. from_then n k j l _ _ _ e (late a) (f.numbers a) (g.numbers a);
       finds = λ a seen h.
           let p = a || f.mark in
-          finds_same _ _ _ _ (then_check (c a) (λ b. d a (seen || b))) (late a) (seen_or a seen f.mark g.mark h) (finds_then n k j _ _ p _ (c a) (λ b. d a (seen || b)) (f.numbers a) (g.numbers a) (f.finds a) (g.finds a (seen || p) (λ q. or_left seen p (h q))));
+          finds_same _ _ _ _ (then_check (c a) (λ b. d a (seen || b))) (late a) (grind arith) (finds_then n k j _ _ p _ (c a) (λ b. d a (seen || b)) (f.numbers a) (g.numbers a) (f.finds a) (g.finds a (seen || p) (λ q. or_left seen p (h q))));
     }
 
 branches_agree : (n k : ℕ) (lines : List Line) (scopes : List Scope) (c : Bool → Bool → Check) → BranchesAgree n k lines scopes c → Agrees n k (at_least_empty lines) scopes (λ a. c a a)
@@ -209,8 +199,8 @@ scope_agrees n k t scopes c f = record {
     numbers false = f.numbers false
 
     finds : (a : Bool) → Finds (faults ([] ∷ []) ((n, t) ∷ scopes) a) (a || false) (then_check (c false) (λ b. fine a))
-    finds true = finds_within _ f.mark true (c false) (f.finds false)
-    finds false = finds_within _ f.mark false (c false) (f.finds false)
+    finds true = grind (arith, f.finds false)
+    finds false = grind (arith, f.finds false)
 
 beside_agrees : (o : Option Leaf) (n k : ℕ) (t : Tree) (scopes : List Scope) (c : Bool → Check) → Agrees n k (lines_from n t) scopes c
     → Agrees n k (if option_map_or is_positional o false then lines_from n t else [] ∷ []) (if option_map_or (λ l. not (is_positional l)) o false then (n, t) ∷ scopes else if option_map_or is_positional o false then scopes else []) (λ a. beside o a (c a) (c false))
@@ -235,12 +225,9 @@ alone_agrees n l =
     record {
       mark = p;
       marks = line_marks ((n, l) ∷ []) p (or-false p);
-      numbers = λ a. subst (λ xs. AreFrom n 1 ((xs ++ []) ++ [])) (sym (alone_late n l a p refl)) (alone_numbers (a && not p) n l);
-      finds = λ a. subst (λ xs. Finds ((xs ++ []) ++ []) (a || p) (if a && not p then wrong l else fine (a || p))) (sym (alone_late n l a p refl)) (alone_finds (a && not p) n l (a || p));
+      numbers = λ a. subst (λ xs. AreFrom n 1 ((xs ++ []) ++ [])) (sym (grind (arith, after_first-later))) (alone_numbers (a && not p) n l);
+      finds = λ a. subst (λ xs. Finds ((xs ++ []) ++ []) (a || p) (if a && not p then wrong l else fine (a || p))) (sym (grind (arith, after_first-later))) (alone_finds (a && not p) n l (a || p));
     }
-
-item_check : (c q : Bool) (l : Leaf) (w : Check) → then_check (if c then wrong l else fine q) (λ r. then_check w (λ b. fine r)) ≡ (if c then wrong l else then_check w (λ b. fine q))
-item_check c q l w = grind arith
 
 item_agrees : (n : ℕ) (l : Leaf) (scopes : List Scope) (w : Check) → Agrees (n + 1) (length (items_within l)) ([] ∷ []) scopes (λ a. then_check w (λ b. fine a)) → Agrees n (length (l ∷ items_within l)) (((n, l) ∷ []) ∷ []) scopes (λ a. if a && not (is_positional l) then wrong l else then_check w (λ b. fine (a || is_positional l)))
 item_agrees n l scopes w f =
@@ -250,7 +237,7 @@ item_agrees n l scopes w f =
       mark = g.mark;
       marks = g.marks;
       numbers = g.numbers;
-      finds = λ a. subst (Finds (faults (((n, l) ∷ []) ∷ []) scopes a) (a || g.mark)) (item_check (a && not p) (a || p) l w) (g.finds a);
+      finds = λ a. subst (Finds (faults (((n, l) ∷ []) ∷ []) scopes a) (a || g.mark)) (grind arith) (g.finds a);
     }
 
 mutual

@@ -2,9 +2,8 @@
 use Rattle.std.proofs.Common.{◌≡◌, Bool, true, false, ◌&&◌, List, [], ◌∷◌, ◌++◌, inl, inr, refl, sym, ap, ◌∙◌, subst, arith}
 use Rattle.std.proofs.lemmas.List.{append-nil}
 use Rattle.std.specs.Prelude.{if◌then◌else◌}
-use Rattle.bpaf_doc.specs.Buffer.Parts.{Part}
-use Rattle.bpaf_meta.specs.Content.{Name, Tree, and_of, or_of, optional, required, adjacent, item, many, subsection, suffix, skip, custom_usage, strict, Trees, no_trees, tree, Leaf}
-use Rattle.bpaf_meta.specs.Meta.Normal.{State, pull, shown_trees, and_form, or_form, is_command_tree, without_commands, with_first_command, optional_many_form, optional_form, required_form, many_form, custom_usage_form, name_form, item_form, guarded, state_after, state_out, normal_form, and_parts, or_parts, outer_form, strict_if_push, normalized}
+use Rattle.bpaf_meta.specs.Content.{Tree, and_of, or_of, optional, required, adjacent, item, many, subsection, suffix, skip, custom_usage, strict, Trees, no_trees, tree, Leaf}
+use Rattle.bpaf_meta.specs.Meta.Normal.{State, pull, shown_trees, and_form, is_command_tree, without_commands, with_first_command, optional_many_form, optional_form, many_form, item_form, guarded, state_after, state_out, normal_form, and_parts, or_parts, outer_form, strict_if_push, normalized}
 use Rattle.bpaf_meta.specs.Meta.Sequences.{Symbol, the_command, symbol_of, Language, NoSequence, Only, Maybe, Either, Joined, Repeated, once, again, choice, is_hidden, are_hidden, Shows, ShowsEach, ShowsOne, Same, ShowsSame}
 
 -- languages
@@ -20,9 +19,6 @@ back P Q f w = ((f w).1, (f w).0)
 
 maybe_keeps : (P Q : Language) → Same P Q → Same (Maybe P) (Maybe Q)
 maybe_keeps P Q f w = grind arith
-
-either_keeps : (P Q P' Q' : Language) → Same P P' → Same Q Q' → Same (Either P Q) (Either P' Q')
-either_keeps P Q P' Q' f g w = grind arith
 
 joined_keeps : (P Q P' Q' : Language) → Same P P' → Same Q Q' → Same (Joined P Q) (Joined P' Q')
 joined_keeps P Q P' Q' f g w = grind arith
@@ -57,9 +53,6 @@ repeated_maybe P w = (
 maybe_maybe : (P : Language) → Same (Maybe P) (Maybe (Maybe P))
 maybe_maybe P w = ((λ m. inr m), (λ m. elim m [ inl e ↦ inl e | inr n ↦ n ]))
 
-either_none : (P : Language) → Same (Either P NoSequence) P
-either_none P w = ((λ m. elim m [ inl p ↦ p | inr n ↦ absurd n ]), (λ p. inl p))
-
 -- the same choice of the same languages, where the second ones need be the same only if they are chosen
 choice_keeps : (b c : Bool) (P Q P' Q' : Language) → b ≡ c → Same P P' → (c ≡ false → Same Q Q') → Same (choice b P Q) (choice c P' Q')
 choice_keeps true true P Q P' Q' e f g = f
@@ -87,7 +80,7 @@ alike_then : {a b c : Bool} {P Q R : Language} → Alike a P b Q → Alike b Q c
 alike_then f g = (f.0 ∙ g.0, λ e. then_same _ _ _ (f.1 (g.0 ∙ e)) (g.1 e))
 
 part_alike : (u : Bool) (t v : Tree) (ts vs : Trees) → TreesAlike u t v → PartsAlike u ts vs → PartsAlike u (tree t ts) (tree v vs)
-part_alike u t v ts vs f g = grind (arith, choice_keeps (is_hidden u t) (is_hidden u v), joined_keeps, either_keeps)
+part_alike u t v ts vs f g = grind (arith, choice_keeps (is_hidden u t) (is_hidden u v), joined_keeps)
 
 -- what the forms show
 
@@ -99,12 +92,6 @@ and_form_alike : (u : Bool) (ts : Trees) → Alike (is_hidden u (and_form ts)) (
 and_form_alike u no_trees = (refl, λ e. cc)
 and_form_alike u (tree t no_trees) = alone_each (is_hidden u t) (Shows u t)
 and_form_alike u (tree t (tree v ts)) = itself
-
-alone_one : (b : Bool) (P : Language) → Alike b P (b && true) (choice b NoSequence (Either P NoSequence))
-alone_one b P = grind (arith, back, either_none)
-
-or_form_alike : (u : Bool) (ts : Trees) → Alike (is_hidden u (or_form ts)) (Shows u (or_form ts)) (are_hidden u ts) (ShowsOne u ts)
-or_form_alike u ts = grind (arith, alone_one, itself)
 
 shown_alike : (u : Bool) (ts : Trees) → PartsAlike u (shown_trees ts) ts
 shown_alike u no_trees = (refl, same _, same _)
@@ -124,9 +111,6 @@ command_shows u x e = grind (arith, same)
 abbrev CommandOr : Language → Language
 CommandOr Q = Either (Only (the_command ∷ [])) Q
 
-command_or_keeps : (P Q : Language) → Same P Q → Same (CommandOr P) (CommandOr Q)
-command_or_keeps P Q f = either_keeps (Only (the_command ∷ [])) P (Only (the_command ∷ [])) Q (same (Only (the_command ∷ []))) f
-
 command_or_absorbs : (C B : Language) → Same C (Only (the_command ∷ [])) → Same (CommandOr B) (CommandOr (Either C B))
 command_or_absorbs C B f w = grind arith
 
@@ -138,7 +122,7 @@ command_or_choice true P A B f = f
 command_or_choice false P A B f = λ w. (either_under P A B w (f w).0, either_under P B A w (f w).1)
 
 without_step : (u : Bool) (t : Tree) (ts : Trees) (b : Bool) → is_command_tree t ≡ b → Same (CommandOr (ShowsOne u (without_commands ts))) (CommandOr (ShowsOne u ts)) → Same (CommandOr (ShowsOne u (if b then without_commands ts else tree t (without_commands ts)))) (CommandOr (ShowsOne u (tree t ts)))
-without_step u t ts true e f = grind (arith, command_not_hidden, choice_false, then_same, command_or_absorbs, command_shows, command_or_keeps, back)
+without_step u t ts true e f = grind (arith, command_not_hidden, choice_false, then_same, command_or_absorbs, command_shows, same, back)
 without_step u t ts false e f = command_or_choice (is_hidden u t) (Shows u t) (ShowsOne u (without_commands ts)) (ShowsOne u ts) f
 
 without_one : (u : Bool) (ts : Trees) → Same (CommandOr (ShowsOne u (without_commands ts))) (CommandOr (ShowsOne u ts))
@@ -147,7 +131,7 @@ without_one u (tree t ts) = without_step u t ts (is_command_tree t) refl (withou
 
 -- the first of the parts is a command: then the others show no more with the other commands than without
 first_step : (u : Bool) (t : Tree) (ts : Trees) (b : Bool) → is_command_tree t ≡ b → (are_hidden u (with_first_command ts) ≡ are_hidden u ts) × Same (ShowsOne u (with_first_command ts)) (ShowsOne u ts) → (are_hidden u (tree t (if b then without_commands ts else with_first_command ts)) ≡ are_hidden u (tree t ts)) × Same (ShowsOne u (tree t (if b then without_commands ts else with_first_command ts))) (ShowsOne u (tree t ts))
-first_step u t ts b h4 h5 = grind (arith, command_not_hidden, command_shows, either_keeps, same, then_same, choice_false, without_one, back, choice_keeps)
+first_step u t ts b h4 h5 = grind (arith, command_not_hidden, command_shows, same, then_same, choice_false, without_one, back, choice_keeps)
 
 first_alike : (u : Bool) (ts : Trees) → (are_hidden u (with_first_command ts) ≡ are_hidden u ts) × Same (ShowsOne u (with_first_command ts)) (ShowsOne u ts)
 first_alike u no_trees = (refl, same NoSequence)
@@ -163,27 +147,12 @@ optional_alike u (optional t) = (refl, λ e. maybe_maybe (Shows u t))
 optional_alike u (many t) = optional_many_alike u t
 optional_alike u t = itself
 
-required_alike : (u : Bool) (t : Tree) → TreesAlike u (required_form t) t
-required_alike u t = grind (arith, itself)
-
 many_alike : (u : Bool) (t : Tree) → Alike (is_hidden u (many_form t)) (Shows u (many_form t)) (is_hidden u t) (Repeated (Shows u t))
 many_alike u skip = (refl, λ e. cc)
 many_alike u t = itself
 
-usage_alike : (u : Bool) (t n : Tree) (d : List Part) → TreesAlike u n t → TreesAlike u (custom_usage_form u n d) (custom_usage t d)
-usage_alike u t n d h4 = grind (arith, itself)
-
-guarded_alike : (u : Bool) (r g : State) (n t : Tree) → TreesAlike u n t → TreesAlike u (guarded r g n) t
-guarded_alike u r g n t h5 = grind arith
-
-pub name_form_twice : (u : Bool) (n : Name) → name_form u (name_form u n) ≡ name_form u n
-name_form_twice u n = grind arith
-
-symbol-item_form : (u : Bool) (l : Leaf) → symbol_of u (item_form u l) ≡ symbol_of u l
-symbol-item_form u l = grind (arith, name_form_twice)
-
 item_shows : (u : Bool) (l : Leaf) → Same (Shows u (item (item_form u l))) (Shows u (item l))
-item_shows u l = let e : symbol_of u (item_form u l) ≡ symbol_of u l = symbol-item_form u l in rw e (same (Only (symbol_of u l ∷ [])))
+item_shows u l = let e : symbol_of u (item_form u l) ≡ symbol_of u l = grind arith in rw e (same (Only (symbol_of u l ∷ [])))
 
 mutual
   normal_alike : (u : Bool) (s : State) (t : Tree) → TreesAlike u (normal_form u s t) t
@@ -197,32 +166,29 @@ mutual
       let first = first_alike u (shown_trees ns) in
       let shown = shown_alike u ns in
       let parts = or_parts_alike u s s ts in
-      alike_then (or_form_alike u (with_first_command (shown_trees ns))) (first.0 ∙ shown.0 ∙ parts.0, λ h. then_same _ _ _ first.1 (then_same _ _ _ shown.2 parts.2))
+      alike_then (grind (arith, back, itself)) (first.0 ∙ shown.0 ∙ parts.0, λ h. then_same _ _ _ first.1 (then_same _ _ _ shown.2 parts.2))
   normal_alike u s (optional t) = let f = normal_alike u s t in alike_then (optional_alike u (normal_form u s t)) (f.0, λ h. maybe_keeps _ _ (f.1 h))
-  normal_alike u s (required t) = alike_then (required_alike u (normal_form u s t)) (normal_alike u s t)
+  normal_alike u s (required t) = alike_then (grind (arith, itself)) (normal_alike u s t)
   normal_alike u s (adjacent t) = normal_alike u s t
   normal_alike u s (item l) = (refl, λ h. item_shows u l)
   normal_alike u s (many t) = let f = normal_alike u s t in alike_then (many_alike u (normal_form u s t)) (f.0, λ h. repeated_keeps _ _ (f.1 h))
   normal_alike u s (subsection t d) = normal_alike u s t
   normal_alike u s (suffix t d) = normal_alike u s t
   normal_alike u s skip = itself
-  normal_alike u s (custom_usage t d) = usage_alike u t (normal_form u s t) d (normal_alike u s t)
+  normal_alike u s (custom_usage t d) = grind (arith, itself, normal_alike u s t)
   normal_alike u s (strict t) = normal_alike u s t
 
   and_parts_alike : (u : Bool) (r : State) (ts : Trees) → PartsAlike u (and_parts u r ts) ts
   and_parts_alike u r no_trees = (refl, same _, same _)
   and_parts_alike u r (tree t ts) =
       let g : State = state_out r t in
-      part_alike u (guarded r g (normal_form u r t)) t (and_parts u (state_after r g) ts) ts (guarded_alike u r g (normal_form u r t) t (normal_alike u r t)) (and_parts_alike u (state_after r (state_out r t)) ts)
+      part_alike u (guarded r g (normal_form u r t)) t (and_parts u (state_after r g) ts) ts (grind (arith, normal_alike u r t)) (and_parts_alike u (state_after r (state_out r t)) ts)
 
   or_parts_alike : (u : Bool) (s f : State) (ts : Trees) → PartsAlike u (or_parts u s f ts) ts
   or_parts_alike u s f no_trees = (refl, same _, same _)
   or_parts_alike u s f (tree t ts) =
       let g : State = state_out s t in
-      part_alike u (guarded f g (normal_form u s t)) t (or_parts u s (state_after f g) ts) ts (guarded_alike u f g (normal_form u s t) t (normal_alike u s t)) (or_parts_alike u s (state_after f (state_out s t)) ts)
-
-outer_alike : (u : Bool) (t v : Tree) → TreesAlike u t v → TreesAlike u (outer_form t) v
-outer_alike u t v h3 = grind arith
+      part_alike u (guarded f g (normal_form u s t)) t (or_parts u s (state_after f g) ts) ts (grind (arith, normal_alike u s t)) (or_parts_alike u s (state_after f (state_out s t)) ts)
 
 strict_alike : (u : Bool) (s : State) (t v : Tree) → TreesAlike u t v → TreesAlike u (strict_if_push s t) v
 strict_alike u s t v h4 = grind arith
@@ -230,5 +196,5 @@ strict_alike u s t v h4 = grind arith
 -- the normal form shows what the tree shows
 pub normalized_shows : (u : Bool) (t : Tree) → ShowsSame u (normalized u t) t
 normalized_shows u t =
-    let f = strict_alike u (state_out pull t) (outer_form (normal_form u pull t)) t (outer_alike u (normal_form u pull t) t (normal_alike u pull t)) in
+    let f = strict_alike u (state_out pull t) (outer_form (normal_form u pull t)) t (grind (arith, normal_alike u pull t)) in
     record { hidden = f.0; sequences = f.1 }

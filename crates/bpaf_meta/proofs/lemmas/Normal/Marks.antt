@@ -2,7 +2,7 @@
 use Rattle.std.proofs.Common.{Bool, true, false, ◌⊎◌, inl, inr, refl, arith}
 use Rattle.std.specs.Prelude.{IsTrue}
 use Rattle.bpaf_meta.specs.Content.{Tree, and_of, or_of, optional, required, adjacent, item, many, subsection, suffix, skip, custom_usage, strict, Trees, no_trees, tree}
-use Rattle.bpaf_meta.specs.Meta.Normal.{State, pull, push, strip, shown_trees, or_form, with_first_command, optional_form, required_form, many_form, guarded, state_after, strict_state, state_out, normal_form, and_parts, or_parts, or_state, outer_form, strict_if_push, normalized}
+use Rattle.bpaf_meta.specs.Meta.Normal.{State, pull, push, strip, shown_trees, or_form, with_first_command, optional_form, required_form, many_form, guarded, state_after, state_out, normal_form, and_parts, or_parts, or_state, outer_form, strict_if_push, normalized}
 use Rattle.bpaf_meta.specs.Meta.Shape.{HasStrict, SomeHasStrict, HasCustomUsage, SomeHasCustomUsage, KeepsStrict}
 use Rattle.bpaf_meta.proofs.lemmas.Normal.Plain.{and_form_strict, or_form_strict, shown_strict, first_strict, optional_strict, required_strict, many_strict, usage_strict, outer_strict}
 
@@ -16,12 +16,9 @@ IsStrip s = ⊥
 
 -- none comes about
 
-not_push_after : (r g : State) → ¬ IsPush r → ¬ IsPush (state_after r g)
-not_push_after r g h2 = grind arith
-
 or_state_pushes : (s f : State) (ts : Trees) → ¬ IsPush f → ¬ IsPush (or_state s f ts)
 or_state_pushes s f no_trees k = k
-or_state_pushes s f (tree t ts) k = or_state_pushes s (state_after f (state_out s t)) ts (not_push_after f (state_out s t) k)
+or_state_pushes s f (tree t ts) k = or_state_pushes s (state_after f (state_out s t)) ts (grind arith)
 
 -- a `--` that is asked for stands in the tree
 asked : (s : State) (t : Tree) → ¬ IsPush s → IsPush (state_out s t) → HasStrict t
@@ -34,11 +31,8 @@ asked s (suffix t d) k x = asked s t k x
 asked s (custom_usage t d) k x = asked s t k x
 asked s y k x = grind (arith, or_state_pushes)
 
-guarded_comes : (r g : State) (n : Tree) → HasStrict (guarded r g n) → HasStrict n ⊎ IsPush g
-guarded_comes r g n h3 = grind arith
-
 part_comes : (r g : State) (t n : Tree) (vs ts : Trees) → (HasStrict n → HasStrict t) → (IsPush g → HasStrict t) → (SomeHasStrict vs → SomeHasStrict ts) → SomeHasStrict (tree (guarded r g n) vs) → SomeHasStrict (tree t ts)
-part_comes r g t n vs ts h6 h7 h8 h9 = grind (arith, guarded_comes)
+part_comes r g t n vs ts h6 h7 h8 h9 = grind arith
 
 mutual
   comes : (u : Bool) (s : State) (t : Tree) → ¬ IsPush s → HasStrict (normal_form u s t) → HasStrict t
@@ -57,7 +51,7 @@ mutual
 
   and_comes : (u : Bool) (r : State) (ts : Trees) → ¬ IsPush r → SomeHasStrict (and_parts u r ts) → SomeHasStrict ts
   and_comes u r no_trees k x = x
-  and_comes u r (tree t ts) k x = part_comes r (state_out r t) t (normal_form u r t) (and_parts u (state_after r (state_out r t)) ts) ts (comes u r t k) (asked r t k) (and_comes u (state_after r (state_out r t)) ts (not_push_after r (state_out r t) k)) x
+  and_comes u r (tree t ts) k x = part_comes r (state_out r t) t (normal_form u r t) (and_parts u (state_after r (state_out r t)) ts) ts (comes u r t k) (asked r t k) (and_comes u (state_after r (state_out r t)) ts (grind arith)) x
 
   or_comes : (u : Bool) (s f : State) (ts : Trees) → ¬ IsPush s → SomeHasStrict (or_parts u s f ts) → SomeHasStrict ts
   or_comes u s f no_trees k x = x
@@ -70,12 +64,6 @@ record Stays (Given Normal : Type 0) (out : State) : Type 0 where
 
 inside_stays : (H N M : Type 0) (g : State) → (N → M) → Stays H N g → Stays H M g
 inside_stays H N M g f k = grind arith
-
-strict_stays : (H N : Type 0) (g : State) → Stays H N g → Stays (Unit {0}) N (strict_state g)
-strict_stays H N g h3 = grind arith
-
-and_step : (u : Bool) (t n : Tree) (ts : Trees) (g : State) → Stays (HasStrict t) (HasStrict n) g → (SomeHasStrict ts → SomeHasStrict (and_parts u pull ts)) → SomeHasStrict (tree t ts) → SomeHasStrict (tree (guarded pull g n) (and_parts u (state_after pull g) ts))
-and_step u t n ts g h5 h6 h7 = grind arith
 
 or_step : (u : Bool) (t n : Tree) (ts : Trees) (g : State) → Stays (HasStrict t) (HasStrict n) g → Stays (SomeHasStrict ts) (SomeHasStrict (or_parts u pull pull ts)) (or_state pull pull ts) → Stays (SomeHasStrict (tree t ts)) (SomeHasStrict (tree (guarded pull g n) (or_parts u pull (state_after pull g) ts))) (or_state pull (state_after pull g) ts)
 or_step u t n ts g h5 h6 = grind arith
@@ -99,11 +87,11 @@ mutual
   stays u skip h = record { form = λ x. absurd x; shown = λ x. absurd x }
   stays true (custom_usage t d) h = absurd (h refl tt)
   stays false (custom_usage t d) h = stays false t (λ e. cc)
-  stays u (strict t) h = strict_stays (HasStrict t) (HasStrict (normal_form u pull t)) (state_out pull t) (stays u t h)
+  stays u (strict t) h = grind (arith, stays u t h)
 
   and_stays : (u : Bool) (ts : Trees) → (IsTrue u → ¬ SomeHasCustomUsage ts) → SomeHasStrict ts → SomeHasStrict (and_parts u pull ts)
   and_stays u no_trees h x = x
-  and_stays u (tree t ts) h x = and_step u t (normal_form u pull t) ts (state_out pull t) (stays u t (λ e y. h e (inl y))) (and_stays u ts (λ e y. h e (inr y))) x
+  and_stays u (tree t ts) h x = grind (arith, stays u t (λ e y. h e (inl y)), and_stays u ts (λ e y. h e (inr y)))
 
   or_stays : (u : Bool) (ts : Trees) → (IsTrue u → ¬ SomeHasCustomUsage ts) → Stays (SomeHasStrict ts) (SomeHasStrict (or_parts u pull pull ts)) (or_state pull pull ts)
   or_stays u no_trees h = record { form = λ x. absurd x; shown = λ x. absurd x }

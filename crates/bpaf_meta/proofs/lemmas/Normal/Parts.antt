@@ -46,9 +46,6 @@ with_shown_skip ts t e = rw e (trees_then_none ts)
 pub with_shown_other : (ts : Trees) (t : Tree) → is_skip_tree t ≡ false → trees_then ts (with_shown t) ≡ trees_then ts (tree t no_trees)
 with_shown_other ts t e = rw e refl
 
-alone_by : (seen b : Bool) (t : Tree) → is_command_tree t ≡ b → (b && seen) ≡ true → after_commands seen (tree t no_trees) ≡ no_trees
-alone_by seen b t h3 h4 = grind arith
-
 kept_by : (seen b : Bool) (t : Tree) → is_command_tree t ≡ b → (b && seen) ≡ false → after_commands seen (tree t no_trees) ≡ tree t no_trees
 kept_by seen b t h3 h4 = grind arith
 
@@ -57,30 +54,20 @@ after_none seen = grind arith
 
 -- `keep_alternative`
 pub after_repeated : (seen : Bool) (t : Tree) → (is_command_tree t && seen) ≡ true → after_commands seen (with_shown t) ≡ no_trees
-after_repeated seen t h2 = grind (arith, after_none, alone_by)
+after_repeated seen t h2 = grind (arith, after_none)
 
 pub after_kept : (seen : Bool) (t : Tree) → (is_command_tree t && seen) ≡ false → after_commands seen (with_shown t) ≡ with_shown t
 after_kept seen t h2 = grind (arith, after_none, kept_by)
 
--- a turn of the loop over an And
-and_alone : (t : Tree) (us : Trees) → trees_then (with_shown t) (shown_trees us) ≡ shown_trees (tree t us)
-and_alone t us = grind arith
-
 pub and_turn : (ts : Trees) (t : Tree) (us : Trees) → trees_then (trees_then ts (with_shown t)) (shown_trees us) ≡ trees_then ts (shown_trees (tree t us))
-and_turn ts t us = trees_then_then ts (with_shown t) (shown_trees us) ∙ ap (trees_then ts) (and_alone t us)
+and_turn ts t us = trees_then_then ts (with_shown t) (shown_trees us) ∙ ap (trees_then ts) (grind arith)
 
 -- a turn of the loop over an Or
 by_command : (seen b : Bool) (t : Tree) (us : Trees) → is_command_tree t ≡ b → trees_then (after_commands seen (tree t no_trees)) (after_commands (seen || b) us) ≡ after_commands seen (tree t us)
 by_command seen b t us h4 = grind arith
 
-or_skip : (seen : Bool) (us : Trees) → trees_then (after_commands seen no_trees) (after_commands (seen || false) us) ≡ after_commands seen us
-or_skip seen us = grind arith
-
-or_alone : (seen : Bool) (t : Tree) (us : Trees) → trees_then (after_commands seen (with_shown t)) (after_commands (sees_command seen t) (shown_trees us)) ≡ after_commands seen (shown_trees (tree t us))
-or_alone seen t us = grind (arith, or_skip, by_command)
-
 pub or_turn : (seen : Bool) (ts : Trees) (t : Tree) (us : Trees) → trees_then (trees_then ts (after_commands seen (with_shown t))) (after_commands (sees_command seen t) (shown_trees us)) ≡ trees_then ts (after_commands seen (shown_trees (tree t us)))
-or_turn seen ts t us = trees_then_then ts (after_commands seen (with_shown t)) (after_commands (sees_command seen t) (shown_trees us)) ∙ ap (trees_then ts) (or_alone seen t us)
+or_turn seen ts t us = trees_then_then ts (after_commands seen (with_shown t)) (after_commands (sees_command seen t) (shown_trees us)) ∙ ap (trees_then ts) (grind (arith, by_command))
 
 -- a list of several
 pub and_several : {A : Type 0} (fs : List (Form A)) → 1 < length fs → and_form (forms_of fs) ≡ and_of (forms_of fs)

@@ -1,18 +1,14 @@
 -- Trees without Strict: their normal form has none, is Skip exactly where they are hidden, and is its own normal form.
 use Rattle.std.proofs.Common.{◌≡◌, ◌↔◌, ◌⊎◌, Bool, true, List, inl, inr, refl, sym, ap, ◌∙◌, subst, arith}
-use Rattle.std.specs.Prelude.{if◌then◌else◌}
 use Rattle.std.proofs.lemmas.Bool.{and_parts as conjuncts}
 use Rattle.bpaf_doc.specs.Buffer.Parts.{Part}
 use Rattle.bpaf_meta.specs.Content.{Tree, and_of, or_of, optional, required, adjacent, item, many, subsection, suffix, skip, custom_usage, strict, Trees, no_trees, tree}
-use Rattle.bpaf_meta.specs.Meta.Normal.{State, pull, shown_trees, and_form, or_form, is_command_tree, without_commands, with_first_command, optional_many_form, optional_form, required_form, many_form, custom_usage_form, guarded, state_after, state_out, normal_form, and_parts, or_parts, or_state, outer_form, normalized}
+use Rattle.bpaf_meta.specs.Meta.Normal.{State, pull, shown_trees, and_form, or_form, is_command_tree, without_commands, with_first_command, optional_form, required_form, many_form, custom_usage_form, guarded, state_out, normal_form, and_parts, or_parts, or_state, outer_form, normalized}
 use Rattle.bpaf_meta.specs.Meta.Sequences.{is_hidden, are_hidden}
 use Rattle.bpaf_meta.specs.Meta.Shape.{HasStrict, SomeHasStrict}
 use Rattle.bpaf_meta.proofs.lemmas.Normal.Keeps.{normalized_shows}
 
 -- the state stays
-
-state_after_same : (s : State) → state_after s s ≡ s
-state_after_same s = grind arith
 
 guarded_same : (s : State) (t : Tree) → guarded s s t ≡ t
 guarded_same s t = grind arith
@@ -34,7 +30,7 @@ mutual
 
   or_state_kept : (s : State) (ts : Trees) → ¬ SomeHasStrict ts → or_state s s ts ≡ s
   or_state_kept s no_trees h = refl
-  or_state_kept s (tree t ts) h = grind (arith, or_state_kept s ts, state_kept s t, state_after_same s)
+  or_state_kept s (tree t ts) h = grind (arith, or_state_kept s ts, state_kept s t)
 
 -- the parts in normal form, each from the same state
 abbrev pub plain_parts : Bool → State → Trees → Trees
@@ -43,11 +39,11 @@ plain_parts u s (tree t ts) = tree (normal_form u s t) (plain_parts u s ts)
 
 pub and_parts_plain : (u : Bool) (s : State) (ts : Trees) → ¬ SomeHasStrict ts → and_parts u s ts ≡ plain_parts u s ts
 and_parts_plain u s no_trees h = refl
-and_parts_plain u s (tree t ts) h = grind (arith, and_parts_plain u s ts, state_kept s t, state_after_same s, guarded_same s (normal_form u s t))
+and_parts_plain u s (tree t ts) h = grind (arith, and_parts_plain u s ts, state_kept s t, guarded_same s (normal_form u s t))
 
 pub or_parts_plain : (u : Bool) (s : State) (ts : Trees) → ¬ SomeHasStrict ts → or_parts u s s ts ≡ plain_parts u s ts
 or_parts_plain u s no_trees h = refl
-or_parts_plain u s (tree t ts) h = grind (arith, or_parts_plain u s ts, state_kept, state_after_same, guarded_same)
+or_parts_plain u s (tree t ts) h = grind (arith, or_parts_plain u s ts, state_kept, guarded_same)
 
 -- no Strict comes about
 
@@ -55,14 +51,11 @@ or_parts_plain u s (tree t ts) h = grind (arith, or_parts_plain u s ts, state_ke
 pub itself : {P : Type 0} → P ↔ P
 itself = ((λ x. x), (λ x. x))
 
-alone_strict : {P : Type 0} → P ↔ (P ⊎ ⊥)
-alone_strict = ((λ x. inl x), (λ x. elim x [ inl y ↦ y | inr y ↦ absurd y ]))
-
 pub and_form_strict : (ts : Trees) → HasStrict (and_form ts) ↔ SomeHasStrict ts
-and_form_strict ts = grind (arith, alone_strict, itself)
+and_form_strict ts = grind (arith, itself)
 
 pub or_form_strict : (ts : Trees) → HasStrict (or_form ts) ↔ SomeHasStrict ts
-or_form_strict ts = grind (arith, alone_strict, itself)
+or_form_strict ts = grind (arith, itself)
 
 some_tail : {P Q R : Type 0} → Q ↔ R → (P ⊎ Q) ↔ (P ⊎ R)
 some_tail f = grind arith
@@ -76,25 +69,16 @@ command_holds_none : (t : Tree) → is_command_tree t ≡ true → ¬ HasStrict 
 command_holds_none (subsection t d) e x = command_holds_none t e x
 command_holds_none y e x = grind arith
 
-without_by : (b : Bool) (t : Tree) (ns ts : Trees) → is_command_tree t ≡ b → SomeHasStrict ns ↔ SomeHasStrict ts → SomeHasStrict (if b then ns else tree t ns) ↔ SomeHasStrict (tree t ts)
-without_by b t ns ts h4 h5 = grind (arith, command_holds_none, some_tail)
-
 without_strict : (ts : Trees) → SomeHasStrict (without_commands ts) ↔ SomeHasStrict ts
 without_strict no_trees = itself
-without_strict (tree t ts) = without_by (is_command_tree t) t (without_commands ts) ts refl (without_strict ts)
-
-first_by : (b : Bool) (ns vs ts : Trees) → SomeHasStrict ns ↔ SomeHasStrict ts → SomeHasStrict vs ↔ SomeHasStrict ts → SomeHasStrict (if b then ns else vs) ↔ SomeHasStrict ts
-first_by b ns vs ts h4 h5 = grind arith
+without_strict (tree t ts) = grind (arith, command_holds_none, some_tail, without_strict ts)
 
 pub first_strict : (ts : Trees) → SomeHasStrict (with_first_command ts) ↔ SomeHasStrict ts
 first_strict no_trees = itself
-first_strict (tree t ts) = some_tail (first_by (is_command_tree t) (without_commands ts) (with_first_command ts) ts (without_strict ts) (first_strict ts))
-
-optional_many_strict : (t : Tree) → HasStrict (optional_many_form t) ↔ HasStrict t
-optional_many_strict t = grind (arith, itself)
+first_strict (tree t ts) = some_tail (grind (arith, without_strict ts, first_strict ts))
 
 pub optional_strict : (t : Tree) → HasStrict (optional_form t) ↔ HasStrict t
-optional_strict t = grind (arith, optional_many_strict, itself)
+optional_strict t = grind (arith, itself)
 
 pub required_strict : (t : Tree) → HasStrict (required_form t) ↔ HasStrict t
 required_strict t = grind (arith, itself)

@@ -1,9 +1,8 @@
 -- The normal form has the usage shape.
-use Rattle.std.proofs.Common.{Bool, List, arith}
-use Rattle.bpaf_doc.specs.Buffer.Parts.{Part}
-use Rattle.bpaf_meta.specs.Content.{Name, Tree, and_of, or_of, optional, required, adjacent, item, many, subsection, suffix, skip, custom_usage, strict, Trees, no_trees, tree, Leaf}
-use Rattle.bpaf_meta.specs.Meta.Normal.{State, pull, shown_trees, and_form, or_form, with_first_command, optional_many_form, optional_form, required_form, many_form, custom_usage_form, name_form, item_form, guarded as guarded_part, state_after, state_out, normal_form, and_parts, or_parts, outer_form, strict_if_push, normalized}
-use Rattle.bpaf_meta.specs.Meta.Shape.{whole, guarded, among, IsOneName, HasOneName, HasShapeAt, EachHasShape, HasUsageShape}
+use Rattle.std.proofs.Common.{Bool, arith}
+use Rattle.bpaf_meta.specs.Content.{Tree, and_of, or_of, optional, required, adjacent, item, many, subsection, suffix, skip, custom_usage, strict, Trees, no_trees, tree}
+use Rattle.bpaf_meta.specs.Meta.Normal.{State, pull, shown_trees, and_form, with_first_command, guarded as guarded_part, state_after, state_out, normal_form, and_parts, or_parts, outer_form, strict_if_push, normalized}
+use Rattle.bpaf_meta.specs.Meta.Shape.{whole, guarded, among, HasShapeAt, EachHasShape, HasUsageShape}
 use Rattle.bpaf_meta.proofs.lemmas.Normal.Parts.{first_each}
 
 -- each part has the shape of what may stand in a Strict: a Skip may, a bare Or may not
@@ -28,32 +27,8 @@ and_form_shape u no_trees h = tt
 and_form_shape u (tree t no_trees) h = among_guarded u t h.0
 and_form_shape u (tree t (tree v ts)) h = (tt, h)
 
-or_form_shape : (u : Bool) (ts : Trees) → EachHasShape u ts → HasShapeAt u guarded (or_form ts)
-or_form_shape u ts h2 = grind (arith, among_guarded)
-
 first_shape : (u : Bool) (ts : Trees) → EachHasShape u ts → EachHasShape u (with_first_command ts)
 first_shape u = first_each (HasShapeAt u among) (EachHasShape u) (λ t ts h. h) (λ t ts h. h)
-
-optional_many_shape : (u : Bool) (t : Tree) → HasShapeAt u among t → HasShapeAt u guarded (optional_many_form t)
-optional_many_shape u t h2 = grind arith
-
-optional_shape : (u : Bool) (t : Tree) → HasShapeAt u guarded t → HasShapeAt u guarded (optional_form t)
-optional_shape u t h2 = grind (arith, optional_many_shape)
-
-required_shape : (u : Bool) (t : Tree) → HasShapeAt u guarded t → HasShapeAt u guarded (required_form t)
-required_shape u t h2 = grind arith
-
-many_shape : (u : Bool) (t : Tree) → HasShapeAt u guarded t → HasShapeAt u guarded (many_form t)
-many_shape u t h2 = grind arith
-
-usage_shape : (u : Bool) (n : Tree) (d : List Part) → HasShapeAt u guarded n → HasShapeAt u guarded (custom_usage_form u n d)
-usage_shape u n d h3 = grind arith
-
-name_shape : (u : Bool) (n : Name) → IsOneName (name_form u n)
-name_shape u n = grind arith
-
-item_shape : (u : Bool) (l : Leaf) → HasOneName (item_form u l)
-item_shape u l = grind (arith, name_shape)
 
 part_shape : (u : Bool) (r g : State) (n : Tree) → HasShapeAt u guarded n → HasShapeAt u guarded (guarded_part r g n)
 part_shape u r g n h4 = grind arith
@@ -61,16 +36,16 @@ part_shape u r g n h4 = grind arith
 mutual
   normal_shape : (u : Bool) (s : State) (t : Tree) → HasShapeAt u guarded (normal_form u s t)
   normal_shape u s (and_of ts) = and_form_shape u (shown_trees (and_parts u s ts)) (shown_shape u (and_parts u s ts) (and_parts_shape u s ts))
-  normal_shape u s (or_of ts) = or_form_shape u (with_first_command (shown_trees (or_parts u s s ts))) (first_shape u (shown_trees (or_parts u s s ts)) (shown_shape u (or_parts u s s ts) (or_parts_shape u s s ts)))
-  normal_shape u s (optional t) = optional_shape u (normal_form u s t) (normal_shape u s t)
-  normal_shape u s (required t) = required_shape u (normal_form u s t) (normal_shape u s t)
+  normal_shape u s (or_of ts) = grind (arith, among_guarded, first_shape u (shown_trees (or_parts u s s ts)) (shown_shape u (or_parts u s s ts) (or_parts_shape u s s ts)))
+  normal_shape u s (optional t) = grind (arith, normal_shape u s t)
+  normal_shape u s (required t) = grind (arith, normal_shape u s t)
   normal_shape u s (adjacent t) = normal_shape u s t
-  normal_shape u s (item l) = item_shape u l
-  normal_shape u s (many t) = many_shape u (normal_form u s t) (normal_shape u s t)
+  normal_shape u s (item l) = grind arith
+  normal_shape u s (many t) = grind (arith, normal_shape u s t)
   normal_shape u s (subsection t d) = normal_shape u s t
   normal_shape u s (suffix t d) = normal_shape u s t
   normal_shape u s skip = tt
-  normal_shape u s (custom_usage t d) = usage_shape u (normal_form u s t) d (normal_shape u s t)
+  normal_shape u s (custom_usage t d) = grind (arith, normal_shape u s t)
   normal_shape u s (strict t) = normal_shape u s t
 
   and_parts_shape : (u : Bool) (r : State) (ts : Trees) → EachIsForm u (and_parts u r ts)
@@ -81,9 +56,6 @@ mutual
   or_parts_shape u s f no_trees = tt
   or_parts_shape u s f (tree t ts) = (part_shape u f (state_out s t) (normal_form u s t) (normal_shape u s t), or_parts_shape u s (state_after f (state_out s t)) ts)
 
-outer_shape : (u : Bool) (t : Tree) → HasShapeAt u guarded t → HasShapeAt u guarded (outer_form t)
-outer_shape u t h2 = grind arith
-
 guarded_whole : (u : Bool) (t : Tree) → HasShapeAt u guarded t → HasShapeAt u whole t
 guarded_whole u (or_of ts) h = absurd h.0
 guarded_whole u t h = h
@@ -93,4 +65,4 @@ strict_shape u s t h3 = grind arith
 
 -- the normal form has the usage shape
 pub normalized_shape : (u : Bool) (t : Tree) → HasUsageShape u (normalized u t)
-normalized_shape u t = guarded_whole u (normalized u t) (strict_shape u (state_out pull t) (outer_form (normal_form u pull t)) (outer_shape u (normal_form u pull t) (normal_shape u pull t)))
+normalized_shape u t = guarded_whole u (normalized u t) (strict_shape u (state_out pull t) (outer_form (normal_form u pull t)) (grind (arith, normal_shape u pull t)))

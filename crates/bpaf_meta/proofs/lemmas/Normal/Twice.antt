@@ -1,11 +1,9 @@
 -- Without Strict the normal form is its own normal form.
-use Rattle.std.proofs.Common.{◌≡◌, Bool, List, inl, inr, refl, sym, ap, ◌∙◌, subst, arith}
+use Rattle.std.proofs.Common.{◌≡◌, Bool, inl, inr, refl, sym, ap, ◌∙◌, subst, arith}
 use Rattle.std.specs.Prelude.{if◌then◌else◌, ⊤}
-use Rattle.bpaf_doc.specs.Buffer.Parts.{Part}
-use Rattle.bpaf_meta.specs.Content.{Tree, and_of, or_of, optional, required, adjacent, item, many, subsection, suffix, skip, custom_usage, strict, Trees, no_trees, tree, Leaf}
-use Rattle.bpaf_meta.specs.Meta.Normal.{State, pull, shown_trees, and_form, or_form, is_command_tree, without_commands, with_first_command, optional_many_form, optional_form, required_form, many_form, custom_usage_form, item_form, normal_form, and_parts, or_parts, outer_form, normalized}
+use Rattle.bpaf_meta.specs.Content.{Tree, and_of, or_of, optional, required, adjacent, item, many, subsection, suffix, skip, custom_usage, strict, Trees, no_trees, tree}
+use Rattle.bpaf_meta.specs.Meta.Normal.{State, pull, shown_trees, and_form, or_form, is_command_tree, without_commands, with_first_command, optional_many_form, optional_form, required_form, normal_form, and_parts, or_parts, outer_form, normalized}
 use Rattle.bpaf_meta.specs.Meta.Shape.{HasStrict, SomeHasStrict}
-use Rattle.bpaf_meta.proofs.lemmas.Normal.Keeps.{name_form_twice}
 use Rattle.bpaf_meta.proofs.lemmas.Normal.Parts.{first_each}
 use Rattle.bpaf_meta.proofs.lemmas.Normal.Plain.{plain_parts, and_parts_plain, or_parts_plain, no_strict, normalized_plain, normalized_no_strict}
 
@@ -78,38 +76,12 @@ or_form_stays u s (tree t (tree v ts)) h e =
 optional-required_form : (t : Tree) → optional_form (required_form t) ≡ optional_form t
 optional-required_form t = grind arith
 
-outer-required_form : (t : Tree) → outer_form (required_form t) ≡ outer_form t
-outer-required_form t = grind arith
-
 inner_of_many : Tree → Tree
 inner_of_many (many t) = t
 inner_of_many t = skip
 
-inner-many_form : (t : Tree) → inner_of_many (many_form t) ≡ t
-unfolding inner_of_many
-inner-many_form t = grind arith
-
-inner-many : (t v : Tree) → many_form t ≡ many v → t ≡ v
-unfolding inner_of_many
-inner-many t v e = sym (inner-many_form t) ∙ ap inner_of_many e
-
 optional_many_stays : (u : Bool) (s : State) (t : Tree) → Stays u s (many t) → Stays u s (optional_many_form t)
-optional_many_stays u s t h3 = grind (arith, inner-many, optional-required_form)
-
-optional_stays : (u : Bool) (s : State) (t : Tree) → Stays u s t → Stays u s (optional_form t)
-optional_stays u s t h3 = grind (arith, optional-required_form, optional_many_stays)
-
-required_stays : (u : Bool) (s : State) (t : Tree) → Stays u s t → Stays u s (required_form t)
-required_stays u s t h3 = grind arith
-
-many_stays : (u : Bool) (s : State) (t : Tree) → Stays u s t → Stays u s (many_form t)
-many_stays u s t h3 = grind arith
-
-usage_stays : (u : Bool) (s : State) (t : Tree) (d : List Part) → Stays u s t → Stays u s (custom_usage_form u t d)
-usage_stays u s t d h4 = grind arith
-
-item_stays : (u : Bool) (l : Leaf) → item_form u (item_form u l) ≡ item_form u l
-item_stays u l = grind (arith, name_form_twice)
+optional_many_stays u s t h3 = grind (arith, inner_of_many, optional-required_form)
 
 part_stays : (u : Bool) (s : State) (n : Tree) (ns : Trees) → Stays u s n → (¬ HasStrict n) → EachStays u s (shown_trees ns) → EachStays u s (shown_trees (tree n ns))
 part_stays u s n ns h4 h5 h6 = grind arith
@@ -124,27 +96,24 @@ mutual
       let vs : Trees = plain_parts u s ts in
       let is : normal_form u s (or_of ts) ≡ or_form (with_first_command (shown_trees vs)) = ap (λ ws. or_form (with_first_command (shown_trees ws))) (or_parts_plain u s ts h) in
       subst (Stays u s) (sym is) (or_form_stays u s (with_first_command (shown_trees vs)) (first_stays u s (shown_trees vs) (parts_stay u s ts h)) (first_twice (shown_trees vs)))
-  normal_stays u s (optional t) h = optional_stays u s (normal_form u s t) (normal_stays u s t h)
-  normal_stays u s (required t) h = required_stays u s (normal_form u s t) (normal_stays u s t h)
+  normal_stays u s (optional t) h = grind (arith, optional-required_form, optional_many_stays, normal_stays u s t h)
+  normal_stays u s (required t) h = grind (arith, normal_stays u s t h)
   normal_stays u s (adjacent t) h = normal_stays u s t h
-  normal_stays u s (item l) h = ap item (item_stays u l)
-  normal_stays u s (many t) h = many_stays u s (normal_form u s t) (normal_stays u s t h)
+  normal_stays u s (item l) h = ap item (grind arith)
+  normal_stays u s (many t) h = grind (arith, normal_stays u s t h)
   normal_stays u s (subsection t d) h = normal_stays u s t h
   normal_stays u s (suffix t d) h = normal_stays u s t h
   normal_stays u s skip h = refl
-  normal_stays u s (custom_usage t d) h = usage_stays u s (normal_form u s t) d (normal_stays u s t h)
+  normal_stays u s (custom_usage t d) h = grind (arith, normal_stays u s t h)
   normal_stays u s (strict t) h = absurd (h tt)
 
   parts_stay : (u : Bool) (s : State) (ts : Trees) → (¬ SomeHasStrict ts) → EachStays u s (shown_trees (plain_parts u s ts))
   parts_stay u s no_trees h = tt
   parts_stay u s (tree t ts) h = part_stays u s (normal_form u s t) (plain_parts u s ts) (normal_stays u s t (λ x. h (inl x))) (no_strict u s t (λ x. h (inl x))) (parts_stay u s ts (λ x. h (inr x)))
 
-outer_stays : (u : Bool) (s : State) (t : Tree) → Stays u s t → outer_form (normal_form u s (outer_form t)) ≡ outer_form t
-outer_stays u s t h3 = grind (arith, outer-required_form)
-
 -- without Strict, normalising twice is normalising once
 pub normalized_twice : (u : Bool) (t : Tree) → (¬ HasStrict t) → normalized u (normalized u t) ≡ normalized u t
 normalized_twice u t h =
     let once : normalized u t ≡ outer_form (normal_form u pull t) = normalized_plain u t h in
     let again : normalized u (normalized u t) ≡ outer_form (normal_form u pull (normalized u t)) = normalized_plain u (normalized u t) (normalized_no_strict u t h) in
-    again ∙ ap (λ n. outer_form (normal_form u pull n)) once ∙ outer_stays u pull (normal_form u pull t) (normal_stays u pull t h) ∙ sym once
+    again ∙ ap (λ n. outer_form (normal_form u pull n)) once ∙ (grind (arith, normal_stays u pull t h)) ∙ sym once

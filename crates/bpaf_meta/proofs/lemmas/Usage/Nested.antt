@@ -9,7 +9,7 @@ use Rattle.bpaf_doc.specs.Buffer.Parts.{Part, IsWellNested, nothing}
 use Rattle.bpaf_doc.specs.Buffer.Writes.{Write, text, plain, literal, with_writes, doc_writes, inside}
 use Rattle.bpaf_doc.proofs.lemmas.Buffer.Nesting.{IsWellNested-with_text, IsWellNested-in_block, IsWellNested-inside}
 use Rattle.bpaf_meta.specs.Content.{Name, Tree, and_of, or_of, optional, required, adjacent, item, many, subsection, suffix, skip, custom_usage, strict, Trees, no_trees, tree, Leaf, any, positional, command, flag, argument}
-use Rattle.bpaf_meta.specs.Meta.Normal.{State, pull, shown_trees, and_form, or_form, with_first_command, optional_many_form, optional_form, required_form, many_form, custom_usage_form, item_form, guarded, state_after, state_out, normal_form, and_parts, or_parts, outer_form, strict_if_push, normalized}
+use Rattle.bpaf_meta.specs.Meta.Normal.{State, pull, shown_trees, with_first_command, item_form, guarded, state_after, state_out, normal_form, and_parts, or_parts, outer_form, strict_if_push, normalized}
 use Rattle.bpaf_meta.specs.Usage.Nested.{HoldsDoc, HoldsDocs, EachHoldsDocs, HasNestedDoc, HasNestedDocs}
 use Rattle.bpaf_meta.specs.Usage.Writes.{is_bare_character, metavar_writes, name_writes, item_writes, separated, tree_writes, part_writes}
 use Rattle.bpaf_meta.proofs.lemmas.Normal.Parts.{first_each}
@@ -17,33 +17,12 @@ use Rattle.bpaf_meta.proofs.lemmas.Usage.Written.{with_writes-append}
 
 -- the normal form writes no other documents
 module _ (D : List Part → Type 0) where
-  and_form_hold : (ts : Trees) → EachHoldsDocs D ts → HoldsDocs D (and_form ts)
-  and_form_hold ts h1 = grind arith
-
-  or_form_hold : (ts : Trees) → EachHoldsDocs D ts → HoldsDocs D (or_form ts)
-  or_form_hold ts h1 = grind arith
-
   shown_hold : (ts : Trees) → EachHoldsDocs D ts → EachHoldsDocs D (shown_trees ts)
   shown_hold no_trees h = tt
   shown_hold (tree x ts) h = grind (arith, shown_hold ts h.1)
 
   first_hold : (ts : Trees) → EachHoldsDocs D ts → EachHoldsDocs D (with_first_command ts)
   first_hold = first_each (HoldsDocs D) (EachHoldsDocs D) (λ t ts h. h) (λ t ts h. h)
-
-  optional_many_hold : (t : Tree) → HoldsDocs D t → HoldsDocs D (optional_many_form t)
-  optional_many_hold t h1 = grind arith
-
-  optional_hold : (t : Tree) → HoldsDocs D t → HoldsDocs D (optional_form t)
-  optional_hold t h1 = grind (arith, optional_many_hold)
-
-  required_hold : (t : Tree) → HoldsDocs D t → HoldsDocs D (required_form t)
-  required_hold t h1 = grind arith
-
-  many_hold : (t : Tree) → HoldsDocs D t → HoldsDocs D (many_form t)
-  many_hold t h1 = grind arith
-
-  custom_hold : (u : Bool) (t : Tree) (d : List Part) → HoldsDocs D t → D d → HoldsDocs D (custom_usage_form u t d)
-  custom_hold u t d h3 h4 = grind arith
 
   item_form_hold : (u : Bool) (l : Leaf) → HoldsDoc D l → HoldsDoc D (item_form u l)
   item_form_hold u l h2 = grind arith
@@ -53,17 +32,17 @@ module _ (D : List Part → Type 0) where
 
   mutual
     normal_hold : (u : Bool) (s : State) (t : Tree) → HoldsDocs D t → HoldsDocs D (normal_form u s t)
-    normal_hold u s (and_of ts) h = and_form_hold (shown_trees (and_parts u s ts)) (shown_hold (and_parts u s ts) (and_hold u s ts h))
-    normal_hold u s (or_of ts) h = or_form_hold (with_first_command (shown_trees (or_parts u s s ts))) (first_hold (shown_trees (or_parts u s s ts)) (shown_hold (or_parts u s s ts) (or_hold u s s ts h)))
-    normal_hold u s (optional t) h = optional_hold (normal_form u s t) (normal_hold u s t h)
-    normal_hold u s (required t) h = required_hold (normal_form u s t) (normal_hold u s t h)
+    normal_hold u s (and_of ts) h = grind (arith, shown_hold (and_parts u s ts) (and_hold u s ts h))
+    normal_hold u s (or_of ts) h = grind (arith, first_hold (shown_trees (or_parts u s s ts)) (shown_hold (or_parts u s s ts) (or_hold u s s ts h)))
+    normal_hold u s (optional t) h = grind (arith, normal_hold u s t h)
+    normal_hold u s (required t) h = grind (arith, normal_hold u s t h)
     normal_hold u s (adjacent t) h = normal_hold u s t h
     normal_hold u s (item l) h = item_form_hold u l h
-    normal_hold u s (many t) h = many_hold (normal_form u s t) (normal_hold u s t h)
+    normal_hold u s (many t) h = grind (arith, normal_hold u s t h)
     normal_hold u s (subsection t d) h = normal_hold u s t h
     normal_hold u s (suffix t d) h = normal_hold u s t h
     normal_hold u s skip h = tt
-    normal_hold u s (custom_usage t d) h = custom_hold u (normal_form u s t) d (normal_hold u s t h.1) h.0
+    normal_hold u s (custom_usage t d) h = grind (arith, normal_hold u s t h.1)
     normal_hold u s (strict t) h = normal_hold u s t h
 
     and_hold : (u : Bool) (r : State) (ts : Trees) → EachHoldsDocs D ts → EachHoldsDocs D (and_parts u r ts)
@@ -74,14 +53,11 @@ module _ (D : List Part → Type 0) where
     or_hold u s f no_trees h = tt
     or_hold u s f (tree t ts) h = (guarded_hold f (state_out s t) (normal_form u s t) (normal_hold u s t h.0), or_hold u s (state_after f (state_out s t)) ts h.1)
 
-  outer_hold : (t : Tree) → HoldsDocs D t → HoldsDocs D (outer_form t)
-  outer_hold t h1 = grind arith
-
   last_hold : (s : State) (t : Tree) → HoldsDocs D t → HoldsDocs D (strict_if_push s t)
   last_hold s t h2 = grind arith
 
   pub normalized_hold : (u : Bool) (t : Tree) → HoldsDocs D t → HoldsDocs D (normalized u t)
-  normalized_hold u t h = last_hold (state_out pull t) (outer_form (normal_form u pull t)) (outer_hold (normal_form u pull t) (normal_hold u pull t h))
+  normalized_hold u t h = last_hold (state_out pull t) (outer_form (normal_form u pull t)) (grind (arith, normal_hold u pull t h))
 
 -- What is kept by nothing, by one text, by writes one after another, and by the documents.
 module _ (K : List Write → Type 0) (one : (bytes : List ℕ) (style : Style) → K (text bytes style ∷ [])) (both : (vs ws : List Write) → K vs → K ws → K (vs ++ ws)) where

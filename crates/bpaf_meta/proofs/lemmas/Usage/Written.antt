@@ -35,30 +35,18 @@ same_as_itself s = grind arith
 alone_twice : (a b : List ℕ) (s : Style) → part_then_text (Text a s) b s ≡ Text (a ++ b) s ∷ []
 alone_twice a b s = rw (same_as_itself s) refl
 
-text_twice : (v : Bool) (c a b : List ℕ) (k s : Style) → same_style k s ≡ v → with_text (part_then_text (Text c k) a s) b s ≡ part_then_text (Text c k) (a ++ b) s
-text_twice v c a b k s h6 = grind (arith, same_as_itself, append_assoc, alone_twice)
-
 part_twice : (p : Part) (a b : List ℕ) (s : Style) → with_text (part_then_text p a s) b s ≡ part_then_text p (a ++ b) s
-part_twice (Text c k) a b s = text_twice (same_style k s) c a b k s refl
+part_twice (Text c k) a b s = grind (arith, same_as_itself, append_assoc, alone_twice)
 part_twice (Start m) a b s = ap (λ ps. Start m ∷ ps) (alone_twice a b s)
 part_twice (End m) a b s = ap (λ ps. End m ∷ ps) (alone_twice a b s)
 
-filled_by : (v : Bool) (c b : List ℕ) (k s : Style) → IsFilled (if v then Text (c ++ b) s ∷ [] else Text c k ∷ Text b s ∷ [])
-filled_by v c b k s = grind arith
-
-filled_part : (p : Part) (b : List ℕ) (s : Style) → IsFilled (part_then_text p b s)
-filled_part p b s = grind (arith, filled_by)
-
 filled : (q : Part) (qs : List Part) (b : List ℕ) (s : Style) → IsFilled (with_text (q ∷ qs) b s)
-filled q qs b s = grind (arith, filled_part)
-
-past_part : (p : Part) (qs : List Part) (b : List ℕ) (s : Style) → IsFilled qs → with_text (p ∷ qs) b s ≡ p ∷ with_text qs b s
-past_part p qs b s h4 = grind arith
+filled q qs b s = grind arith
 
 pub with_text_twice : (ps : List Part) (a b : List ℕ) (s : Style) → with_text (with_text ps a s) b s ≡ with_text ps (a ++ b) s
 with_text_twice [] a b s = alone_twice a b s
 with_text_twice (p ∷ []) a b s = part_twice p a b s
-with_text_twice (p ∷ q ∷ ps) a b s = past_part p (with_text (q ∷ ps) a s) b s (filled q ps a s) ∙ ap (λ rs. p ∷ rs) (with_text_twice (q ∷ ps) a b s)
+with_text_twice (p ∷ q ∷ ps) a b s = (grind (arith, filled q ps a s)) ∙ ap (λ rs. p ∷ rs) (with_text_twice (q ∷ ps) a b s)
 
 -- what a line of parts still writes: from its first part on, or after a part
 abbrev pub rest_of_line : (is_first : Bool) → List ℕ → List (List Write) → List Write
