@@ -1,6 +1,6 @@
 -- The groups of an item list, one after another, and what falls under each.
 use Rattle.std.proofs.Common.{◌≡◌, ℕ, ◌+◌, ◌≤◌, ◌==◌, Bool, true, false, ◌&&◌, ◌||◌, ◌⊎◌, inl, inr, List, [], ◌∷◌, ◌++◌, map, refl, sym, ap, ◌∙◌, subst, append_assoc, append-nil, arith}
-use Rattle.std.specs.Prelude.{if◌then◌else◌, filter, count_by, All, Option}
+use Rattle.std.specs.Prelude.{if◌then◌else◌, filter, count_by, All}
 use Rattle.std.specs.List.{list_any}
 use Rattle.std.proofs.Math.Bool.{and-false}
 use Rattle.std.proofs.lemmas.Bool.{eqb-true, ne_eqb, or_parts}
@@ -9,7 +9,7 @@ use Rattle.std.proofs.lemmas.List.Folds.{list_any-append}
 use Rattle.bpaf_doc.specs.Buffer.Parts.{Part}
 use Rattle.bpaf_items.specs.declared.meta_help.entry.HiTy.{HiTy}
 use Rattle.bpaf_items.specs.Listing.ItemList.{Entry, group_start, group_end, adjacent_start, adjacent_stop}
-use Rattle.bpaf_items.specs.Listing.Falls.{Placed, placed_after, lacks_help, is_mark, is_group_mark, is_group_start, is_group_end, is_adjacent_mark, is_group_open, is_in_group, heading_after, destination, is_group}
+use Rattle.bpaf_items.specs.Listing.Falls.{Placed, placed_after, lacks_help, is_mark, is_group_mark, is_group_start, is_group_end, is_adjacent_mark, is_group_open, is_in_group, destination, is_group}
 use Rattle.bpaf_items.specs.Listing.Groups.{HasPairedGroups, empty, outer, whole, stays}
 use Rattle.bpaf_items.proofs.Listing.Placing.{entry, chosen-append, two_kept}
 use Rattle.bpaf_items.proofs.Listing.Blocks.{Blocks, none, plain, block, grouped, joined}
@@ -49,14 +49,8 @@ members_after before es n = map entry (filter (in_number n) (placed_after before
 pub members_after-append : (before es fs : List Entry) (n : ℕ) → members_after before (es ++ fs) n ≡ members_after before es n ++ members_after (before ++ es) fs n
 members_after-append before es fs n = chosen-append (in_number n) before es fs
 
-heading_no_group : (n : ℕ) (o : Option Entry) (e : Entry) → is_group n (heading_after o e) ≡ false
-heading_no_group n o e = grind arith
-
 pub outside_no_group : (n : ℕ) (p : Placed) → is_in_group p ≡ false → in_number n p ≡ false
-outside_no_group n p h = grind (arith, heading_no_group)
-
-pub inside_number : (n m : ℕ) (p : Placed) → is_in_group p ≡ true → count_by is_group_start (p.0 ++ p.1 ∷ []) ≡ m → in_number n p ≡ (stays p && (n == m))
-inside_number n m p h is = grind arith
+outside_no_group n p h = grind arith
 
 pub open_inside : (before : List Entry) (e : Entry) → is_group_mark e ≡ false → is_group_open before ≡ true → is_in_group (before, e) ≡ true
 open_inside before e h o = rw (h, o) refl
@@ -88,7 +82,7 @@ kept_after before es c = map entry (filter (λ p. stays p && c) (placed_after be
 -- in an open group
 members_inside : (before es : List Entry) (n m : ℕ) → list_any is_group_mark es ≡ false → is_group_open before ≡ true → count_by is_group_start before ≡ m → members_after before es n ≡ kept_after before es (n == m)
 members_inside before [] n m h o c = refl
-members_inside before (e ∷ es) n m h o c = grind (arith, members_inside (before ++ e ∷ []) es n m, or_parts, two_kept, inside_number, open_inside, count_same, open_same)
+members_inside before (e ∷ es) n m h o c = grind (arith, members_inside (before ++ e ∷ []) es n m, or_parts, two_kept, open_inside, count_same, open_same)
 
 -- a whole group after entries that leave none open
 module _ (before : List Entry) (d : List Part) (j k : HiTy) (inner : List Entry) (clear : list_any is_group_mark inner ≡ false) where
@@ -101,9 +95,6 @@ module _ (before : List Entry) (d : List Part) (j k : HiTy) (inner : List Entry)
   pub number_opened : count_by is_group_start opened ≡ number
   number_opened = count-push is_group_start before (group_start d j)
 
-  open_opened : is_group_open opened ≡ true
-  open_opened = open-push before (group_start d j)
-
   pub number_inner : count_by is_group_start ((opened ++ inner) ++ group_end k ∷ []) ≡ number
   number_inner = grind (arith, inner, count-push, count_through, clear, number_opened)
 
@@ -111,14 +102,14 @@ module _ (before : List Entry) (d : List Part) (j k : HiTy) (inner : List Entry)
   closed_after = open-push (opened ++ inner) (group_end k)
 
   alone : (b : List Entry) (e : Entry) (n : ℕ) → is_in_group (b, e) ≡ true → lacks_help e ≡ false → count_by is_group_start (b ++ e ∷ []) ≡ number → members_after b (e ∷ []) n ≡ (if n == number then e ∷ [] else [])
-  alone b e n i h c = grind (arith, inside_number)
+  alone b e n i h c = grind arith
 
   pub group_of : ℕ → List Entry
   group_of n = (if n == number then group_start d j ∷ [] else []) ++ kept_after opened inner (n == number) ++ (if n == number then group_end k ∷ [] else [])
 
   pub members_of_group : (rest : List Entry) (n : ℕ) → members_after before (group_start d j ∷ (inner ++ group_end k ∷ rest)) n ≡ group_of n ++ members_after ((opened ++ inner) ++ group_end k ∷ []) rest n
   unfolding group_of
-  members_of_group rest n = grind (arith, alone, number_opened, number_inner, members_inside, open_opened, members_after-append, append_assoc)
+  members_of_group rest n = grind (arith, alone, number_opened, number_inner, members_inside, open-push, members_after-append, append_assoc)
 
   kept_none : (b es : List Entry) → kept_after b es false ≡ []
   kept_none b [] = refl
@@ -170,12 +161,9 @@ module _ (P : Entry → Type 0) where
   pub part_all : (q : Placed → Bool) (before es : List Entry) → All P es → All P (map entry (filter q (placed_after before es)))
   part_all q before es h = All-map P entry _ (All-filter q (λ p. P p.1) _ (placed_all before es h))
 
-one_clear : (b : Bool) (p : Placed) (ps : List Placed) → is_group_mark p.1 ≡ false → list_any is_group_mark (map entry ps) ≡ false → list_any is_group_mark (map entry (if b then p ∷ ps else ps)) ≡ false
-one_clear b p ps h3 h4 = grind arith
-
 pub part_clear : (q : Placed → Bool) (before es : List Entry) → list_any is_group_mark es ≡ false → list_any is_group_mark (map entry (filter q (placed_after before es))) ≡ false
 part_clear q before [] h = refl
-part_clear q before (e ∷ es) h = grind (arith, one_clear, or_parts, part_clear q (before ++ e ∷ []) es (or_parts (is_group_mark e) (list_any is_group_mark es) h).1)
+part_clear q before (e ∷ es) h = grind (arith, or_parts, part_clear q (before ++ e ∷ []) es (or_parts (is_group_mark e) (list_any is_group_mark es) h).1)
 
 pub group_whole : (P : Entry → Type 0) {es : List Entry} → HasPairedGroups es → All P es → (before : List Entry) (n : ℕ) → is_group_open before ≡ false → (members_after before es n ≡ []) ⊎ IsWholeGroup P (members_after before es n)
 group_whole P (empty is) h before n o = inl (rw is refl)

@@ -8,14 +8,11 @@ use Rattle.bpaf_doc.specs.Buffer.Parts.{Part}
 use Rattle.bpaf_meta.specs.Content.{Tree}
 use Rattle.bpaf_items.specs.declared.meta_help.entry.HiTy.{HiTy}
 use Rattle.bpaf_items.specs.Listing.ItemList.{Entry, group_start, group_end, adjacent_start, adjacent_stop}
-use Rattle.bpaf_items.specs.Listing.Falls.{Placed, placed_after, Destination, group, nowhere, lacks_help, is_mark, is_group_mark, is_group_start, is_group_end, is_adjacent_start, is_adjacent_stop, is_adjacent_mark, is_group_open, is_in_group, last_that, outside_groups, heading_after, group_destination, heading_destination, destination}
+use Rattle.bpaf_items.specs.Listing.Falls.{Placed, placed_after, group, nowhere, lacks_help, is_mark, is_group_mark, is_group_start, is_group_end, is_adjacent_start, is_adjacent_stop, is_adjacent_mark, is_group_open, is_in_group, last_that, outside_groups, heading_after, group_destination, heading_destination, destination}
 use Rattle.bpaf_items.specs.Listing.ListLaws.{IsInNoAdjacentBlock, FallsSomewhere}
 use Rattle.bpaf_items.proofs.Listing.Placing.{placed_after-append}
 use Rattle.bpaf_items.proofs.Listing.Blocks.{Blocks, none, plain, block, grouped, joined, starts_in, stops_in, even, count-append, item_list_blocks}
 use Rattle.bpaf_items.proofs.Listing.Pushes.{count-push, since_start, since_start-push, open-push, is_block_open, inside-push, block_open-push}
-
-choice_falls : (b : Bool) (x y : Destination) → (b ≡ true → x ≢ nowhere) → (b ≡ false → y ≢ nowhere) → (if b then x else y) ≢ nowhere
-choice_falls b x y h3 h4 = grind arith
 
 -- ---- what has help
 
@@ -26,7 +23,7 @@ heading_after_falls : (mark : Option Entry) (e : Entry) → lacks_help e ≡ fal
 heading_after_falls mark e h2 = grind arith
 
 pub help_falls : (p : Placed) → lacks_help p.1 ≡ false → destination p ≢ nowhere
-help_falls p h = grind (arith, choice_falls, group_falls, heading_after_falls)
+help_falls p h = grind (arith, group_falls, heading_after_falls)
 
 -- ---- what stands in no adjacent block
 
@@ -42,13 +39,13 @@ alone_after : (o : Option Entry) (e : Entry) → option_map_or is_adjacent_start
 alone_after o e h2 = grind arith
 
 alone_outside : (p : Placed) → Fits p.0 → IsInNoAdjacentBlock p → is_in_group p ≡ false → heading_destination p ≢ nowhere
-alone_outside p f h out = grind (arith, or_parts, choice_falls, alone_after, false_from_ne_true)
+alone_outside p f h out = grind (arith, or_parts, alone_after, false_from_ne_true)
 
 abbrev Falls : Placed → Type 0
 Falls p = IsTrue (not (lacks_help p.1)) ⊎ IsInNoAdjacentBlock p → destination p ≢ nowhere
 
 falls_at : (p : Placed) → Fits p.0 → Falls p
-falls_at p h1 h2 = grind (arith, help_falls, choice_falls, alone_in_group, alone_outside)
+falls_at p h1 h2 = grind (arith, help_falls, alone_in_group, alone_outside)
 
 -- ---- through an item list
 
@@ -89,11 +86,8 @@ after_start g before t k s = grind (arith, after_entry g before (adjacent_start 
 after_stop : (g : Bool) (before : List Entry) (k : HiTy) → Stands g before → stops_in before < starts_in before → Stands g (before ++ adjacent_stop k ∷ [])
 after_stop g before k s less = grind (arith, after_entry g before (adjacent_stop k) refl s 0 1 refl refl (omega arith), block_open-push before (adjacent_stop k), in_group_here before (adjacent_stop k) refl)
 
-no_group_mark : (e : Entry) → is_mark e ≡ false → is_group_mark e ≡ false
-no_group_mark e h = (or_parts (is_group_mark e) (is_adjacent_mark e) h).0
-
 after_plain : (g : Bool) (before : List Entry) (e : Entry) → is_mark e ≡ false → Stands g before → Stands g (before ++ e ∷ [])
-after_plain g before e h s = grind (arith, or_parts (is_group_mark e) (is_adjacent_mark e) h, or_parts (is_adjacent_start e) (is_adjacent_stop e), block_open-push before e, in_group_here before e, no_group_mark e h, after_entry g before e)
+after_plain g before e h s = grind (arith, or_parts (is_group_mark e) (is_adjacent_mark e) h, or_parts (is_adjacent_start e) (is_adjacent_stop e), block_open-push before e, in_group_here before e, after_entry g before e)
 
 -- one after the other
 go_on : (g : Bool) (before es fs : List Entry) → Goes g before es → Goes g (before ++ es) fs → Goes g before (es ++ fs)
@@ -125,7 +119,8 @@ group_goes before d k inner s same held =
 
 goes : {g : Bool} {es : List Entry} → Blocks g es → (before : List Entry) → Stands g before → Goes g before es
 goes {g} (none is) before s = rw is (record { falls = All-nil Falls; stands = subst (Stands g) (sym (append-nil before)) s; same = λ no_group. ap outside_groups (append-nil before) })
-goes {g} (plain e is h) before s = rw is (single g before e (no_group_mark e h) s (after_plain g before e h s))
+goes {g} (plain e is h) before s =
+    rw is (single g before e (or_parts (is_group_mark e) (is_adjacent_mark e) h).0 s (after_plain g before e h s))
 goes {g} (block t k inner is b) before s =
     let opened : Stands g (before ++ adjacent_start t k ∷ []) = after_start g before t k s in
     let held : Goes g (before ++ adjacent_start t k ∷ []) inner = goes b (before ++ adjacent_start t k ∷ []) opened in

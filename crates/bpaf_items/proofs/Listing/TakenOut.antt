@@ -79,9 +79,6 @@ outside_all : (before es : List Entry) → HasNoGroupMark es → is_group_open b
 outside_all before [] h o = refl
 outside_all before (e ∷ es) h o = grind (arith, outside_all (before ++ e ∷ []) es, or_parts, closed_outside, open_same)
 
-outside_after-append : (before es fs : List Entry) → outside_after before (es ++ fs) ≡ outside_after before es ++ outside_after (before ++ es) fs
-outside_after-append before es fs = chosen-append (λ p. not (is_in_group p)) before es fs
-
 -- ---- places
 
 at_or_len : (p : Entry → Bool) (front : List Entry) (e : Entry) (back : List Entry) → list_any p front ≡ false → p e ≡ true → position_or_len p (front ++ e ∷ back) ≡ length front
@@ -166,7 +163,7 @@ module _ (front : List Entry) (d : List Part) (j k : HiTy) (inner back : List En
   other_members n = grind (arith, number_inner front d j k inner clear, none_front, ne_eqb (n + 2) (count_by is_group_start front + 1), members_all (n + 2), group_of_other front d j k inner clear (n + 2), shifted paired after front (n + 1), closed_after front d j k inner clear, closed_front, members_after-append, none_outside)
 
   pub outside_all_but : outside_groups all ≡ outside_groups (front ++ back)
-  outside_all_but = grind (arith, outside_after-append, front, inner, back, outside_none, open-push, outside_alike, closed_after, closed_front)
+  outside_all_but = grind (arith, chosen-append, front, inner, back, outside_none, open-push, outside_alike, closed_after, closed_front)
 
   pub one_fewer : count_by is_group_start all ≡ count_by is_group_start (front ++ back) + 1
   one_fewer =

@@ -1,20 +1,15 @@
 -- The texts that the entries of a map show.
-use Rattle.std.specs.Prelude.{◌≡◌, ℕ, List, [], ◌∷◌, Option, Some, map, String, string_bytes, refl}
+use Rattle.std.specs.Prelude.{◌≡◌, ℕ, List, [], ◌∷◌, Some, map, String, string_bytes, refl}
 use Rattle.std.specs.Option.{option_map}
 use Rattle.std.specs.BTreeMap.{BTreeMap, get_by_text, is_at, Updates}
-use Rattle.std.specs.Map.{lookup, update}
+use Rattle.std.specs.Map.{lookup}
 use Rattle.std.specs.Ordering.{nat_cmp}
 use Rattle.std.specs.Cmp.Lexicographic.{slice_cmp}
-use Rattle.std.specs.Str.{bytes_eq}
 use Rattle.std.specs.String.{string_cmp}
 use Rattle.std.proofs.Common.{arith}
 use Rattle.std.proofs.lemmas.Map.Text.{is_eq-slice_cmp, btree_map_updates_text}
 use Rattle.bpaf_doc.specs.Buffer.Equality.{same_text}
 use Rattle.bpaf_items.specs.Page.EnvTexts.{texts_in, texts_with}
-
-with_update : {Z : Type 0} (texts : List ℕ → Option (String Z)) (name : List ℕ) (text : String Z) (other : List ℕ)
-    → option_map string_bytes (update bytes_eq texts name (Some text) other) ≡ texts_with (λ n. option_map string_bytes (texts n)) name (string_bytes text) other
-with_update texts name text other = grind arith
 
 module _ {Y Z : Type 0} where
   abbrev pub shown_pair : String Y × String Z → List ℕ × List ℕ
@@ -31,4 +26,4 @@ module _ {Y Z : Type 0} where
   -- an inserted text is shown for its name
   pub texts_inserted : (m n : BTreeMap (String Y) (String Z)) (key : String Y) (text : String Z) → Updates string_cmp m n key (Some text)
       → (other : List ℕ) → texts_in (map shown_pair n.entries) other ≡ texts_with (texts_in (map shown_pair m.entries)) (string_bytes key) (string_bytes text) other
-  texts_inserted m n key text h other = grind (arith, texts_shown n other, btree_map_updates_text (string_bytes key) m n (Some text) h other, with_update (get_by_text m) (string_bytes key) text other, texts_shown m other)
+  texts_inserted m n key text h other = grind (arith, texts_shown n other, btree_map_updates_text (string_bytes key) m n (Some text) h other, texts_shown m other)

@@ -50,11 +50,8 @@ module _ (e : Entry) (es : List Entry) (clear : is_group_mark e ≡ false) (pair
   outer_members : (n : ℕ) → group_members (e ∷ es) n ≡ group_members es n
   outer_members n = grind (arith, outside_no_group, closed_outside, clear, members_behind)
 
-  outer_count : count_by is_group_start (e ∷ es) ≡ count_by is_group_start es
-  outer_count = grind (arith, count-cons, not_start, clear)
-
   pub outer_lists : (included : Bool) (texts : Texts) → group_lists included texts (e ∷ es) ≡ group_lists included texts es
-  outer_lists included texts = grind (arith, same_for_each, outer_members, outer_count)
+  outer_lists included texts = grind (arith, same_for_each, outer_members, count-cons, not_start)
 
   pub outer_outside : outside_groups (e ∷ es) ≡ e ∷ outside_groups es
   outer_outside = grind (arith, closed_outside, clear, outside_alike, open_same)
@@ -65,10 +62,6 @@ record FirstOuter (e : Entry) (es : List Entry) : Type 0 where
 
 first_outer : {all : List Entry} (e : Entry) (es : List Entry) → HasPairedGroups all → all ≡ e ∷ es → is_group_start e ≡ false → FirstOuter e es
 first_outer e es h2 h3 h4 = grind arith
-
-pub takes_outer : (included : Bool) (texts : Texts) (all : List Entry) (e : Entry) (es : List Entry) (doc : List Part) (outside : List Entry)
-    → HasPairedGroups all → all ≡ e ∷ es → is_group_start e ≡ false → Takes included texts all 1 doc doc outside (outside ++ e ∷ [])
-takes_outer included texts all e es doc outside paired same h = grind (arith, first_outer, paired, outer_lists, append_assoc, outer_outside)
 
 -- ---- a group
 
@@ -155,9 +148,6 @@ takes_group included texts all e es before now outside paired same h written =
 
 -- ---- what stays in a group
 
-pub kept-push : (es : List Entry) (e : Entry) → kept_entries (es ++ e ∷ []) ≡ kept_entries es ++ (if stays (es, e) then e ∷ [] else [])
-kept-push es e = chosen-append stays [] es (e ∷ []) ∙ ap (λ xs. kept_entries es ++ xs) (kept_map (stays (es, e)) (es, e))
-
 pub few : (b c : Bool) (n m i : ℕ) → m ≡ (if b then 0 else n + (if c then 1 else 0)) → n ≤ i → m ≤ i + 1
 few b c n m i h5 h6 = grind arith
 
@@ -166,7 +156,8 @@ since_next p before next e n m is old more = grind (arith, since_start-push)
 
 pub kept_next : (first mid now before next : List Entry) (e : Entry) (starts stops : ℕ) (wanted : Bool) → now ≡ mid ++ (if wanted then e ∷ [] else []) → wanted ≡ not (lacks_help e && nat_lt stops starts) → mid ≡ first ++ kept_entries before
     → starts ≡ since_start is_adjacent_start before → stops ≡ since_start is_adjacent_stop before → next ≡ before ++ e ∷ [] → now ≡ first ++ kept_entries next
-kept_next first mid now before next e starts stops wanted is own old a z more = grind (arith, append_assoc, first, kept-push)
+kept_next first mid now before next e starts stops wanted is own old a z more =
+    grind (arith, append_assoc, first, chosen-append, kept_map)
 
 -- ---- items
 
@@ -176,7 +167,7 @@ module _ {B : Type 0} where
 
   pub takes_item : (included : Bool) (texts : Texts) (items : List (HelpItem B)) (first : HelpItem B) (one : Bor (HelpItem B)) (doc : List Part) (outside kept : List (Bor (HelpItem B))) → HasPairedGroups (map entry_of items)
       → 0 < length items → first ≡ get_or items 0 first → is_group_start (entry_of first) ≡ false → one.now ≡ first → kept ≡ outside ++ one ∷ [] → Takes included texts (map entry_of items) 1 doc doc (map entry_at outside) (map entry_at kept)
-  takes_item included texts items first one doc outside kept paired some is starts own more = grind (arith, map-append entry_at outside (one ∷ []), takes_outer included texts (map entry_of items) (entry_of first) (map entry_of (drop 1 items)) doc (map entry_at outside) paired, first_of items first some is)
+  takes_item included texts items first one doc outside kept paired some is starts own more = grind (arith, map-append entry_at outside (one ∷ []), first_outer, outer_lists, append_assoc, outer_outside, first_of items first some is)
 
   pub takes_marked : (included : Bool) (texts : Texts) (items front : List (HelpItem B)) (first : HelpItem B) (count : ℕ) (before now : List Part) (outside : List Entry) → HasPairedGroups (map entry_of items)
       → 0 < length items → first ≡ get_or items 0 first → is_group_start (entry_of first) ≡ true → count ≡ group_len (map entry_of items) → front ≡ take count items

@@ -6,7 +6,7 @@ use Rattle.std.proofs.lemmas.Grind.{flat_map-append, common_steps}
 use Rattle.std.proofs.lemmas.List.{drop_more, map-append, take-append-drop, take_more}
 use Rattle.bpaf_doc.specs.declared.buffer.Style.{Style}
 use Rattle.bpaf_doc.specs.Buffer.Parts.{Part}
-use Rattle.bpaf_doc.specs.Buffer.Writes.{Write, text, with_text, with_writes}
+use Rattle.bpaf_doc.specs.Buffer.Writes.{Write, with_text, with_writes}
 use Rattle.bpaf_meta.proofs.lemmas.Usage.Written.{with_writes-append, with_text_twice, Grows-then, Grows-call}
 use Rattle.bpaf_items.specs.declared.meta_help.pieces.Piece.{Piece}
 use Rattle.bpaf_items.specs.Page.Steps.Pieces.{Leaves, joined, piece_writes, pieces_write}
@@ -47,11 +47,6 @@ leaves_then (Err x) before mid now vs ws e (grows, ok) = (Grows-then before mid 
 pub leaves_third : {T E : Type 0} (r : Result T E) (before first mid now : List Part) (us vs ws : List Write) → first ≡ with_writes before us → mid ≡ with_writes first vs → Leaves r mid now ws → Leaves r before now ((us ++ vs) ++ ws)
 leaves_third r before first mid now us vs ws e f h = leaves_then r before mid now (us ++ vs) ws (f ∙ ap (λ ps. with_writes ps vs) e ∙ sym (with_writes-append before us vs)) h
 
--- a text that joins the one just written
-pub leaves_joined : {T E : Type 0} (r : Result T E) (before mid now : List Part) (a b : List ℕ) (how : Style) → mid ≡ with_text before a how → Leaves r mid now (text b how ∷ []) → Leaves r before now (text (a ++ b) how ∷ [])
-leaves_joined (Ok x) before mid now a b how e (grows, ok) = (Grows-then before mid now (text a how ∷ [], e) grows, ok ∙ ap (λ ps. with_text ps b how) e ∙ with_text_twice before a b how)
-leaves_joined (Err x) before mid now a b how e (grows, ok) = (Grows-then before mid now (text a how ∷ [], e) grows, tt)
-
 -- the next text of some that are one
 pub text_next : (texts : List (Bor (List ℕ))) (i : ℕ) (d : Bor (List ℕ)) (before mid now : List Part) (how : Style) → i < length texts
     → mid ≡ with_text before (flat_map (λ x. x.now) (take i texts)) how → now ≡ with_text mid (get_or texts i d).now how → now ≡ with_text before (flat_map (λ x. x.now) (take (i + 1) texts)) how
@@ -60,6 +55,3 @@ text_next texts i d before mid now how within e f = grind (arith, common_steps, 
 -- writes after writes, where the call before was done
 pub written_then : (before mid now : List Part) (vs ws : List Write) → mid ≡ with_writes before vs → now ≡ with_writes mid ws → now ≡ with_writes before (vs ++ ws)
 written_then before mid now vs ws e f = f ∙ ap (λ ps. with_writes ps ws) e ∙ sym (with_writes-append before vs ws)
-
-pub done_then : {T E : Type 0} (r : Result T E) (before mid now : List Part) (vs ws : List Write) → mid ≡ with_writes before vs → OnOk r (now ≡ with_writes mid ws) → OnOk r (now ≡ with_writes before (vs ++ ws))
-done_then r before mid now vs ws h6 h7 = grind (arith, written_then)

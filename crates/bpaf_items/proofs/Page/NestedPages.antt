@@ -97,14 +97,11 @@ mutual
 abbrev Nested : List Entry → Type 0
 Nested es = All HasNestedEntry es
 
-one_nested : (e : Entry) → HasNestedEntry e → Nested (e ∷ [])
-one_nested e h = All-cons HasNestedEntry e [] h (All-nil HasNestedEntry)
-
 more_nested : (es : List Entry) (e : Entry) → Nested es → HasNestedEntry e → Nested (es ++ e ∷ [])
 more_nested es e h k = All-push HasNestedEntry es e h k
 
 item_nested : (l : Leaf) → HasNestedText l → Nested (item_entries l)
-item_nested l h1 = grind (arith, All-nil, one_nested)
+item_nested l h1 = grind (arith, All-nil, All-cons)
 
 adjacent_nested : (o : Option HiTy) (t : Tree) (es : List Entry) → HasNestedDocs t → Nested es → Nested (adjacent_entries o t es)
 adjacent_nested o t es h3 h4 = grind (arith, All-nil, All-cons, more_nested)

@@ -10,7 +10,8 @@ use Rattle.std.specs.Ordering.{is_eq, match_ordering, nat_cmp, ordering_then}
 use Rattle.std.specs.Cmp.{both_tied, nat_cmp_total, nat_eq_equiv, unsigned_ties}
 use Rattle.std.specs.BTreeMap.{is_at}
 use Rattle.std.specs.BTreeSet.{insert_key}
-use Rattle.std.proofs.lemmas.Bool.{eq-eqb}
+use Rattle.std.proofs.Math.Bool.{or-false, or-true}
+use Rattle.std.proofs.lemmas.Bool.{eq-eqb, or_parts}
 use Rattle.std.proofs.lemmas.Grind.{flat_map-append, common_steps}
 use Rattle.std.proofs.lemmas.List.Folds.{list_any-append}
 use Rattle.std.proofs.lemmas.List.Kept.{IsStrictlySortedBy-dedup}
@@ -97,9 +98,6 @@ puts_key keys after x is_new own answer put all = grind (arith, found, put_has, 
 
 -- ---- an entry with a key, and one without
 
-seen_entry : (first own : Bool) (tests : Entry → Bool) (before : List Entry) (e : Entry) → own ≡ tests e → first ≡ list_any tests before → (own || first) ≡ list_any tests (before ++ e ∷ [])
-seen_entry first own tests before e is seen = grind (arith, or_swap, list_any-append)
-
 -- a number that stands among distinct ones is none of those before it
 at_middle : (P : ℕ → Type 0) (xs ys : List ℕ) (h : ℕ) → AllByRecursion P (xs ++ h ∷ ys) → P h
 at_middle P [] ys h all = all.0
@@ -118,13 +116,10 @@ two_keys k l h = by (same_key k l) refl where
   by true e = let one : key_hash k ≡ key_hash l = ap (λ fed. folding.finish (fold folding.write folding.initial fed)) (key_fed k l e) in cc (eq-eqb (key_hash k) (key_hash l) one, h)
   by false e = refl
 
-either_false : (a b : Bool) → (a || b) ≡ false → (a ≡ false) × (b ≡ false)
-either_false a b h2 = grind arith
-
 keys_apart : (l : Leaf) (es : List Entry) → list_any (nat_eq (key_hash (key_of l))) (flat_map entry_hash es) ≡ false → list_any (has_key_of l) es ≡ false
 keys_apart l [] h = refl
 keys_apart l (listed m ∷ es) h =
-    let (other, rest) = either_false (nat_eq (key_hash (key_of l)) (key_hash (key_of m))) (list_any (nat_eq (key_hash (key_of l))) (flat_map entry_hash es)) h in
+    let (other, rest) = or_parts (nat_eq (key_hash (key_of l)) (key_hash (key_of m))) (list_any (nat_eq (key_hash (key_of l))) (flat_map entry_hash es)) h in
     rw (two_keys (key_of l) (key_of m) other) (keys_apart l es rest)
 keys_apart l (x ∷ es) h = keys_apart l es h
 
@@ -141,7 +136,8 @@ item_apart all rest keys after shown last now k x before is split told set same 
 
 item_shown : {B : Type 0} (all : List Entry) (keys after : List (Hashed B)) (shown last now : Bool) (k : Key) (e : Entry) (before : List Entry)
     → Some k ≡ entry_key e → PutsKey keys after k shown → now ≡ shown → Remembers all false keys last before → Goes all false after shown now before e
-item_shown all keys after shown last now k e before h9 h10 h11 h12 = grind (arith, seen_entry, last_shown-push)
+item_shown all keys after shown last now k e before h9 h10 h11 h12 =
+    grind (arith, or_swap, list_any-append, last_shown-push)
 
 pub item_goes : {B E : Type 0} (r : Result Bool E) (all rest : List Entry) (apart : Bool) (keys after : List (Hashed B)) (last now : Bool) (k : Key) (e : Entry) (before : List Entry)
     → Some k ≡ entry_key e → all ≡ before ++ e ∷ rest
@@ -152,24 +148,15 @@ item_goes (Ok shown) all rest true keys after last now k e before is split free 
 item_goes (Ok shown) all rest false keys after last now k e before is split free puts h = let f = puts refl h.hashed in item_shown all keys after shown last now k e before is f.0 f.1 h
 item_goes (Err x) all rest apart keys after last now k e before is split free puts h = tt
 
-or_false : (b : Bool) → (b || false) ≡ b
-or_false b = grind arith
-
-or_true : (b : Bool) → (b || true) ≡ true
-or_true b = grind arith
-
-seen_other : {B : Type 0} (keys : List (Hashed B)) (e : Entry) (before : List Entry) → ((m : Leaf) → has_key_of m e ≡ false) → ((m : Leaf) → has_key keys (key_of m) ≡ list_any (has_key_of m) before)
-    → (m : Leaf) → has_key keys (key_of m) ≡ list_any (has_key_of m) (before ++ e ∷ [])
-seen_other keys e before none seen m = grind (arith, or_none, list_any-append)
-
 module _ {B : Type 0} (all : List Entry) (apart : Bool) where
   mark_shown : (keys : List (Hashed B)) (last : Bool) (e : Entry) (before : List Entry) → is_mark_or_new (before, e) ≡ true → is_shown (before, e) ≡ true → ((m : Leaf) → has_key_of m e ≡ false)
       → Remembers all apart keys last before → Goes all apart keys (last || true) true before e
-  mark_shown keys last e before new is none h = grind (arith, or_true, seen_other, last_shown-push)
+  mark_shown keys last e before new is none h = grind (arith, or-true, or_none, list_any-append, last_shown-push)
 
   pub other_shown : (keys after : List (Hashed B)) (shown last now mark : Bool) (e : Entry) (before : List Entry)
       → None ≡ entry_key e → mark ≡ is_mark e → shown ≡ (last || mark) → now ≡ mark → after ≡ keys → Remembers all apart keys last before → Goes all apart after shown now before e
-  other_shown keys after shown last now mark e before h8 h9 h10 h11 h12 h13 = grind (arith, or_false, seen_other, last_shown-push, mark_shown)
+  other_shown keys after shown last now mark e before h8 h9 h10 h11 h12 h13 =
+      grind (arith, or-false, or_none, list_any-append, last_shown-push, mark_shown)
 
   -- at the start of a list
   pub nothing_seen : (apart ≡ true → AreApart all) → (keys : List (Hashed B)) → keys ≡ [] → Remembers all apart keys false []
@@ -194,10 +181,6 @@ distinct_sorted xs sorted moved rises whole =
     let ascend : IsStrictlySortedBy nat_cmp sorted = subst (IsStrictlySortedBy nat_cmp) (all_kept sorted whole) (IsStrictlySortedBy-dedup nat_cmp_total unsigned_ties sorted rises) in
     let apart : IsDistinct nat_eq sorted = subst (λ (eq : ℕ → ℕ → Bool). IsDistinct eq sorted) (λ i x y. sym (unsigned_ties x y) i) (IsDistinct-from_sorted nat_cmp sorted ascend) in
     IsDistinct-IsPermutation nat_eq nat_eq_equiv.symm sorted xs (IsPermutation-sym xs sorted moved) apart
-
--- the hashes of one entry more
-pub hashes_more : (es next : List Entry) (e : Entry) → next ≡ es ++ e ∷ [] → flat_map entry_hash next ≡ flat_map entry_hash es ++ entry_hash e
-hashes_more es next e is = ap (flat_map entry_hash) is ∙ flat_map-append entry_hash es (e ∷ []) ∙ ap (λ hs. flat_map entry_hash es ++ hs) (append-nil (entry_hash e))
 
 -- ---- lists
 

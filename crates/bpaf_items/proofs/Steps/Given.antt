@@ -1,8 +1,8 @@
 -- Going through a list with the block kept that was started last gives the entries of a heading.
-use Rattle.std.proofs.Common.{◌≡◌, ℕ, ◌<◌, Bool, List, [], ◌∷◌, ◌++◌, append_assoc, drop, get_or, length, map, refl, ap, arith}
+use Rattle.std.proofs.Common.{◌≡◌, Bool, List, [], ◌∷◌, ◌++◌, map, refl, ap, arith}
 use Rattle.std.specs.Prelude.{if◌then◌else◌, filter, cond, Option, Some, None, ◌+◌, not}
 use Rattle.std.specs.List.{position, prefix_len}
-use Rattle.std.proofs.lemmas.List.{drop_more, length-map}
+use Rattle.std.proofs.lemmas.List.{length-map}
 use Rattle.bpaf_items.specs.declared.meta_help.entry.HiTy.{HiTy}
 use Rattle.bpaf_items.specs.declared.meta_help.given.State.{State}
 use Rattle.bpaf_items.specs.declared.meta_help.given.State.TheVariants.{Outside}
@@ -36,15 +36,6 @@ module _ (k : HiTy) where
 
 pub given_of_type : (k : HiTy) (es : List Entry) → given_from Outside k es ≡ items_of_type es k
 given_of_type k es = given_after k [] es
-
-one_more : (b : Bool) (e : Entry) (es : List Entry) → (if b then e ∷ [] else []) ++ es ≡ (if b then e ∷ es else es)
-one_more b e es = grind arith
-
--- one more entry of a list that is gone through
-pub given_next : {X : Type 0} (view : X → Entry) (s after : State) (k : HiTy) (xs : List X) (i : ℕ) (x : X) (mid now all : List Entry) (wanted : Bool) → i < length xs → x ≡ get_or xs i x
-    → after ≡ state_after s (view x) → now ≡ mid ++ (if wanted then view x ∷ [] else []) → wanted ≡ is_given_in s k (view x) → mid ++ given_from s k (map view (drop i xs)) ≡ all
-    → now ++ given_from after k (map view (drop (i + 1) xs)) ≡ all
-given_next view s after k xs i x mid now all wanted within is next put own held = grind (arith, append_assoc, one_more, drop_more)
 
 -- the first place that passes, of a list seen through a function
 prefix_len-map : {X Y : Type 0} (p : Y → Bool) (f : X → Y) (xs : List X) → prefix_len (λ x. p (f x)) xs ≡ prefix_len p (map f xs)

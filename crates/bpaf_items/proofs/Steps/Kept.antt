@@ -47,18 +47,13 @@ pub type_turn : (front own later rest all joined : Option HiTy) → joined ≡ o
 type_turn front own later rest all joined e h k = ap (λ o. option_or o later) e ∙ option_or-assoc front own later ∙ ap (option_or front) (sym h) ∙ k
 
 module _ {X : Type 0} where
-  set_kept : (xs ys : List X) (p q : X) → slice_set ((xs ++ p ∷ []) ++ ys) (length xs) q ≡ xs ++ q ∷ ys
-  set_kept xs ys p q = ap (λ zs. slice_set zs (length xs) q) (append_assoc xs (p ∷ []) ys) ∙ set-append_seam xs p ys q
-
   take_kept : (xs ys : List X) (p : X) → take (length xs) ((xs ++ p ∷ []) ++ ys) ≡ xs
   take_kept xs ys p = ap (take (length xs)) (append_assoc xs (p ∷ []) ys) ∙ take-append_seam xs (p ∷ ys)
 
-  take_set : (xs ys : List X) (at : ℕ) (q : X) → take (length xs) (slice_set xs at q ++ ys) ≡ slice_set xs at q
-  take_set xs ys at q = ap (λ n. take n (slice_set xs at q ++ ys)) (sym (length-set xs at q)) ∙ take-append_seam (slice_set xs at q) ys
-
   -- the entry that was put last takes the place
   pub moved_last : (xs one two : List X) (at : ℕ) (q d : X) → at < length xs → one ≡ xs ++ q ∷ [] → two ≡ swap_remove one at d → two ≡ slice_set xs at q
-  moved_last xs one two at q d h e moved = grind (arith, length-append xs (q ∷ []), get_or-append_seam xs q, set-append_left xs (q ∷ []) at q h, take_set xs (q ∷ []) at q)
+  moved_last xs one two at q d h e moved =
+      grind (arith, length-append xs (q ∷ []), get_or-append_seam xs q, set-append_left xs (q ∷ []) at q h, length-set, take-append_seam)
 
   set_front : (xs : List X) (at : ℕ) (q : X) → at < length xs → IsFront (take at xs) (slice_set xs at q)
   set_front (x ∷ xs) (suc n) q h = let f = set_front xs n q (omega arith) in (f.0, ap (λ zs. x ∷ zs) f.1)
@@ -86,4 +81,5 @@ module _ {X : Type 0} where
 
   pub closed_entries : (view : X → Entry) (old opened now after : List X) (at : ℕ) (p q last : X) (es : List Entry) → at ≡ length old → opened ≡ old ++ p ∷ [] → IsFront opened now → map view now ≡ map view opened ++ es → after ≡ slice_set now at q ++ last ∷ []
       → map view after ≡ map view old ++ (view q ∷ es ++ view last ∷ [])
-  closed_entries view old opened now after at p q last es n e f seen h = grind (arith, append_cancel_left, map-append, set_kept, append_assoc)
+  closed_entries view old opened now after at p q last es n e f seen h =
+      grind (arith, append_cancel_left, map-append, set-append_seam, append_assoc)
