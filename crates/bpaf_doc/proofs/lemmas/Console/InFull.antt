@@ -17,7 +17,7 @@ parts_in_full document (part ∷ parts) k u =
 
 unmarked_parts : (parts : List Part) → list_any is_term_mark parts ≡ false → flat_map backquoted_part_ink parts ≡ flat_map part_ink parts
 unmarked_parts [] h = refl
-unmarked_parts (part ∷ parts) h = grind (arith, part_ink, unmarked_parts parts)
+unmarked_parts (part ∷ parts) h = grind (arith, unmarked_parts parts)
 
 pub backquoted : FullInkIsBackquotedInk
 backquoted document u = parts_in_full document document 0 u

@@ -70,12 +70,12 @@ is_plain (Of f) = not (shows is_code_line f) && not (shows is_ordinary f || is_t
 
 plain_fences : (q : Bool) (ss : List MarkdownSnippet) → list_all is_plain ss ≡ true → Fences q ss q
 plain_fences q [] h = (refl, refl)
-plain_fences q (s ∷ ss) h = grind (arith, plain_fences q ss, false≢true, and_parts, may_stand)
+plain_fences q (s ∷ ss) h = grind (arith, plain_fences q ss, false≢true, and_parts)
 
 own_fences : (p : Marked) (f : Fragment) → Fences p.in_code (own_snippets p f) (code_next p.in_code f)
 own_fences p (TextStart styles.Text) = plain_fences p.in_code (own_snippets p (TextStart styles.Text)) refl
 own_fences p (TextStart style) = plain_fences p.in_code (own_snippets p (TextStart style)) refl
-own_fences p (Shown style (Raw bytes weight)) = grind (arith, by_weight, then_fences, may_stand, raw_stands, eqb-true, fence_is_whole, code_is_whole)
+own_fences p (Shown style (Raw bytes weight)) = grind (arith, by_weight, then_fences, raw_stands, eqb-true, fence_is_whole, code_is_whole)
 own_fences p (Shown style Paragraph) = grind (arith, plain_fences)
 own_fences p (Shown style LineBreak) = plain_fences p.in_code (own_snippets p (Shown style LineBreak)) refl
 own_fences p (TextEnd styles.Text) = then_fences p.in_code false false (end_code_snippets p.in_code) (map Put (reverse (style_marks styles.Text)) ++ Of (TextEnd styles.Text) ∷ []) (grind arith) (refl, refl)
@@ -86,7 +86,8 @@ own_fences p (End b) = grind (arith, plain_fences)
 
 cut_fenced : (p : Marked) (fs : List Fragment) → well_fenced p.in_code (cut_from p fs) ≡ true
 cut_fenced p [] = (item_fences p.in_code p.pending false).0
-cut_fenced p (f ∷ fs) = grind (arith, cut_fenced (marked_after p f) fs, item-code, own_fences, step-code, then_fences, item_fences, passes_both)
+cut_fenced p (f ∷ fs) =
+    grind (arith, cut_fenced (marked_after p f) fs, item-code, own_fences, step-code, then_fences, item_fences, passes_both)
 
 -- ---- the laws
 

@@ -4,7 +4,7 @@ use Rattle.std.specs.List.{list_any, list_all}
 use Rattle.std.proofs.Common.{sym, subst, arith, ◌∙◌}
 use Rattle.bpaf_doc.specs.Splitter.Chunks.{is_inked}
 use Rattle.bpaf_doc.specs.Console.Layout.{Event, Shows, Opens, Closes, Stretch, Placed, Place, is_inked_event, is_inked_stretch, asks_newline, room_of}
-use Rattle.bpaf_doc.proofs.lemmas.Console.Layout.State.{State, Pads, Piece, Begins, Next, raw, mark, Grows, padded, Suits}
+use Rattle.bpaf_doc.proofs.lemmas.Console.Layout.State.{State, Pads, Piece, Begins, Next, raw, Grows, padded, Suits}
 use Rattle.bpaf_doc.proofs.lemmas.Console.Layout.Back.{EachPlace, each_grows, place_of, fits_of, same_padded, by_mark, by_break, heavy, or_false_left, or_false_right}
 use Rattle.bpaf_doc.proofs.lemmas.Console.Layout.Split.{events_back, events_begins, events_grows}
 use Rattle.bpaf_doc.proofs.lemmas.Console.Layout.Reach.{Rule, IsSound, sum_of}
@@ -39,7 +39,7 @@ ComesInOrder st = IsInOrder st (events_back st.back)
 
 pub in_order_grows : {width : ℕ} {margin_of : ℕ → ℕ} {st after : State} {next : Next} → Suits margin_of st next → Grows width st next after
     → ComesInOrder st → ComesInOrder after
-in_order_grows {st = st} {after = after} {next = next} suits g h = grind (arith, events_grows, fits_of, by_break, mark, by_mark)
+in_order_grows {st = st} {after = after} {next = next} suits g h = grind (arith, events_grows, fits_of, by_break, by_mark)
 
 -- what stands before a chunk is of texts up to its own
 abbrev pub IsAfterAll : List Stretch → Place → Type 0

@@ -208,7 +208,7 @@ trim_ink text u = ap (λ cs. filter is_not_whitespace cs) (chars-encodes (drop_t
 
 pub trim_text : (r : List Stretch) → IsLegible r → trim_end (text_back r) ≡ text_back (trimmed r)
 trim_text [] h = plain_trim [] no_ink_nil
-trim_text (x ∷ r) h = grind (arith, trim_text r, text_back_cons, trim_white, text_utf8, gap_plain, trim_some, trim_ink, trim_twice, plain_trim, no_ink_nil, bare_text, event_ink, event_trim)
+trim_text (x ∷ r) h = grind (arith, trim_text r, text_back_cons, trim_white, text_utf8, gap_plain, trim_some, trim_ink, trim_twice, plain_trim, no_ink_nil, bare_text, event_trim)
 
 -- ---- what may be read stays so
 

@@ -321,7 +321,8 @@ event_ink (Closes b) = mark_bytes b
 
 ink_back : (r : List Stretch) → IsLegible r → EachPassed NoInk r → ink (text_back r) ≡ flat_map event_ink (reverse (events_back r))
 ink_back [] legible none = ink-nil
-ink_back (x ∷ r) legible none = grind (arith, ink_back r, text_back_cons, ink_before_gap, text_utf8, ink-append, trim_ink, event_ink, reverse_cons, flat_map-append, append-nil, ink-nil, some_none, ink-backquote)
+ink_back (x ∷ r) legible none =
+    grind (arith, ink_back r, text_back_cons, ink_before_gap, text_utf8, ink-append, trim_ink, reverse_cons, flat_map-append, append-nil, ink-nil, some_none, ink-backquote)
 
 -- ---- the ink of what is shown
 
@@ -361,7 +362,8 @@ module _ (full : Bool) (width : ℕ) (document : List Part) (all : HasUtf8Texts 
   ended = page_done full document width few (text_is_utf8 document all)
 
   pub page_ink : ink (console_page full width document) ≡ console_ink full document
-  page_ink = grind (arith, ended, text_utf8, ink_before_gap, ink_back, written_base, written_events, reverse-reverse, parts_ink)
+  page_ink =
+      grind (arith, ended, text_utf8, ink_before_gap, ink_back, written_base, written_events, reverse-reverse, parts_ink)
 
   -- the text of the page is that of its stretches, with a last newline where one is asked for
   pub page_layout : IsLayout document full width (console_page full width document)

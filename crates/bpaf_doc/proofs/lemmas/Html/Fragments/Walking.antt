@@ -1,5 +1,5 @@
 -- The walk over the parts gives the fragments of the document.
-use Rattle.std.proofs.Common.{◌≡◌, ℕ, zero, suc, ◌+◌, Bool, true, false, cond, List, [], ◌∷◌, ◌++◌, length, take, map, refl, sym, ap, ◌∙◌, arith, append_assoc, append-nil, subst, inr}
+use Rattle.std.proofs.Common.{◌≡◌, ℕ, zero, suc, ◌+◌, Bool, true, false, List, [], ◌∷◌, ◌++◌, length, take, map, refl, sym, ap, ◌∙◌, arith, append_assoc, append-nil, subst, inr}
 use Rattle.std.specs.Prelude.{◌<◌, ◌==◌, not, ◌⊎◌, flat_map, if◌then◌else◌}
 use Rattle.bpaf_doc.specs.declared.buffer.Style.{Style}
 use Rattle.std.specs.List.{enumerate_from, before_first, position_or_len}
@@ -60,7 +60,7 @@ one_more n = omega arith
 -- what stands before the first is the same in what goes through it
 before_through : {X : Type 0} (p : X → Bool) (xs : List X) → before_first p (take (position_or_len p xs + 1) xs) ≡ before_first p xs
 before_through p [] = refl
-before_through p (x ∷ xs) = grind (arith, before_through p xs, cond, one_more, before_first-skip)
+before_through p (x ∷ xs) = grind (arith, before_through p xs, one_more, before_first-skip)
 
 part_same : (full : Bool) (before : List Part) (part : Part) → part_walk full part (depth_after_all full 0 before) ≡ part_fragments full before part
 part_same true before (Text bytes style) = ap (part_walk true (Text bytes style)) (full_depth before)
