@@ -1,6 +1,5 @@
 -- An insertion into a map of texts.
-use Rattle.std.proofs.Common.{◌≡◌, ◌≢◌, ℕ, false, List, Some, ap, sym, arith}
-use Rattle.std.specs.Prelude.{if◌then◌else◌}
+use Rattle.std.proofs.Common.{◌≡◌, ◌≢◌, ℕ, false, List, Some, ap, sym, arith, if◌then◌else◌}
 use Rattle.std.proofs.lemmas.Cmp.{nat_list_eq_equiv}
 use Rattle.bpaf_doc.specs.Buffer.Equality.{same_text}
 use Rattle.bpaf_items.specs.Page.EnvTexts.{TextsAreInserted}

@@ -1,6 +1,5 @@
 -- The parts of a help page, one after another.
-use Rattle.std.proofs.Common.{rules, ◌≡◌, ℕ, Bool, List, ◌++◌, ap, ◌∙◌, refl, subst, Result, arith}
-use Rattle.std.specs.Prelude.{OnOk, OnErr}
+use Rattle.std.proofs.Common.{rules, ◌≡◌, ℕ, Bool, List, ◌++◌, ap, ◌∙◌, refl, subst, Result, arith, OnOk, OnErr}
 use Rattle.bpaf_doc.specs.Buffer.Parts.{Part, IsWellNested}
 use Rattle.bpaf_doc.specs.Buffer.Writes.{Write, inside, with_writes}
 use Rattle.bpaf_doc.specs.declared.buffer.Block.TheVariants as block

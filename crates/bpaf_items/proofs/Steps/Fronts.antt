@@ -1,8 +1,6 @@
 -- A list that grows begins with what it was.
-use Rattle.std.proofs.Common.{◌≡◌, List, [], ◌++◌, ap, sym, ◌∙◌, append_assoc, append-nil, arith}
+use Rattle.std.proofs.Common.{◌≡◌, List, [], ◌++◌, ap, sym, ◌∙◌, append_assoc, append-nil, arith, flat_map, Option}
 use Rattle.std.specs.Prelude.{if◌then◌else◌, ◌∷◌, None}
-use Rattle.std.specs.Prelude.{flat_map}
-use Rattle.std.specs.Prelude.{Option}
 use Rattle.std.specs.Option.{option_or}
 use Rattle.std.proofs.lemmas.Grind.{flat_map-append}
 use Rattle.bpaf_meta.specs.Content.{Tree, Leaf}

@@ -1,6 +1,5 @@
 -- What the positional check finds: the first of some faults, each with its number.
-use Rattle.std.proofs.Common.{◌≡◌, ℕ, ◌+◌, ◌<◌, ◌≤◌, Bool, List, ◌++◌, inl, inr, refl, sym, subst, arith}
-use Rattle.std.specs.Prelude.{◌↔◌}
+use Rattle.std.proofs.Common.{◌≡◌, ℕ, ◌+◌, ◌<◌, ◌≤◌, Bool, List, ◌++◌, inl, inr, refl, sym, subst, arith, ◌↔◌}
 use Rattle.bpaf_meta.specs.Meta.Misplaced.{Numbered}
 use Rattle.bpaf_meta.specs.Meta.Steps.Walk.{Check, fine, wrong, then_check}
 use Rattle.bpaf_meta.proofs.lemmas.Misplaced.Among.{Among, among_left, among_right, among_cases}

@@ -1,7 +1,6 @@
 -- The late items of a line, by a mark that says whether a positional item came before the line.
-use Rattle.std.proofs.Common.{◌≡◌, suc, ◌+◌, Bool, true, false, List, [], ◌∷◌, ◌++◌, refl, arith}
+use Rattle.std.proofs.Common.{◌≡◌, suc, ◌+◌, Bool, true, false, List, [], ◌∷◌, ◌++◌, refl, arith, not, ◌||◌, filter}
 use Rattle.std.proofs.lemmas.List.Elements.{filter-append}
-use Rattle.std.specs.Prelude.{not, ◌||◌, filter}
 use Rattle.std.specs.List.{after_first, list_any, position_or_len}
 use Rattle.bpaf_meta.specs.Meta.Misplaced.{Numbered, Line, is_positional, late_items}
 

@@ -1,6 +1,5 @@
 -- No `--` comes about in the normal form, and none is lost.
-use Rattle.std.proofs.Common.{Bool, true, false, ◌⊎◌, inl, inr, refl, arith}
-use Rattle.std.specs.Prelude.{IsTrue}
+use Rattle.std.proofs.Common.{Bool, true, false, ◌⊎◌, inl, inr, refl, arith, IsTrue}
 use Rattle.bpaf_meta.specs.Content.{Tree, and_of, or_of, optional, required, adjacent, item, many, subsection, suffix, skip, custom_usage, strict, Trees, no_trees, tree}
 use Rattle.bpaf_meta.specs.Meta.Normal.{State, pull, push, strip, shown_trees, or_form, with_first_command, optional_form, required_form, many_form, guarded, state_after, state_out, normal_form, and_parts, or_parts, or_state, outer_form, strict_if_push, normalized}
 use Rattle.bpaf_meta.specs.Meta.Shape.{HasStrict, SomeHasStrict, HasCustomUsage, SomeHasCustomUsage, KeepsStrict}

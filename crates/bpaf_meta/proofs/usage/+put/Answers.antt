@@ -1,5 +1,4 @@
-use Rattle.std.proofs.Common.{List, [], ◌∷◌, ◌+◌, drop, ap, sym, ◌∙◌, arith}
-use Rattle.std.specs.Prelude.{codes}
+use Rattle.std.proofs.Common.{List, [], ◌∷◌, ◌+◌, drop, ap, sym, ◌∙◌, arith, codes}
 use Rattle.std.proofs.lemmas.List.{at_drop_more}
 use Rattle.bpaf_doc.specs.Buffer.Writes.{plain, literal, with_writes, doc_writes}
 use Rattle.bpaf_meta.specs.Meta.Steps.Forms.{form_of, forms_of}

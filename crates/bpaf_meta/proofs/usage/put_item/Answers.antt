@@ -1,5 +1,4 @@
-use Rattle.std.proofs.Common.{[], ◌∷◌, ap, sym, ◌∙◌}
-use Rattle.std.specs.Prelude.{codes}
+use Rattle.std.proofs.Common.{[], ◌∷◌, ap, sym, ◌∙◌, codes}
 use Rattle.bpaf_doc.specs.declared.buffer.Style.TheVariants as style
 use Rattle.bpaf_doc.specs.Buffer.Writes.{text, with_writes, doc_writes}
 use Rattle.bpaf_meta.proofs.lemmas.Usage.Written.{OnOk-map, Grows-call}

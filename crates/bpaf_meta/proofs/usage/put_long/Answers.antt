@@ -1,5 +1,4 @@
-use Rattle.std.proofs.Common.{[], ◌∷◌, ap, ◌∙◌}
-use Rattle.std.specs.Prelude.{codes}
+use Rattle.std.proofs.Common.{[], ◌∷◌, ap, ◌∙◌, codes}
 use Rattle.bpaf_doc.specs.declared.buffer.Style.TheVariants as style
 use Rattle.bpaf_doc.specs.Buffer.Writes.{literal, with_text}
 use Rattle.bpaf_meta.proofs.lemmas.Usage.Written.{OnOk-map, Grows-then, Grows-call, with_text_twice}

@@ -1,5 +1,4 @@
-use Rattle.std.proofs.Common.{[], ◌∷◌}
-use Rattle.std.specs.Prelude.{codes}
+use Rattle.std.proofs.Common.{[], ◌∷◌, codes}
 use Rattle.bpaf_doc.specs.declared.buffer.Style.TheVariants as style
 use Rattle.bpaf_doc.specs.Buffer.Writes.{text}
 use Rattle.bpaf_meta.proofs.lemmas.Usage.Written.{Grows-then, Grows-call}

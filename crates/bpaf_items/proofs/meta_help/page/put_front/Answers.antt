@@ -1,5 +1,4 @@
-use Rattle.std.proofs.Common.{map, rules, subst}
-use Rattle.std.specs.Prelude.{string_bytes}
+use Rattle.std.proofs.Common.{map, rules, subst, string_bytes}
 use Rattle.bpaf_doc.specs.declared.buffer.Block.TheVariants as block
 use Rattle.bpaf_doc.specs.Buffer.Writes.{inside}
 use Rattle.bpaf_meta.specs.View.{tree_of}

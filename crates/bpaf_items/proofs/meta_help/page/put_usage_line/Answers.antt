@@ -1,5 +1,4 @@
-use Rattle.std.proofs.Common.{true, ◌∷◌, [], ◌++◌, ◌∙◌, map, rules}
-use Rattle.std.specs.Prelude.{string_bytes}
+use Rattle.std.proofs.Common.{true, ◌∷◌, [], ◌++◌, ◌∙◌, map, rules, string_bytes}
 use Rattle.bpaf_doc.specs.declared.buffer.Block.TheVariants as block
 use Rattle.bpaf_doc.specs.Buffer.Writes.{end, path_writes}
 use Rattle.bpaf_meta.specs.View.{tree_of}

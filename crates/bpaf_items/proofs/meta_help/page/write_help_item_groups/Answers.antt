@@ -1,5 +1,4 @@
-use Rattle.std.proofs.Common.{map, sym, subst}
-use Rattle.std.specs.Prelude.{All}
+use Rattle.std.proofs.Common.{map, sym, subst, All}
 use Rattle.bpaf_items.specs.Listing.Groups.{HasPairedGroups}
 use Rattle.bpaf_items.specs.Listing.ItemList.{IsItemList}
 use Rattle.bpaf_items.specs.Page.EnvTexts.{texts_in}

@@ -1,5 +1,4 @@
-use Rattle.std.proofs.Common.{rules, ◌∷◌, []}
-use Rattle.std.specs.Prelude.{codes}
+use Rattle.std.proofs.Common.{rules, ◌∷◌, [], codes}
 use Rattle.bpaf_doc.specs.Buffer.Writes.{literal, plain}
 use Rattle.bpaf_meta.specs.Names.{long_text, short_text}
 use Rattle.bpaf_meta.proofs.lemmas.Usage.Written.{Grows-then, Grows-by}

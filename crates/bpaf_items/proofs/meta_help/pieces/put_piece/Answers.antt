@@ -1,5 +1,4 @@
-use Rattle.std.proofs.Common.{◌∷◌, [], true}
-use Rattle.std.specs.Prelude.{encode_utf8}
+use Rattle.std.proofs.Common.{◌∷◌, [], true, encode_utf8}
 use Rattle.bpaf_doc.specs.Buffer.Writes.{start, end, text, literal, doc_writes, em_doc_writes}
 use Rattle.bpaf_meta.specs.View.{tree_of}
 use Rattle.bpaf_meta.specs.Usage.Writes.{usage_writes}

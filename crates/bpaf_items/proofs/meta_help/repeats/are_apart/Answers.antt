@@ -1,7 +1,5 @@
-use Rattle.std.proofs.Common.{◌≡◌, ◌∙◌, ap, arith, length, map, subst, take_all}
-use Rattle.std.specs.Prelude.{flat_map, nat_eq}
+use Rattle.std.proofs.Common.{◌≡◌, ◌∙◌, ap, arith, length, map, subst, take_all, eqb-true, flat_map, nat_eq}
 use Rattle.std.specs.List.{IsDistinct, dedup}
-use Rattle.std.proofs.lemmas.Bool.{eqb-true}
 use Rattle.std.proofs.lemmas.List.Filters.{dedup_is}
 use Rattle.bpaf_items.specs.Page.Steps.Repeats.{entry_hash}
 use Rattle.bpaf_items.specs.View.{entry_at}

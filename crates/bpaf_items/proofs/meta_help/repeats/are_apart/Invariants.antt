@@ -1,5 +1,4 @@
-use Rattle.std.proofs.Common.{◌≡◌, map, take}
-use Rattle.std.specs.Prelude.{flat_map}
+use Rattle.std.proofs.Common.{◌≡◌, map, take, flat_map}
 use Rattle.bpaf_items.specs.Page.Steps.Repeats.{entry_hash}
 use Rattle.bpaf_items.specs.View.{entry_at}
 use Rattle.bpaf_items.proofs.meta_help.repeats.are_apart.Given as goal

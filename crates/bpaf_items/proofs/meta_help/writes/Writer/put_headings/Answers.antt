@@ -1,5 +1,4 @@
-use Rattle.std.proofs.Common.{map, rules}
-use Rattle.std.specs.Prelude.{codes}
+use Rattle.std.proofs.Common.{map, rules, codes}
 use Rattle.bpaf_meta.proofs.lemmas.Usage.Written.{Grows-then, Grows-by}
 use Rattle.bpaf_items.specs.declared.meta_help.entry.HiTy.TheVariants as ty
 use Rattle.bpaf_items.specs.Listing.Falls.{items_of_type}

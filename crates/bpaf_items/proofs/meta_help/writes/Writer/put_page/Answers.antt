@@ -1,5 +1,4 @@
-use Rattle.std.proofs.Common.{rules, ◌≡◌, map, subst, sym}
-use Rattle.std.specs.Prelude.{string_bytes}
+use Rattle.std.proofs.Common.{rules, ◌≡◌, map, subst, sym, string_bytes}
 use Rattle.bpaf_doc.specs.Buffer.Writes.{with_writes}
 use Rattle.bpaf_meta.specs.View.{head_of, tree_of}
 use Rattle.bpaf_meta.proofs.lemmas.Usage.Written.{Grows-then, Grows-by}
