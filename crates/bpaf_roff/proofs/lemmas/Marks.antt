@@ -12,8 +12,8 @@ use Rattle.bpaf_roff.proofs.lemmas.LineStarts.{newline_ends, nothing_ends}
 use Rattle.bpaf_roff.proofs.lemmas.Texts.{line_start_by_last}
 
 -- a byte that has no way of its own
-marked_special : (q : Apostrophes) (before : List ℕ) (prev s : ℕ) → (is_line_start before ≡ true → (prev == newline) ≡ true) → mark prev s < 2
-    → byte_text q before Special s ≡ (if mark prev s == 1 then 92 ∷ s ∷ [] else s ∷ [])
+marked_special : (q : Apostrophes) (before : List ℕ) (prev s : ℕ) → (is_line_start before ≡ true → (prev == newline) ≡ true) → mark prev s < 3
+    → byte_text q before Special s ≡ (if mark prev s == 2 then 92 ∷ s ∷ [] else s ∷ [])
 marked_special q before prev s h k = grind arith
 
 -- a line starts only behind a newline
@@ -30,11 +30,11 @@ line_behind q label is x bytes i j e lt h = by is
     by (inr stripped) =
         let no = line_start_by_last x label (take i bytes) (take j bytes) (get_or bytes j 0) last false (nothing_ends label (get_or bytes j 0) (inr stripped)) q ∙ h in absurd cc
 
-pub marked_text : (q : Apostrophes) (label : Escape) → IsText label → (x : Bool) (bytes : List ℕ) (i m s : ℕ) → i < length bytes → IsMark bytes i m → m < 2
+pub marked_text : (q : Apostrophes) (label : Escape) → IsText label → (x : Bool) (bytes : List ℕ) (i m s : ℕ) → i < length bytes → IsMark bytes i m → m < 3
     → byte_text q (written x ++ text_after q (written x) (map (Byte label) (take i bytes))) label (slice_index bytes i)
     ≡ byte_text q (written x ++ text_after q (written x) (map (Byte label) (take i bytes))) Special s
     → ((before : ℕ) → mark before (slice_index bytes i) ≡ mark before s)
-    → byte_text q (written x ++ text_after q (written x) (map (Byte label) (take i bytes))) label (slice_index bytes i) ≡ (if m == 1 then 92 ∷ s ∷ [] else s ∷ [])
+    → byte_text q (written x ++ text_after q (written x) (map (Byte label) (take i bytes))) label (slice_index bytes i) ≡ (if m == 2 then 92 ∷ s ∷ [] else s ∷ [])
 marked_text q label is x bytes i m s lt (inl odd) few shown same = absurd (omega (arith, odd, few))
 marked_text q label is x bytes i m s lt (inr right) few shown same =
     let prev = slice_index bytes (i - 1) in
@@ -43,7 +43,7 @@ marked_text q label is x bytes i m s lt (inr right) few shown same =
     let inside : i - 1 < length bytes = omega (arith, right.0, lt) in
     shown
     ∙ marked_special q (written x ++ text_after q (written x) (map (Byte label) (take i bytes))) prev s (line_behind q label is x bytes i (i - 1) behind inside) (omega (arith, known, few))
-    ∙ ap (λ n. if n == 1 then 92 ∷ s ∷ [] else s ∷ []) (sym known)
+    ∙ ap (λ n. if n == 2 then 92 ∷ s ∷ [] else s ∷ []) (sym known)
 
 -- one byte more is marked
 pub marks_more : (bytes marks : List ℕ) (i m : ℕ) → 0 < i → i < length marks → AreMarks bytes i marks → m ≡ mark (slice_index bytes (i - 1)) (slice_index bytes i)

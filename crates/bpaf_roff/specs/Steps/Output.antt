@@ -32,16 +32,16 @@ IsText label = label ≡ Special ⊎ label ≡ SpecialNoNewline
 abbrev pub StayUnder : Escape → List ℕ → Type 0
 StayUnder label bytes = (q : Apostrophes) (before : List ℕ) → text_after q before (map (Byte label) bytes) ≡ bytes
 
--- How a byte of a plain text is written behind another one: 0 as it is, 1 behind a backslash, 2 in a way of its own.
+-- How a byte of a plain text is written behind another one: 1 as it is, 2 behind a backslash, 3 in a way of its own.
 -- That is so of an apostrophe, and of a dot at a line start.
 abbrev pub mark : ℕ → ℕ → ℕ
 mark before b =
-    (if b == apostrophe || (b == dot && before == newline) then 2 else 0)
+    1 + (if b == apostrophe || (b == dot && before == newline) then 2 else 0)
     + (if b == backslash || b == dash then 1 else 0)
 
--- the mark of a byte of these, or 2
+-- the mark of a byte of these, or 3
 abbrev pub IsMark : List ℕ → ℕ → ℕ → Type 0
-IsMark bytes i m = (m ≡ 2) ⊎ ((0 < i) × (m ≡ mark (slice_index bytes (i - 1)) (slice_index bytes i)))
+IsMark bytes i m = (m ≡ 3) ⊎ ((0 < i) × (m ≡ mark (slice_index bytes (i - 1)) (slice_index bytes i)))
 
 -- the first of these bytes have such marks
 abbrev pub AreMarks : List ℕ → ℕ → List ℕ → Type 0

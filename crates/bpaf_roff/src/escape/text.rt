@@ -70,16 +70,16 @@ pub fn are_plain(bytes: &[u8]) -> bool
 }
 
 // The mark of a byte that is written neither as it is nor as a backslash and itself, or that may be.
-const ODD: u8 = 2;
+const ODD: u8 = 3;
 
-// How a byte is written behind another one: 0 stands for as it is, and 1 for behind a backslash.
+// How a byte is written behind another one: 1 stands for as it is, and 2 for behind a backslash.
 #[inline(always)]
 fn mark(before: u8, byte: u8) -> u8
     ensures { result ≡ mark before byte }
 {
     let is_odd = byte == b'\'' || (byte == b'.' && before == b'\n');
     let is_escaped = byte == b'\\' || byte == b'-';
-    ODD * u8::from(is_odd) + u8::from(is_escaped)
+    1 + 2 * u8::from(is_odd) + u8::from(is_escaped)
 }
 
 // Marks all of these but the first, many at once.
@@ -209,19 +209,21 @@ fn put_byte(room: &mut [u8; ROOM], at: usize, context: Context, bytes: &[u8], in
     put_sign(room, at, context.apostrophes, line_start, byte)
 }
 
-// A byte with a backslash before it where its mark is 1, put as `put_escaped` puts it.
+// A byte with a backslash before it where its mark is 2, put as `put_escaped` puts it. Its mark is how many bytes that
+// are, so that the next place is one sum.
 #[inline(always)]
 fn put_marked(room: &mut [u8; ROOM], at: usize, mark: u8, byte: u8) -> usize
+    requires some { 0 < mark }
     requires mark { mark < ODD }
     requires fits { at + 2 ≤ ROOM }
     ensures next { result ≤ at + 2 }
     ensures text { take result room.new
-        ≡ take at room.old ++ (if mark == 1 then 92 ∷ byte ∷ [] else byte ∷ []) }
+        ≡ take at room.old ++ (if mark == 2 then 92 ∷ byte ∷ [] else byte ∷ []) }
 {
     room[at] = b'\\';
-    let start = at + usize::from(mark);
-    room[start] = byte;
-    start + 1
+    let next = at + usize::from(mark);
+    room[next - 1] = byte;
+    next
 }
 
 // Puts what the byte at an index becomes, by its mark where that says it.
