@@ -1,7 +1,8 @@
 //! A document as HTML and as markdown. `fragments` says for both what is shown, one piece after another; `page` writes
 //! the pieces as HTML, and `markdown` as markdown.
-ghost use Rattle.std.specs.Prelude.{◌≡◌, ◌≤◌, ◌++◌, length, MatchOption, OnOk, string_bytes};
-ghost use Rattle.std.specs.List.{flat_map};
+ghost use Rattle.std.specs.Prelude.{◌≡◌, ◌≤◌, ◌++◌, length, not, IsTrue, MatchOption, OnOk, string_bytes};
+ghost use Rattle.std.specs.List.{flat_map, list_all};
+ghost use Rattle.memchr.specs.Find.{is_byte2};
 ghost use Rattle.bpaf_doc.specs.Html.Styles.{styles_of};
 ghost use Rattle.bpaf_doc.specs.Html.Steps.View.{spelling_of, when, IsPlain, IsFirstSpelled};
 
@@ -74,6 +75,29 @@ impl Language {
             Language::Markdown => memchr2(b'[', b']', text.as_bytes()),
         }
     }
+
+    // Whether no character has another spelling.
+    #[tactic(auto, using(crate::proofs::lemmas::Html::Spelled::plain_html, crate::proofs::lemmas::Html::Spelled::plain_markdown))]
+    fn is_plain(self, bytes: &[u8]) -> bool
+        ensures { IsTrue result → IsPlain self bytes.now }
+    {
+        match self {
+            Language::Html => has_neither(bytes, b'<', b'>'),
+            Language::Markdown => has_neither(bytes, b'[', b']'),
+        }
+    }
+}
+
+// Whether neither byte is among these. It looks at each, whatever came before, so that it looks at many at once.
+#[inline(always)]
+fn has_neither(bytes: &[u8], one: u8, other: u8) -> bool
+    ensures { result ≡ list_all (λ byte. not (is_byte2 one other byte)) bytes.now }
+{
+    let mut neither = true;
+    for byte in bytes {
+        neither &= *byte != one && *byte != other;
+    }
+    neither
 }
 
 // Appends a block in the language's spelling. That of each character is a text, so no pass looks whether the bytes are
@@ -93,7 +117,8 @@ fn push_block<B: Allocator>(
 }
 
 // Appends the text in the language's spelling. A run of characters that stay as they are is appended whole, and the one
-// behind it with a block, since others often stand near.
+// behind it with a block, since others often stand near. A short text without others is appended whole too: to look for
+// the first of them would go byte by byte.
 fn push_spelled<B: Allocator>(
     out: &mut String<B>,
     text: &str,
@@ -101,6 +126,9 @@ fn push_spelled<B: Allocator>(
 ) -> Result<(), AllocError>
     ensures { OnOk result (string_bytes out.new ≡ string_bytes out.old ++ flat_map (spelling_of language) text.now) }
 {
+    if text.len() <= BLOCK && language.is_plain(text.as_bytes()) {
+        return out.push_str(text);
+    }
     let mut rest = text;
     while let Some(at) = language.find(rest) {
         out.push_str(&rest[..at])?;

@@ -200,14 +200,27 @@ impl<'a> Splitter<'a> {
     }
 }
 
-// The code line that a text outside of a fence begins with, and the chunks after it.
+// The code line that a text outside of a fence begins with, and the chunks after it. Bytes are looked at, since
+// `strip_prefix` is a call.
+#[tactic(auto, using(crate::proofs::lemmas::Splitter::CodeLines::code_cut))]
 #[inline(always)]
 fn cut_code(text: &str) -> Option<(&str, Splitter<'_>)>
     ensures { IfSome result (λ cut. chunks_in Plain text.now ≡ Raw cut.0.now code_weight ∷ cut.1) }
 {
-    let code = text.strip_prefix("\n    ")?;
+    if !begins_code(text.as_bytes()) {
+        return None;
+    }
+    let (_, code) = text.split_at(5);
     let (line, rest) = cut_line(code);
     Some((line, split(rest)))
+}
+
+// Whether the text begins with a newline and four blanks.
+#[inline(always)]
+fn begins_code(bytes: &[u8]) -> bool
+    ensures { IsTrue result → take 5 bytes.now ≡ codes "\n    " }
+{
+    matches!(bytes, [b'\n', b' ', b' ', b' ', b' ', ..])
 }
 
 // The run of a text up to this place, and the chunks after it.

@@ -6,6 +6,7 @@ pub mod Pieces
 pub mod Facts
 pub mod Ink
 pub mod Printable
+pub mod CodeLines
 pub mod Letters
 pub mod Runs
 pub mod Widths

@@ -27,7 +27,7 @@ loop-at-preserved g c =
     let end = c.floor_char_boundary.result in
     let from_start : at - 0 ≡ at = omega arith in (
       subst IsUtf8 (sym c.split_at.ensures.back) (IsUtf8-drop spelled end c.range_from-spelled.utf8 c.floor_char_boundary.ensures.boundary),
-      block_on (spelling_of c.args.language) _ rest c.split_at.result.0.now c.split_at.result.1.now (string_bytes c.loop-at.out) (string_bytes c.push_str.new.self) (string_bytes c.push_block.new.out) at
+      block_on (spelling_of c.args.language) _ rest c.split_at.result.0.now c.split_at.result.1.now (string_bytes c.loop-at.out) (string_bytes c.push_str-in-Some.new.self) (string_bytes c.push_block.new.out) at
           c.in-Some.ensures.1
           (sym c.range_from-spelled.ensures.value ∙ sym (take-append-drop end spelled) ∙ ap₂ (λ x y. x ++ y) (sym c.split_at.ensures.front) (sym c.split_at.ensures.back))
           (c.in_ok-push_str.ensures.bytes ∙ ap (λ run. string_bytes c.loop-at.out ++ run) (c.range.ensures.value ∙ ap (λ n. take n rest) from_start))

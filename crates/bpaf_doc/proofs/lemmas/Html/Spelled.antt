@@ -1,9 +1,11 @@
 -- A text in another spelling: a run that stays as it is, a character that doesn't, and the rest.
-use Rattle.std.specs.Prelude.{◌≡◌, ◌≢◌, ℕ, suc, ◌<◌, ◌≤◌, Bool, true, false, List, [], ◌∷◌, ◌++◌, refl, length, take, drop, flat_map, Option, Some, None, MatchOption}
+use Rattle.std.specs.Prelude.{◌≡◌, ◌≢◌, ℕ, suc, ◌<◌, ◌≤◌, Bool, true, false, not, List, [], ◌∷◌, ◌++◌, refl, length, take, drop, flat_map, Option, Some, None, MatchOption}
 use Rattle.std.proofs.Common.{sym, ap, ap₂, subst, ⊎_elim, inl, inr, ◌∙◌, arith, get_or, append_assoc, length-take, lit<}
 use Rattle.std.specs.Str.{IsUtf8, IsCharBoundary}
 use Rattle.std.proofs.lemmas.Bool.{cases_lt}
 use Rattle.std.proofs.lemmas.Bool.Decides.{nat_tests}
+use Rattle.std.specs.List.{list_all}
+use Rattle.std.proofs.lemmas.List.Sums.{AllPass-from_list_all}
 use Rattle.std.proofs.lemmas.Str.{IsCharBoundary-after_ascii}
 use Rattle.memchr.specs.Find.{NoneBefore, Passes, IsFirstByte, is_byte2}
 use Rattle.bpaf_doc.specs.declared.html.Language.{Language}
@@ -63,6 +65,20 @@ finds_html text r first = finds language.Html 60 62 html_marks text r first
 
 pub finds_markdown : (text : List ℕ) (r : Option ℕ) → IsFirstByte (is_byte2 91 93) text r → FindsSpelled language.Markdown text r
 finds_markdown text r first = finds language.Markdown 91 93 markdown_marks text r first
+
+-- bytes among which neither of a language's two characters is
+module _ (language : Language) (a b : ℕ) (marks : AreMarks language a b) where
+  has_neither : (bytes : List ℕ) → list_all (λ c. not (is_byte2 a b c)) bytes ≡ true → IsPlain language bytes
+  has_neither bytes all =
+      plain_run (spelling_of language) (is_byte2 a b) marks.plain bytes (λ k l passes. refuted (is_byte2 a b (get_or bytes k 0)) (AllPass-from_list_all (λ c. not (is_byte2 a b c)) bytes all k 0 l) passes) where
+        refuted : (t : Bool) → not t ≡ true → ¬ t ≡ true
+        refuted t f = grind arith
+
+pub plain_html : (bytes : List ℕ) → list_all (λ c. not (is_byte2 60 62 c)) bytes ≡ true → IsPlain language.Html bytes
+plain_html bytes all = has_neither language.Html 60 62 html_marks bytes all
+
+pub plain_markdown : (bytes : List ℕ) → list_all (λ c. not (is_byte2 91 93 c)) bytes ≡ true → IsPlain language.Markdown bytes
+plain_markdown bytes all = has_neither language.Markdown 91 93 markdown_marks bytes all
 
 -- a run that stays as it is and a block behind it are written, and the rest is not yet
 pub block_on : (f : ℕ → List ℕ) (all text block after out longer last : List ℕ) (at : ℕ) → flat_map f (take at text) ≡ take at text → drop at text ≡ block ++ after
