@@ -1,7 +1,7 @@
 //! What HTML and markdown have of a document, one piece after another: the same for both, in full and in brief.
-ghost use Rattle.std.specs.Prelude.{◌≡◌, ◌∷◌, [], MatchOption};
-ghost use Rattle.bpaf_doc.specs.Html.Fragments.{shown_fragments};
-ghost use Rattle.bpaf_doc.specs.Splitter.Chunks.{is_paragraph};
+ghost use Rattle.std.specs.Prelude.{◌≡◌, ◌∷◌, [], IfNone, IfSome, MatchOption};
+ghost use Rattle.bpaf_doc.specs.Html.Fragments.{Shown, shown_fragments};
+ghost use Rattle.bpaf_doc.specs.Splitter.Chunks.{Raw, code_weight, is_paragraph};
 ghost use Rattle.bpaf_doc.specs.Splitter.View.{chunk_of};
 ghost use Rattle.bpaf_doc.specs.Html.Steps.View.{fragment_of};
 ghost use Rattle.bpaf_doc.specs.Html.Steps.Walk.{is_inline};
@@ -88,6 +88,20 @@ fn is_paragraph(chunk: Chunk<'_>) -> bool
 }
 
 impl<'a> Fragments<'a> {
+    /// Takes a code line of a shown text off. None where another fragment comes next.
+    #[inline(always)]
+    pub(super) fn take_code(&mut self) -> Option<&'a str>
+        ensures code { IfSome result (λ line. (style : Style)
+            × (self.old ≡ Shown style (Raw line.now code_weight) ∷ self.new)) }
+        ensures none { IfNone result (self.new ≡ self.old) }
+    {
+        if self.in_text {
+            self.chunks.take_code()
+        } else {
+            None
+        }
+    }
+
     // The next fragment alone.
     #[inline(always)]
     fn next_fragment(&mut self) -> Option<Fragment<'a>>

@@ -1,5 +1,5 @@
 //! Markdown: a text that grows by one fragment after another.
-ghost use Rattle.std.specs.Prelude.{◌≡◌, ◌++◌, if◌then◌else◌, OnOk, IfOk, string_bytes};
+ghost use Rattle.std.specs.Prelude.{◌≡◌, ◌≤◌, ◌++◌, if◌then◌else◌, length, OnOk, IfOk, string_bytes};
 ghost use Rattle.bpaf_doc.specs.Splitter.View.{chunk_of};
 ghost use Rattle.bpaf_doc.specs.Markdown.Page.{IsMarkdownOf};
 ghost use Rattle.bpaf_doc.specs.Markdown.Exact.{markdown_page};
@@ -11,7 +11,7 @@ ghost use Rattle.bpaf_doc.specs.Markdown.Steps.Page.{with_words, with_raw, with_
 ghost use Rattle.bpaf_doc.specs.Markdown.Steps.Page.{body_started, started, ended, is_term_end, marked_after};
 ghost use Rattle.bpaf_doc.specs.Markdown.Steps.Page.{marked_after_all};
 
-use super::fragments::{Fragment, Taken, fragments_of};
+use super::fragments::{Fragment, Fragments, Taken, fragments_of};
 use super::{Language, Styles, push_spelled, when};
 use crate::buffer::{Block, Doc, Style};
 use crate::splitter::Chunk;
@@ -192,6 +192,22 @@ impl<B: Allocator> Markdown<B> {
         self.line(text)
     }
 
+    // Writes the lines that come next in a code block that is open.
+    #[tactic(auto, using(crate::proofs::lemmas::Markdown::Runs::code_line_more))]
+    #[inline(always)]
+    fn code_lines(&mut self, fragments: &mut Fragments<'_>) -> Result<(), AllocError>
+        ensures page { OnOk result (marked_after_all self.new fragments.new ≡ marked_after_all self.old fragments.old) }
+        ensures left { length fragments.new ≤ length fragments.old }
+    {
+        if !self.in_code || self.item.is_pending() {
+            return Ok(());
+        }
+        'lines: while let Some(line) = fragments.take_code() {
+            self.line(line)?;
+        }
+        Ok(())
+    }
+
     // Words, outside of a code block.
     fn words(&mut self, text: &str) -> Result<(), AllocError>
         ensures { OnOk result (self.new ≡ with_words self.old text.now) }
@@ -367,8 +383,10 @@ impl<A: Allocator> Doc<A> {
         // The marks can be counted: there are at most as many as parts.
         let _count = self.len();
         let mut page = Markdown::with_room(alloc, if full { self.text_len() } else { 0 })?;
-        for taken in fragments_of(self, full) {
+        let mut fragments = fragments_of(self, full);
+        while let Some(taken) = fragments.next() {
             page.take(taken)?;
+            page.code_lines(&mut fragments)?;
         }
         page.item(false)?;
         Ok(page.into_text())

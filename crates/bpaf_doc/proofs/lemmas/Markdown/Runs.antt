@@ -1,14 +1,14 @@
 -- A run that is written at once is its chunks written one after another.
-use Rattle.std.proofs.Common.{◌≡◌, ◌+◌, ◌<◌, ◌≤◌, false, List, ℕ, [], ◌∷◌, ◌++◌, length, map, refl, sym, ap, ◌∙◌, append_assoc, append-nil, arith, length-append, nat_lt}
+use Rattle.std.proofs.Common.{◌≡◌, ◌+◌, ◌<◌, ◌≤◌, true, false, List, ℕ, [], ◌∷◌, ◌++◌, length, map, refl, sym, ap, ◌∙◌, append_assoc, append-nil, arith, length-append, nat_lt}
 use Rattle.std.specs.Prelude.{flat_map, if◌then◌else◌, codes}
 use Rattle.std.proofs.lemmas.List.Concat.{flat_map-append}
 use Rattle.std.proofs.lemmas.Bool.{ne_eqb}
 use Rattle.bpaf_doc.specs.declared.buffer.Style.{Style}
-use Rattle.bpaf_doc.specs.Splitter.Chunks.{Chunk, Raw, chunks_of, columns}
+use Rattle.bpaf_doc.specs.Splitter.Chunks.{Chunk, Raw, chunks_of, code_weight, columns}
 use Rattle.bpaf_doc.specs.Splitter.Steps.Runs.{IsRun}
 use Rattle.bpaf_doc.specs.Html.Fragments.{Fragment, Shown}
 use Rattle.bpaf_doc.specs.Markdown.Page.{escaped_character}
-use Rattle.bpaf_doc.specs.Markdown.Steps.Page.{Marked, put, with_item, close_code, with_words, with_raw, marked_after, marked_after_all}
+use Rattle.bpaf_doc.specs.Markdown.Steps.Page.{Marked, put, with_item, close_code, with_line, with_words, with_raw, with_chunk, marked_after, marked_after_all}
 use Rattle.bpaf_doc.proofs.lemmas.Splitter.Runs.{AreWords, no_words, a_word, words_of_line}
 use Rattle.bpaf_doc.proofs.lemmas.Splitter.Widths.{columns_few}
 
@@ -68,3 +68,10 @@ run_marked p style run is = at (words_of_line run is.line) where
       ∙ put_on t (spelled t.ends t.starts bytes) (spelled t.ends t.starts rest)
       ∙ ap (put t) (spelled_on t.ends t.starts bytes rest ∙ ap (spelled t.ends t.starts) (sym et))
       ∙ ap (λ b. put t (if b then flat_map escaped_character run else run)) same.1
+
+-- ---- a line of code in a code block that is open
+
+pub code_line_more : (p : Marked) (style : Style) (line : List ℕ) → p.in_code ≡ true → p.pending ≡ false → marked_after p (Shown style (Raw line code_weight)) ≡ with_line p line
+code_line_more p style line opened settled =
+    ap (λ q. with_chunk q (Raw line code_weight)) (no_item p settled)
+    ∙ ap (λ b. with_line (if b then p else record p { bytes = p.bytes ++ codes "\n\n  ```text\n"; in_code = true }) line) opened

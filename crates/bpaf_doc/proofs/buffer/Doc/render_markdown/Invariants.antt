@@ -1,8 +1,11 @@
-use Rattle.std.proofs.Common.{◌≡◌}
+use Rattle.std.proofs.Common.{◌≡◌, length}
 use Rattle.bpaf_doc.specs.Html.Fragments.{shown_fragments}
 use Rattle.bpaf_doc.specs.Markdown.Steps.Page.{blank_text, marked_after_all}
 use Rattle.bpaf_doc.proofs.buffer.Doc.render_markdown.Given as goal
 
 -- the text so far with what is left comes to the whole
 abbrev pub invariant-loop-taken : goal.invariant-loop-taken
-invariant-loop-taken g l = marked_after_all l.page l.taken-iterator ≡ marked_after_all blank_text (shown_fragments l.full l.self)
+invariant-loop-taken g l = marked_after_all l.page l.fragments ≡ marked_after_all blank_text (shown_fragments l.full l.self)
+
+abbrev pub decreases-loop-taken : goal.decreases-loop-taken
+decreases-loop-taken g l = length l.fragments
