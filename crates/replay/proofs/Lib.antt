@@ -1,2 +1,3 @@
+pub mod Blocks
 pub mod Replies
 pub mod Spelling

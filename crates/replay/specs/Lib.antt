@@ -1,2 +1,3 @@
 pub mod Encoding
 pub mod Replay
+pub mod Steps

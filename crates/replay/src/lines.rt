@@ -67,9 +67,13 @@ fn answer_line(alloc: Global, key: &str, answer: &str) -> Result<String, AllocEr
     Ok(line)
 }
 
-/// Whether a byte is a newline.
+/// Whether a byte is a newline. It looks at each, whatever came before, so that it looks at many at once.
 pub fn has_newline(bytes: &[u8]) -> bool
     ensures { result ≡ list_any is_newline bytes.now }
 {
-    bytes.iter().any(|byte| *byte == b'\n')
+    let mut found = false;
+    for byte in bytes {
+        found |= *byte == b'\n';
+    }
+    found
 }

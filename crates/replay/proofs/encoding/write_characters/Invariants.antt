@@ -1,10 +1,13 @@
-use Rattle.std.proofs.Common.{◌≡◌, ◌++◌, IsUtf8, string_bytes}
-use Rattle.std.specs.Str.Iter.{chars_rest}
+use Rattle.std.proofs.Common.{◌≡◌, ◌++◌, length, string_bytes}
+use denote.Text.{Utf8}
+use denote.Shadow.{shadow}
 use Rattle.replay.specs.Encoding.{spelling}
 use Rattle.replay.proofs.encoding.write_characters.Given as goal
 
 -- what was written, and the rest as it is printed, is the whole text as it is printed
-abbrev pub invariant-loop-character : goal.invariant-loop-character
-invariant-loop-character l =
-    IsUtf8 (chars_rest l.character-iterator)
-    × (string_bytes l.out ++ spelling (chars_rest l.character-iterator) ≡ string_bytes l.fn.out ++ spelling l.text)
+abbrev pub invariant-blocks-2 : goal.invariant-blocks-2
+invariant-blocks-2 l = shadow (Utf8 l.rest)
+    × (string_bytes l.out ++ spelling l.rest ≡ string_bytes l.fn.out ++ spelling l.text)
+
+abbrev pub decreases-blocks-2 : goal.decreases-blocks-2
+decreases-blocks-2 l = length l.rest
