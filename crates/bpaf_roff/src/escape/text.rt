@@ -249,7 +249,8 @@ fn put_at(
     put_marked(room, at, mark, shown(context.label, bytes[index]))
 }
 
-/// Puts what a text becomes at the start of the room, and answers how many bytes these are.
+/// Puts what a text becomes at the start of the room, and answers how many bytes these are. Two bytes are put at a time,
+/// since the steps of the loop itself cost a third of what a byte does.
 #[inline(always)]
 #[tactic(auto, using(crate::proofs::lemmas::Written::front_text_more))]
 pub fn fill(room: &mut [u8; ROOM], context: Context, bytes: &[u8]) -> usize
@@ -261,7 +262,13 @@ pub fn fill(room: &mut [u8; ROOM], context: Context, bytes: &[u8]) -> usize
     let mut marks = [ODD; BLOCK];
     mark_all(&mut marks, bytes);
     let mut end = 0;
-    for index in 0..bytes.len() {
+    let mut index = 0;
+    'pairs: while index + 1 < bytes.len() {
+        end = put_at(room, end, context, bytes, index, marks[index]);
+        end = put_at(room, end, context, bytes, index + 1, marks[index + 1]);
+        index += 2;
+    }
+    if index < bytes.len() {
         end = put_at(room, end, context, bytes, index, marks[index]);
     }
     end
