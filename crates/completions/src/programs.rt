@@ -250,7 +250,10 @@ _clidoc_`__reply() {
     local -i i
     if ((files > 0 && files == ${#found[@]})) && [[ $before == "$kept" ]]; then
         compopt -o filenames
-        for word in "${found[@]}"; do COMPREPLY+=("${word:${#kept}}"); done
+        for word in "${found[@]}"; do
+            word=${word:${#kept}}
+            COMPREPLY+=("${word%/}")
+        done
         return
     fi
     for word in "${found[@]}"; do
