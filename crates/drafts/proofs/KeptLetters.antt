@@ -16,11 +16,11 @@ use Rattle.drafts.specs.Laws.{TextsAreWhole, letters, piece_letters}
 use Rattle.drafts.proofs.Boundaries.{blank_small, within_blanks}
 use Rattle.drafts.proofs.Trims.{end_trimmed, left_out, trimmed}
 
-one_more : (a b : List ℕ) (rest others : List ℕ) → a ≡ b → rest ≡ others → a ++ rest ≡ b ++ others
+pub one_more : (a b : List ℕ) (rest others : List ℕ) → a ≡ b → rest ≡ others → a ++ rest ≡ b ++ others
 one_more a b rest others h g = ap (λ t. t ++ rest) h ∙ ap (λ t. b ++ t) g
 
 -- of pieces that are made line by line
-each_line : (make : List ℕ → Piece) → ((l : List ℕ) → IsUtf8 l → letters (make l).text ≡ letters l) → (ls : List (List ℕ)) → All IsUtf8 ls → flat_map piece_letters (map make ls) ≡ flat_map letters ls
+pub each_line : (make : List ℕ → Piece) → ((l : List ℕ) → IsUtf8 l → letters (make l).text ≡ letters l) → (ls : List (List ℕ)) → All IsUtf8 ls → flat_map piece_letters (map make ls) ≡ flat_map letters ls
 each_line make keeps [] utf8 = refl
 each_line make keeps (l ∷ ls) utf8 =
     one_more (letters (make l).text) (letters l) (flat_map piece_letters (map make ls)) (flat_map letters ls) (keeps l (All-head IsUtf8 l ls utf8)) (each_line make keeps ls (All-tail IsUtf8 l ls utf8))

@@ -5,9 +5,11 @@ mod Cuts
 mod Ends
 mod Forms
 mod Fronts
+mod KeptHelps
 mod KeptLetters
 mod Letters
 mod Lists
+mod Noted
 mod Placing
 mod Puts
 mod Roles

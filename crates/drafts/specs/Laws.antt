@@ -1,6 +1,6 @@
 -- Laws of drafts.
 use Rattle.std.specs.Prelude.{ℕ, ◌≡◌, Bool, true, false, not, List, [], ◌∷◌, ◌++◌, filter, flat_map, if◌then◌else◌, map}
-use Rattle.std.specs.Prelude.{◌⊎◌, All, IfSome, IsUtf8, chars, option_to_list, reverse}
+use Rattle.std.specs.Prelude.{◌⊎◌, All, IfSome, IsUtf8, chars, codes, drop, length, option_to_list, reverse}
 use Rattle.std.specs.Char.{is_not_whitespace}
 use Rattle.std.specs.List.{AllPass, list_all, list_any}
 use Rattle.page_model.specs.Permitted.{are_permitted}
@@ -12,8 +12,10 @@ use Rattle.drafts.specs.Options.{are_plain, long_word, short_letter}
 use Rattle.drafts.specs.Free.{Has, free_in, free_keys}
 use Rattle.drafts.specs.Entries.{ValueSaid, value_front, value_name}
 use Rattle.drafts.specs.Texts.{first_word, passage_pieces}
+use Rattle.drafts.specs.Notes.{CutSaid, HelpSaid, IsFront, NotesSaid, cut, help_said, joined, pieces_in}
 use Rattle.drafts.specs.Places.{PlacedSaid, is_empty, is_title, placed}
 use Rattle.drafts.specs.Usages.{FormSaid, first_form, further_form, last_part}
+use Rattle.drafts.specs.declared.notes.Subject.{Subject}
 use Rattle.drafts.specs.declared.places.Role.{Role}
 use Rattle.drafts.specs.declared.places.Role.TheVariants as role
 
@@ -120,3 +122,31 @@ piece_letters p = letters p.text
 abbrev pub TextsAreWhole : Type 0
 TextsAreWhole = (p : PassageSaid) → All IsUtf8 p.lines
     → flat_map piece_letters (passage_pieces p) ≡ flat_map letters p.lines
+
+-- and those of a help, where no note is taken, all letters of its lines
+abbrev pub HelpsAreWhole : Type 0
+HelpsAreWhole = (lines : List (List ℕ)) → All IsUtf8 lines
+    → flat_map piece_letters (pieces_in (joined (codes "\n") lines)) ≡ flat_map letters lines
+
+-- what notes say stands in a text
+pub record AreNotesOf (text : List ℕ) (n : NotesSaid) : Type 0 where
+  pub preset : IfSome n.preset (IsTextOf text)
+  pub values : IfSome n.values (IsTextOf text)
+  pub env : IfSome n.env (IsTextOf text)
+
+-- what is left of a text begins it, and what the notes say stands behind that
+pub record IsCutOf (text : List ℕ) (c : CutSaid) : Type 0 where
+  pub rest : IsFront c.rest text
+  pub notes : AreNotesOf (drop (length c.rest) text) c.notes
+
+-- of a text that is UTF-8
+abbrev pub NotesStandAtTheEnd : Type 0
+NotesStandAtTheEnd = (text : List ℕ) → IsUtf8 text → IsCutOf text (cut text)
+
+-- what is written as the text of a help begins its lines, and what its notes say stands behind that
+pub record IsHelpOf (lines : List (List ℕ)) (h : HelpSaid) : Type 0 where
+  pub text : IsFront h.text (joined (codes "\n") lines)
+  pub notes : AreNotesOf (drop (length h.text) (joined (codes " ") lines)) h.notes
+
+abbrev pub HelpsStandInTheirLines : Type 0
+HelpsStandInTheirLines = (s : Subject) (lines : List (List ℕ)) → All IsUtf8 lines → IsHelpOf lines (help_said s lines)

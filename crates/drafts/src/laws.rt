@@ -2,7 +2,8 @@
 
 ghost use Rattle.drafts.specs.Laws.{EachHasAPlace, EachIsBelowItsTitle, EachIsPlaced, EachLineIsPlaced};
 ghost use Rattle.drafts.specs.Laws.{NamesAreFree, NoNameIsLost, OptionsStandInTheirLine, PassagesFollow};
-ghost use Rattle.drafts.specs.Laws.{FormsStandInTheirLine, TextsAreWhole, ValuesStandInTheirLine};
+ghost use Rattle.drafts.specs.Laws.{FormsStandInTheirLine, HelpsAreWhole, HelpsStandInTheirLines};
+ghost use Rattle.drafts.specs.Laws.{NotesStandAtTheEnd, TextsAreWhole, ValuesStandInTheirLine};
 
 use help_blocks::laws::each_line_is_in_a_block;
 
@@ -69,3 +70,20 @@ pub fn texts_are_whole()
     ensures { TextsAreWhole }
 {}
 
+/// The help of an entry, where no note is taken, is written with all letters of its lines, in order.
+#[tactic(auto, using(crate::proofs::KeptHelps::helps_are_whole))]
+pub fn helps_are_whole()
+    ensures { HelpsAreWhole }
+{}
+
+/// Notes are cut from the end of a text alone: what is left begins it, and what they say stands behind that.
+#[tactic(auto, using(crate::proofs::Noted::notes_stand_at_the_end))]
+pub fn notes_stand_at_the_end()
+    ensures { NotesStandAtTheEnd }
+{}
+
+/// What is written as the text of a help begins its lines, and what its notes say stands behind that.
+#[tactic(auto, using(crate::proofs::Noted::helps_stand_in_their_lines))]
+pub fn helps_stand_in_their_lines()
+    ensures { HelpsStandInTheirLines }
+{}
