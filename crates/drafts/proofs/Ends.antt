@@ -16,7 +16,7 @@ use Rattle.drafts.specs.Notes.{IsFront, NoteSaid, NotesSaid, after_last, behind,
 
 -- ---- fronts
 
-front_size : (text front : List ℕ) → IsFront front text → length front ≤ length text
+pub front_size : (text front : List ℕ) → IsFront front text → length front ≤ length text
 front_size text front e = let size : length front ≡ min (length front) (length text) = ap length e ∙ length-take (length front) text in omega (arith, size)
 
 pub take_front : (n : ℕ) (text : List ℕ) → IsFront (take n text) text
@@ -46,8 +46,8 @@ found_last c k text within here none =
     let after : after_last c text ≡ length text - (k + 1) = suffix_len_is (λ b. not (b == c)) text (k + 1) 0 (omega arith) (λ i above below. other (get_or text i 0) c (none i (omega arith) below)) (λ _. same (get_or text (k + 1 - 1) 0) c (ap (λ i. get_or text i 0) (omega arith) ∙ here)) in
     let start : length text - after_last c text - 1 ≡ k = omega (arith, after) in
     let end : length text - after_last c text ≡ k + 1 = omega (arith, after) in
-    cond-true _ _ _ (less (after_last c text) (length text) (omega (arith, after))) 
-    ∙ ap (λ n. Some (take n text , drop (length text - after_last c text) text)) start ∙ ap (λ n. Some (take k text , drop n text)) end
+    cond-true _ _ _ (less (after_last c text) (length text) (omega (arith, after)))
+    ∙ ap (λ n. Some (take n text, drop (length text - after_last c text) text)) start ∙ ap (λ n. Some (take k text, drop n text)) end
 
 pub none_last : (c : ℕ) (text : List ℕ) → ((i : ℕ) → i < length text → get_or text i 0 ≢ c) → split_last c text ≡ None
 none_last c text none =
@@ -76,7 +76,7 @@ pub cut_done : (most : ℕ) (text whole : List ℕ) (all : NotesSaid) → None �
 cut_done zero text whole all e some so_far = absurd (omega (arith, some))
 cut_done (suc n) text whole all e some so_far = ap (cut_by (cut_from n) text all) e ∙ so_far
 
-pub cut_more : (most : ℕ) (text before whole : List ℕ) (all : NotesSaid) (n : NoteSaid) → Some (before , n) ≡ last_note text → 0 < most → cut_from most text all ≡ cut whole → cut_from (most - 1) before (with_note all n) ≡ cut whole
+pub cut_more : (most : ℕ) (text before whole : List ℕ) (all : NotesSaid) (n : NoteSaid) → Some (before, n) ≡ last_note text → 0 < most → cut_from most text all ≡ cut whole → cut_from (most - 1) before (with_note all n) ≡ cut whole
 cut_more zero text before whole all n e some so_far = absurd (omega (arith, some))
 cut_more (suc k) text before whole all n e some so_far = ap (λ m. cut_from m before (with_note all n)) (omega arith) ∙ ap (cut_by (cut_from k) text all) e ∙ so_far
 
@@ -98,14 +98,22 @@ joined_same (l ∷ ls) =
     map-append flat (trim l) (flat_map (joined_line (codes "\n")) ls) ∙ ap (λ rest. map flat (trim l) ++ rest) (below_same ls)
     ∙ sym (map-append flat (trim l) (flat_map (joined_line (codes " ")) ls))
 
+pub joined_length : (ls : List (List ℕ)) → length (joined (codes "\n") ls) ≡ length (joined (codes " ") ls)
+joined_length ls =
+    let text = joined (codes "\n") ls in
+    let spaced = joined (codes " ") ls in
+    sym (length-map text flat) ∙ ap length (joined_same ls) ∙ length-map spaced flat
+
 same_start : (x y : ℕ) → flat x ≡ flat y → (128 ≤ y → 192 ≤ y) → 128 ≤ x → 192 ≤ x
 same_start x y e h large = grind (arith, nat_tests)
 
 same_boundary : (xs ys : List ℕ) (n : ℕ) → map flat xs ≡ map flat ys → IsCharBoundary ys n → IsCharBoundary xs n
 same_boundary xs ys n e h =
-    let size : length xs ≡ length ys = sym (length-map xs flat) ∙ ap length e ∙ length-map ys flat in
-    (omega (arith, h.0, size), λ below large. same_start (get_or xs n 0) (get_or ys n 0)
-    (sym (get_or-map flat xs n 0 0 below) ∙ ap (λ bs. get_or bs n 0) e ∙ get_or-map flat ys n 0 0 (omega (arith, size))) (h.1 (omega (arith, size))) large)
+    let size : length xs ≡ length ys = sym (length-map xs flat) ∙ ap length e ∙ length-map ys flat in (
+      omega (arith, h.0, size),
+      λ below large. same_start (get_or xs n 0) (get_or ys n 0)
+          (sym (get_or-map flat xs n 0 0 below) ∙ ap (λ bs. get_or bs n 0) e ∙ get_or-map flat ys n 0 0 (omega (arith, size))) (h.1 (omega (arith, size))) large,
+    )
 
 -- what is cut of lines with blanks between may be cut of them with newlines
 pub help_cut : (ls : List (List ℕ)) (text spaced rest : List ℕ) → text ≡ joined (codes "\n") ls → spaced ≡ joined (codes " ") ls → IsFront rest spaced → IsUtf8 spaced → IsUtf8 rest → IsCharBoundary text (length rest)

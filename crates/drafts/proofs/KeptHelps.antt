@@ -21,26 +21,26 @@ use Rattle.drafts.proofs.Trims.{is_nothing, trimmed}
 letters_append : (xs ys : List ℕ) → IsUtf8 xs → letters (xs ++ ys) ≡ letters xs ++ letters ys
 letters_append xs ys u = ap (filter is_not_whitespace) (chars-append xs ys u) ∙ filter-append is_not_whitespace (chars xs) (chars ys)
 
-newline_utf8 : IsUtf8 (10 ∷ [])
-newline_utf8 = IsUtf8-from_ascii (10 ∷ []) (IsAscii-cons 10 [] (omega arith) IsAscii-nil)
+byte_utf8 : (b : ℕ) → b < 128 → IsUtf8 (b ∷ [])
+byte_utf8 b ascii = IsUtf8-from_ascii (b ∷ []) (IsAscii-cons b [] ascii IsAscii-nil)
 
 -- a newline is no letter
 behind_newline : (text : List ℕ) → letters (10 ∷ text) ≡ letters text
 behind_newline text =
-    letters_append (10 ∷ []) text newline_utf8 ∙ ap (λ cs. filter is_not_whitespace cs ++ letters text) (chars-IsAscii (10 ∷ []) (IsAscii-cons 10 [] (omega arith) IsAscii-nil))
+    letters_append (10 ∷ []) text (byte_utf8 10 (omega arith)) ∙ ap (λ cs. filter is_not_whitespace cs ++ letters text) (chars-IsAscii (10 ∷ []) (IsAscii-cons 10 [] (omega arith) IsAscii-nil))
 
 -- ---- what is joined
 
-below_utf8 : (ls : List (List ℕ)) → All IsUtf8 ls → IsUtf8 (flat_map (joined_line (codes "\n")) ls)
-below_utf8 [] u = IsUtf8-nil
-below_utf8 (l ∷ ls) u =
-    IsUtf8-append (10 ∷ trim l) (flat_map (joined_line (codes "\n")) ls) (IsUtf8-append (10 ∷ []) (trim l) newline_utf8 (trimmed l (All-head IsUtf8 l ls u)).utf8)
-    (below_utf8 ls (All-tail IsUtf8 l ls u))
+below_utf8 : (b : ℕ) → b < 128 → (ls : List (List ℕ)) → All IsUtf8 ls → IsUtf8 (flat_map (joined_line (b ∷ [])) ls)
+below_utf8 b ascii [] u = IsUtf8-nil
+below_utf8 b ascii (l ∷ ls) u =
+    IsUtf8-append (b ∷ trim l) (flat_map (joined_line (b ∷ [])) ls) (IsUtf8-append (b ∷ []) (trim l) (byte_utf8 b ascii) (trimmed l (All-head IsUtf8 l ls u)).utf8)
+    (below_utf8 b ascii ls (All-tail IsUtf8 l ls u))
 
-joined_utf8 : (ls : List (List ℕ)) → All IsUtf8 ls → IsUtf8 (joined (codes "\n") ls)
-joined_utf8 [] u = IsUtf8-nil
-joined_utf8 (l ∷ ls) u =
-    IsUtf8-append (trim l) (flat_map (joined_line (codes "\n")) ls) (trimmed l (All-head IsUtf8 l ls u)).utf8 (below_utf8 ls (All-tail IsUtf8 l ls u))
+pub joined_utf8 : (b : ℕ) → b < 128 → (ls : List (List ℕ)) → All IsUtf8 ls → IsUtf8 (joined (b ∷ []) ls)
+joined_utf8 b ascii [] u = IsUtf8-nil
+joined_utf8 b ascii (l ∷ ls) u =
+    IsUtf8-append (trim l) (flat_map (joined_line (b ∷ [])) ls) (trimmed l (All-head IsUtf8 l ls u)).utf8 (below_utf8 b ascii ls (All-tail IsUtf8 l ls u))
 
 below_whole : (ls : List (List ℕ)) → All IsUtf8 ls → letters (flat_map (joined_line (codes "\n")) ls) ≡ flat_map letters ls
 below_whole [] u = ap (filter is_not_whitespace) chars-nil
@@ -88,6 +88,7 @@ parts_whole zero text fits u = absurd (omega (arith, fits))
 parts_whole (suc most) text fits u = by (cases_lt k (length text)) (λ rest smaller v. parts_whole most rest (omega (arith, fits, smaller)) v) where
   k : ℕ
   k = position_or_len is_newline text
+
   by : (k < length text) ⊎ (length text ≤ k) → ((rest : List ℕ) → length rest < length text → IsUtf8 rest → ArePartsOf rest (slice_split is_newline rest)) → ArePartsOf text (slice_split is_newline text)
   by (inl within) more =
       subst (ArePartsOf text) (sym (slice_split_first is_newline text 0 within))
@@ -100,8 +101,9 @@ pub helps_are_whole : HelpsAreWhole
 helps_are_whole ls utf8 = by (length text == 0) refl ∙ joined_whole ls utf8 where
   text : List ℕ
   text = joined (codes "\n") ls
+
   by : (t : Bool) → (length text == 0) ≡ t → flat_map piece_letters (cond t [] (map (prose_piece lead.Line) (slice_split is_newline text))) ≡ letters text
   by true e = sym (ap letters (nil_from_length text (is_nothing (length text) e)) ∙ ap (filter is_not_whitespace) chars-nil)
   by false e =
-      let parts = parts_whole (length text + 1) text (omega arith) (joined_utf8 ls utf8) in
+      let parts = parts_whole (length text + 1) text (omega arith) (joined_utf8 10 (omega arith) ls utf8) in
       each_line (prose_piece lead.Line) (λ l u. (trimmed l u).whole) (slice_split is_newline text) parts.utf8 ∙ parts.whole

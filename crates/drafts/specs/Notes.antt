@@ -29,7 +29,7 @@ after_last bracket text = suffix_len (λ b. not (b == bracket)) text
 abbrev pub split_last : (bracket : ℕ) → List ℕ → Option (List ℕ × List ℕ)
 split_last bracket text =
     if nat_lt (after_last bracket text) (length text)
-    then Some (take (length text - after_last bracket text - 1) text , drop (length text - after_last bracket text) text)
+    then Some (take (length text - after_last bracket text - 1) text, drop (length text - after_last bracket text) text)
     else None
 
 abbrev pub before : (closing : ℕ) → List ℕ → Option (List ℕ)
@@ -84,14 +84,14 @@ bare_default inner = option_map (note_of note.Default) (unquoted_in (behind (cod
 abbrev pub note_in : (inner : List ℕ) → Option NoteSaid
 note_in inner =
     option_or (option_or (option_or (note_of_kind note.Default inner) (note_of_kind note.Values inner)) (note_of_kind note.Env inner))
-        (bare_default inner)
+    (bare_default inner)
 
 abbrev pub note_after : (before : List ℕ) → Option NoteSaid → Option (List ℕ × NoteSaid)
-note_after before n = option_map (λ found. (trim_end before , found)) n
+note_after before n = option_map (λ found. (trim_end before, found)) n
 
 abbrev pub note_at_end : Option (List ℕ × List ℕ) → Option (List ℕ × NoteSaid)
 note_at_end None = None
-note_at_end (Some (before , inner)) = note_after before (note_in inner)
+note_at_end (Some (before, inner)) = note_after before (note_in inner)
 
 -- the note that a text ends with, and what stands before it
 abbrev pub last_note : List ℕ → Option (List ℕ × NoteSaid)
@@ -132,7 +132,7 @@ pub record CutSaid : Type 0 where
 
 abbrev pub cut_by : (more : List ℕ → NotesSaid → CutSaid) → (text : List ℕ) → NotesSaid → Option (List ℕ × NoteSaid) → CutSaid
 cut_by more text all None = record { rest = text; notes = all }
-cut_by more text all (Some (before , n)) = more before (with_note all n)
+cut_by more text all (Some (before, n)) = more before (with_note all n)
 
 -- at most so many
 abbrev pub cut_from : (most : ℕ) → (text : List ℕ) → NotesSaid → CutSaid

@@ -67,13 +67,13 @@ abbrev pub stray_said : Stray → StraySaid
 stray_said s = record { is_letter = s.is_letter; text = s.text.now }
 
 abbrev pub split_said : Option (Bor (List ℕ) × Bor (List ℕ)) → Option (List ℕ × List ℕ)
-split_said found = option_map (λ p. (p.0.now , p.1.now)) found
+split_said found = option_map (λ p. (p.0.now, p.1.now)) found
 
 abbrev pub note_said : Note → NoteSaid
 note_said n = record { kind = n.kind; text = n.text.now }
 
 abbrev pub ended_said : Option (Bor (List ℕ) × Note) → Option (List ℕ × NoteSaid)
-ended_said found = option_map (λ p. (p.0.now , note_said p.1)) found
+ended_said found = option_map (λ p. (p.0.now, note_said p.1)) found
 
 abbrev pub notes_said : Notes → NotesSaid
 notes_said n = record {

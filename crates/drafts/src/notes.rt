@@ -322,11 +322,7 @@ fn push_below<A: Allocator>(
 }
 
 // The lines without their indent, with a text between two.
-fn joined<A: Allocator>(
-    alloc: A,
-    between: &str,
-    lines: &[&str],
-) -> Result<String<A>, AllocError>
+fn joined<A: Allocator>(alloc: A, between: &str, lines: &[&str]) -> Result<String<A>, AllocError>
     ensures { IfOk result (λ text. string_bytes text ≡ spec.joined between.now (map (λ line. line.now) lines.now)) }
 {
     let mut text = String::new(alloc);

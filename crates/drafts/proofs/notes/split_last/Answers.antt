@@ -9,5 +9,5 @@ returns-in-None-clause-value c = sym (none_last c.args.bracket c.args.text.now (
 pub returns-in-Some-clause-value : goal.returns-in-Some-clause-value
 returns-in-Some-clause-value c =
     let found = rfind_char c.args.bracket c.args.text.now (Some c.in-Some.index) c.in-Some.ensures.cases c.requires in
-    ap (λ front. Some (front , c.range_from.result.now)) (c.range.ensures.value ∙ ap (λ n. take n c.args.text.now) (omega arith)) ∙ ap (λ rest. Some (take c.in-Some.index c.args.text.now , rest)) c.range_from.ensures.value
+    ap (λ front. Some (front, c.range_from.result.now)) (c.range.ensures.value ∙ ap (λ n. take n c.args.text.now) (omega arith)) ∙ ap (λ rest. Some (take c.in-Some.index c.args.text.now, rest)) c.range_from.ensures.value
     ∙ sym (found_last c.args.bracket c.in-Some.index c.args.text.now found.0 found.1 found.2)
