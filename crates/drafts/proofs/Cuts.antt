@@ -9,7 +9,7 @@ use Rattle.drafts.specs.Options.{is_long, is_short}
 use Rattle.drafts.specs.Usages.{has_or}
 
 -- a byte that is not 0 stands in the text
-stands : (bs : List ℕ) (i b : ℕ) → get_or bs i 0 ≡ b → 0 < b → i < length bs
+pub stands : (bs : List ℕ) (i b : ℕ) → get_or bs i 0 ≡ b → 0 < b → i < length bs
 stands [] i b e h = absurd (omega arith)
 stands (x ∷ bs) zero b e h = omega arith
 stands (x ∷ bs) (suc i) b e h = let below : i < length bs = stands bs i b e h in omega arith

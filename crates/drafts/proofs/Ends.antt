@@ -1,7 +1,6 @@
 -- Texts that are cut at their end.
 use Rattle.std.proofs.Common.{◌≡◌, ℕ, zero, suc, ◌+◌, ◌-◌, ◌<◌, ◌≤◌, ◌≢◌, Bool, true, false, cond, List, [], ◌∷◌, ◌++◌, Bor, MatchOption, None, Some, Option, codes, drop, flat_map, get_or, length, map, take, refl, sym, ap, ◌∙◌, subst, arith}
-use Rattle.std.specs.Prelude.{◌==◌, bytes_eq, min, nat_lt, not}
-use Rattle.std.specs.List.{suffix_len}
+use Rattle.std.specs.Prelude.{◌==◌, min, nat_lt, not}
 use Rattle.std.specs.Str.{IsCharBoundary, IsUtf8, trim}
 use Rattle.std.specs.Str.Pattern.{FindsTextPrefix, StripsPrefix}
 use Rattle.std.proofs.Math.Seq.{take-append_seam}

@@ -1,5 +1,5 @@
 -- Pieces of a help have all letters of its lines.
-use Rattle.std.proofs.Common.{◌≡◌, ℕ, zero, suc, ◌+◌, ◌-◌, ◌<◌, ◌≤◌, Bool, true, false, cond, ◌⊎◌, inl, inr, List, [], ◌∷◌, ◌++◌, All, codes, drop, filter, flat_map, get_or, length, map, take, refl, sym, ap, ◌∙◌, subst, arith}
+use Rattle.std.proofs.Common.{◌≡◌, ℕ, zero, suc, ◌+◌, ◌<◌, ◌≤◌, Bool, true, false, cond, ◌⊎◌, inl, inr, List, [], ◌∷◌, ◌++◌, All, codes, drop, filter, flat_map, get_or, length, map, take, refl, sym, ap, ◌∙◌, subst, arith}
 use Rattle.std.specs.Prelude.{◌==◌, chars}
 use Rattle.std.specs.Char.{is_not_whitespace}
 use Rattle.std.specs.List.{position_or_len, slice_split}
@@ -8,7 +8,7 @@ use Rattle.std.proofs.lemmas.Bool.{cases_lt, eqb-true}
 use Rattle.std.proofs.lemmas.List.{append-nil, length-drop, nil_from_length}
 use Rattle.std.proofs.lemmas.List.Elements.{filter-append, All-cons, All-head, All-nil, All-tail}
 use Rattle.std.proofs.lemmas.List.Splits.{slice_split_first, slice_split_none}
-use Rattle.std.proofs.lemmas.List.Sums.{fails_before_first, passes_at_first, prefix_len-le-length, split_at_first}
+use Rattle.std.proofs.lemmas.List.Sums.{fails_before_first, passes_at_first, split_at_first}
 use Rattle.std.proofs.lemmas.Str.Ascii.{IsAscii-cons, IsAscii-nil}
 use Rattle.std.proofs.lemmas.Str.{IsCharBoundary-after_ascii, IsCharBoundary-before_ascii, IsUtf8-append, IsUtf8-drop, IsUtf8-from_ascii, IsUtf8-nil, IsUtf8-take, chars-append, chars-IsAscii, chars-nil}
 use Rattle.toml_pieces.specs.declared.toml.Lead.TheVariants as lead
@@ -97,13 +97,13 @@ parts_whole (suc most) text fits u = by (cases_lt k (length text)) (λ rest smal
   by (inr none) more =
       subst (ArePartsOf text) (sym (slice_split_none is_newline text (λ i d below. fails_before_first is_newline text i d (omega (arith, none, below))))) (only_part text u)
 
-pub helps_are_whole : HelpsAreWhole
-helps_are_whole ls utf8 = by (length text == 0) refl ∙ joined_whole ls utf8 where
-  text : List ℕ
-  text = joined (codes "\n") ls
-
+pub pieces_whole : (text : List ℕ) → IsUtf8 text → flat_map piece_letters (pieces_in text) ≡ letters text
+pieces_whole text u = by (length text == 0) refl where
   by : (t : Bool) → (length text == 0) ≡ t → flat_map piece_letters (cond t [] (map (prose_piece lead.Line) (slice_split is_newline text))) ≡ letters text
   by true e = sym (ap letters (nil_from_length text (is_nothing (length text) e)) ∙ ap (filter is_not_whitespace) chars-nil)
   by false e =
-      let parts = parts_whole (length text + 1) text (omega arith) (joined_utf8 10 (omega arith) ls utf8) in
-      each_line (prose_piece lead.Line) (λ l u. (trimmed l u).whole) (slice_split is_newline text) parts.utf8 ∙ parts.whole
+      let parts = parts_whole (length text + 1) text (omega arith) u in
+      each_line (prose_piece lead.Line) (λ l v. (trimmed l v).whole) (slice_split is_newline text) parts.utf8 ∙ parts.whole
+
+pub helps_are_whole : HelpsAreWhole
+helps_are_whole ls utf8 = pieces_whole (joined (codes "\n") ls) (joined_utf8 10 (omega arith) ls utf8) ∙ joined_whole ls utf8

@@ -1,5 +1,5 @@
 -- Pieces of a text have all letters of the lines.
-use Rattle.std.proofs.Common.{◌≡◌, ℕ, zero, suc, ◌+◌, ◌<◌, ◌≤◌, Bool, true, false, cond, List, [], ◌∷◌, ◌++◌, All, drop, filter, flat_map, get_or, length, map, take, refl, sym, ap, ◌∙◌, subst, arith}
+use Rattle.std.proofs.Common.{◌≡◌, ℕ, zero, suc, ◌+◌, ◌≤◌, Bool, true, false, cond, List, [], ◌∷◌, ◌++◌, All, drop, filter, flat_map, map, take, refl, sym, ap, ◌∙◌, arith}
 use Rattle.std.specs.Prelude.{chars, min}
 use Rattle.std.specs.Char.{is_not_whitespace, is_whitespace}
 use Rattle.std.specs.List.{prefix_len}

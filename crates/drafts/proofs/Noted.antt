@@ -1,29 +1,27 @@
--- Notes stand behind what is left of a text.
-use Rattle.std.proofs.Common.{◌≡◌, ℕ, zero, suc, ◌+◌, ◌-◌, ◌<◌, ◌≤◌, Bool, true, false, cond, List, [], ◌∷◌, ◌++◌, All, IfSome, Option, None, Some, bytes_eq, codes, drop, flat_map, get_or, length, map, reverse, take, refl, sym, ap, ◌∙◌, subst, arith}
-use Rattle.std.specs.Prelude.{◌==◌, encode_utf8_all, min, nat_lt, not}
-use Rattle.std.specs.List.{list_any, prefix_len, slice_index, suffix_len}
+-- What is cut of a text is notes.
+use Rattle.std.proofs.Common.{◌≡◌, ℕ, zero, suc, ◌+◌, ◌-◌, ◌<◌, ◌≤◌, inl, inr, Bool, true, false, cond, List, [], ◌∷◌, ◌++◌, IfSome, Option, None, Some, append_assoc, bytes_eq, codes, drop, drop-cons, get_or, length, reverse, take, refl, sym, ap, ◌∙◌, subst, arith}
+use Rattle.std.specs.Prelude.{◌==◌, min, nat_lt, not}
+use Rattle.std.specs.List.{list_any, slice_index}
 use Rattle.std.specs.Option.{option_map, option_or}
 use Rattle.std.specs.Str.{IsCharBoundary, IsUtf8, trim, trim_end}
+use Rattle.std.proofs.Math.Seq.{drop-append_seam, take-append_seam}
 use Rattle.std.proofs.lemmas.Bool.{eqb-true}
 use Rattle.std.proofs.lemmas.Bool.Decides.{nat_tests}
-use Rattle.std.proofs.lemmas.List.{drop-drop, drop-take, get_or-reverse, get_or-take, length-map, length-reverse, length-take, take_all}
-use Rattle.std.proofs.lemmas.List.Elements.{All-head, All-tail}
+use Rattle.std.proofs.lemmas.List.{append-nil, drop_all, get_or-reverse, get_or-take, length-append, length-reverse, length-take, nil_from_length, take-append-drop, take_all}
 use Rattle.std.proofs.lemmas.List.Sums.{prefix_len_stops}
 use Rattle.std.proofs.lemmas.Slice.Eq.{bytes_eq-Decides}
 use Rattle.std.proofs.lemmas.Str.{IsCharBoundary-after_ascii, IsCharBoundary-before_ascii, IsUtf8-drop, IsUtf8-take}
 use Rattle.help_fronts.specs.Laws.{IsTextOf}
-use Rattle.help_fronts.proofs.Texts.{dropped, itself, taken, within}
+use Rattle.help_fronts.proofs.Texts.{at_end, at_front, dropped, itself, taken, within}
 use Rattle.drafts.specs.Seen.{last}
-use Rattle.drafts.specs.Notes.{CutSaid, HelpSaid, IsFront, NoteSaid, NotesSaid, after_last, bare_default, before, behind, bracketed, cut, cut_by, cut_from, fit, help_by, help_said, helped, is_space, joined, last_note, no_notes, note_after, note_at_end, note_in, note_of, note_of_kind, opening, split_last, split_open, unquoted, unquoted_in, variable, with_note, with_text, without_last}
+use Rattle.drafts.specs.Notes.{CutSaid, IsFront, NoteSaid, NotesSaid, after_last, bare_default, before, behind, bracketed, cut, cut_by, cut_from, fit, helped, is_space, joined, last_note, no_notes, note_at_end, note_in, note_of, note_of_kind, opening, split_last, split_open, unquoted, unquoted_in, variable, with_note, with_text, without_last}
 use Rattle.drafts.specs.declared.notes.NoteKind.{NoteKind}
 use Rattle.drafts.specs.declared.notes.NoteKind.TheVariants as note
-use Rattle.drafts.specs.declared.notes.Subject.{Subject}
-use Rattle.drafts.specs.Laws.{AreNotesOf, HelpsStandInTheirLines, IsCutOf, IsHelpOf, NotesStandAtTheEnd}
-use Rattle.drafts.proofs.Boundaries.{before_small}
-use Rattle.drafts.proofs.Cuts.{quote_cut}
-use Rattle.drafts.proofs.Ends.{front_front, front_size, joined_length, take_front}
-use Rattle.drafts.proofs.KeptHelps.{joined_utf8}
-use Rattle.drafts.proofs.Trims.{end_front, end_trimmed, trimmed}
+use Rattle.drafts.specs.Laws.{AreNotesOf, HelpsStandInTheirLines, IsHelpOf, IsInBrackets, IsNoteText, NotesStandAtTheEnd, all_said}
+use Rattle.drafts.proofs.Cuts.{quote_cut, stands}
+use Rattle.drafts.proofs.Ends.{help_cut, joined_length, take_front}
+use Rattle.drafts.proofs.KeptHelps.{joined_utf8, pieces_whole}
+use Rattle.drafts.proofs.Trims.{IsEndOf, end_left, end_trimmed, trimmed}
 
 -- ---- what may be missing
 
@@ -39,47 +37,39 @@ weaker : {X : Type 0} (P Q : X → Type 0) → ((x : X) → P x → Q x) → (o 
 weaker P Q more None h = tt
 weaker P Q more (Some x) h = more x h
 
--- ---- texts behind a place
-
-abbrev StandsBehind : (text front found : List ℕ) → Type 0
-StandsBehind text front found = IsTextOf (drop (length front) text) found
-
--- behind a place before that
-from_before : (m n : ℕ) (text found : List ℕ) → m ≤ n → IsTextOf (drop n text) found → IsTextOf (drop m text) found
-from_before m n text found fits h =
-    within (drop m text) (drop n text) found (subst (IsTextOf (drop m text)) (drop-drop (n - m) m text ∙ ap (λ k. drop k text) (omega (arith, fits))) (dropped (n - m) (drop m text))) h
-
--- in a text that the other begins
-in_longer : (n : ℕ) (front text found : List ℕ) → n ≤ length front → IsFront front text → IsTextOf (drop n front) found → IsTextOf (drop n text) found
-in_longer n front text found fits e h =
-    let m = length front - n in
-    let same : drop n front ≡ take m (drop n text) = ap (drop n) (e ∙ ap (λ k. take k text) (omega (arith, fits))) ∙ drop-take n m text in
-    within (drop n text) (drop n front) found (subst (IsTextOf (drop n text)) (sym same) (taken m (drop n text))) h
-
--- a front of a text, in UTF-8
-record IsUtf8Front (text start : List ℕ) : Type 0 where
-  front : IsFront start text
-  utf8 : IsUtf8 start
-
-cut_front : (n : ℕ) (text : List ℕ) → IsUtf8 text → IsCharBoundary text n → IsUtf8Front text (take n text)
-cut_front n text u h = record { front = take_front n text; utf8 = IsUtf8-take text n u h }
+-- what is there, where it is said
+there : {X : Type 0} (P : X → Type 0) (o : Option X) → IfSome o P → IfSome o (λ x. P x × (o ≡ Some x))
+there P None h = tt
+there P (Some x) h = (h, refl)
 
 -- ---- brackets
 
--- a front, and what stands in the brackets behind it
-record IsBracketed (text start inner : List ℕ) : Type 0 where
-  front : IsUtf8Front text start
-  utf8 : IsUtf8 inner
-  stands : StandsBehind text start inner
+-- a text that ends with a byte, without it
+record IsClosed (text start : List ℕ) (closing : ℕ) : Type 0 where
+  utf8 : IsUtf8 start
+  whole : text ≡ start ++ (closing ∷ [])
 
-abbrev AreBracketed : (text : List ℕ) → List ℕ × List ℕ → Type 0
-AreBracketed text s = IsBracketed text s.0 s.1
+closed_by : (closing : ℕ) (text : List ℕ) → 0 < closing → closing < 128 → last text ≡ closing → IsUtf8 text → IsClosed text (without_last text) closing
+closed_by closing text some ascii here u =
+    let n = length text - 1 in
+    let below : n < length text = stands text n closing here some in
+    let end : drop n text ≡ closing ∷ [] = drop-cons text n 0 below ∙ ap (λ b. b ∷ drop (suc n) text) here ∙ ap (λ t. closing ∷ t) (drop_all (suc n) text (omega arith)) in
+    record {
+      utf8 = IsUtf8-take text n u (IsCharBoundary-before_ascii text n below (omega (arith, here, ascii)));
+      whole = sym (take-append-drop n text) ∙ ap (λ t. take n text ++ t) end;
+    }
 
-closed : (closing : ℕ) (text : List ℕ) → closing < 128 → IsUtf8 text → IfSome (before closing text) (IsUtf8Front text)
-closed closing text ascii u = by (last text == closing) refl where
-  by : (t : Bool) → (last text == closing) ≡ t → IfSome (cond t (Some (without_last text)) None) (IsUtf8Front text)
-  by true e = let here = eqb-true (last text) closing e in cut_front (length text - 1) text u (before_small text (length text - 1) (omega arith) (λ _. omega (arith, here, ascii)))
+closed : (closing : ℕ) (text : List ℕ) → 0 < closing → closing < 128 → IsUtf8 text → IfSome (before closing text) (λ start. IsClosed text start closing)
+closed closing text some ascii u = by (last text == closing) refl where
+  by : (t : Bool) → (last text == closing) ≡ t → IfSome (cond t (Some (without_last text)) None) (λ start. IsClosed text start closing)
+  by true e = closed_by closing text some ascii (eqb-true (last text) closing e) u
   by false e = tt
+
+-- what stands before an opening bracket, and behind it
+record IsOpened (text start inner : List ℕ) (bracket : ℕ) : Type 0 where
+  utf8 : IsUtf8 start
+  inner_utf8 : IsUtf8 inner
+  whole : text ≡ start ++ (bracket ∷ inner)
 
 no_other : (x c : ℕ) → not (x == c) ≡ false → x ≡ c
 no_other x c h = grind (arith, nat_tests)
@@ -92,47 +82,68 @@ last_is c text h =
     no_other (get_or text (length text - 1 - after_last c text) 0) c
     (ap (λ b. not (b == c)) (sym (get_or-reverse text (after_last c text) 0 h)) ∙ prefix_len_stops (λ b. not (b == c)) (reverse text) 0 (omega (arith, h, length-reverse text)))
 
--- before an opening bracket, and behind it
-opened_at : (n : ℕ) (text : List ℕ) → IsUtf8 text → n < length text → get_or text n 0 < 128 → IsBracketed text (take n text) (drop (n + 1) text)
-opened_at n text u within ascii =
-    let size : length (take n text) ≡ n = omega (arith, within, length-take n text) in
+opened_at : (bracket n m : ℕ) (text : List ℕ) → m ≡ n + 1 → IsUtf8 text → n < length text → get_or text n 0 ≡ bracket → bracket < 128 → IsOpened text (take n text) (drop m text) bracket
+opened_at bracket n m text e u below here ascii =
+    let next : suc n ≡ m = omega (arith, e) in
+    let end : drop n text ≡ bracket ∷ drop m text = drop-cons text n 0 below ∙ ap (λ b. b ∷ drop (suc n) text) here ∙ ap (λ k. bracket ∷ drop k text) next in
     record {
-      front = cut_front n text u (IsCharBoundary-before_ascii text n within ascii);
-      utf8 = IsUtf8-drop text (n + 1) u (IsCharBoundary-after_ascii text n u within ascii);
-      stands = from_before (length (take n text)) (n + 1) text (drop (n + 1) text) (omega (arith, size)) (itself (drop (n + 1) text));
+      utf8 = IsUtf8-take text n u (IsCharBoundary-before_ascii text n below (omega (arith, here, ascii)));
+      inner_utf8 = IsUtf8-drop text m u (subst (IsCharBoundary text) (sym e) (IsCharBoundary-after_ascii text n u below (omega (arith, here, ascii))));
+      whole = sym (take-append-drop n text) ∙ ap (λ t. take n text ++ t) end;
     }
 
-opened : (bracket : ℕ) (text : List ℕ) → bracket < 128 → IsUtf8 text → IfSome (split_last bracket text) (AreBracketed text)
+opened : (bracket : ℕ) (text : List ℕ) → bracket < 128 → IsUtf8 text → IfSome (split_last bracket text) (λ s. IsOpened text s.0 s.1 bracket)
 opened bracket text ascii u = by (nat_lt (after_last bracket text) (length text)) refl where
   k : ℕ
   k = after_last bracket text
 
-  by : (t : Bool) → nat_lt k (length text) ≡ t → IfSome {T = List ℕ × List ℕ} (cond t (Some (take (length text - k - 1) text, drop (length text - k) text)) None) (AreBracketed text)
+  by : (t : Bool) → nat_lt k (length text) ≡ t → IfSome {T = List ℕ × List ℕ} (cond t (Some (take (length text - k - 1) text, drop (length text - k) text)) None) (λ s. IsOpened text s.0 s.1 bracket)
   by true e =
       let below : k < length text = is_less k (length text) e in
       let place : length text - k - 1 ≡ length text - 1 - k = omega arith in
       let here : get_or text (length text - k - 1) 0 ≡ bracket = ap (λ i. get_or text i 0) place ∙ last_is bracket text below in
-      subst (λ m. IsBracketed text (take (length text - k - 1) text) (drop m text)) (omega (arith, below))
-      (opened_at (length text - k - 1) text u (omega (arith, below)) (omega (arith, here, ascii)))
+      opened_at bracket (length text - k - 1) (length text - k) text (omega (arith, below)) u (omega (arith, below)) here ascii
   by false e = tt
 
-bracketed_in : (text front : List ℕ) → IsUtf8Front text front → (s : List ℕ × List ℕ) → AreBracketed front s → AreBracketed text s
-bracketed_in text front f s h = record {
-  front = record { front = front_front s.0 front text h.front.front f.front; utf8 = h.front.utf8 };
-  utf8 = h.utf8;
-  stands = in_longer (length s.0) front text s.1 (front_size front s.0 h.front.front) f.front h.stands;
+-- what stands before the brackets that a text ends with, and in them
+record IsBracketed (text start inner : List ℕ) : Type 0 where
+  utf8 : IsUtf8 start
+  inner_utf8 : IsUtf8 inner
+  brackets : List ℕ
+  whole : text ≡ start ++ brackets
+  in_brackets : IsInBrackets brackets inner
+
+abbrev AreBracketed : (text : List ℕ) → List ℕ × List ℕ → Type 0
+AreBracketed text s = IsBracketed text s.0 s.1
+
+abbrev between : (bracket closing : ℕ) (inner : List ℕ) → List ℕ
+between bracket closing inner = bracket ∷ (inner ++ (closing ∷ []))
+
+both : (bracket closing : ℕ) (text front : List ℕ) → ((inner : List ℕ) → IsInBrackets (between bracket closing inner) inner) → IsClosed text front closing → (s : List ℕ × List ℕ) → IsOpened front s.0 s.1 bracket
+    → AreBracketed text s
+both bracket closing text front are h s g = record {
+  utf8 = g.utf8;
+  inner_utf8 = g.inner_utf8;
+  brackets = between bracket closing s.1;
+  whole = h.whole ∙ ap (λ t. t ++ (closing ∷ [])) g.whole ∙ append_assoc s.0 (bracket ∷ s.1) (closing ∷ []);
+  in_brackets = are s.1;
 }
 
-between : (bracket closing : ℕ) (text : List ℕ) → bracket < 128 → closing < 128 → IsUtf8 text → IfSome (split_open bracket (before closing text)) (AreBracketed text)
-between bracket closing text ascii small u = by (before closing text) (closed closing text small u) where
-  by : (o : Option (List ℕ)) → IfSome o (IsUtf8Front text) → IfSome (split_open bracket o) (AreBracketed text)
+bracketed_by : (bracket closing : ℕ) (text : List ℕ) → bracket < 128 → 0 < closing → closing < 128 → ((inner : List ℕ) → IsInBrackets (between bracket closing inner) inner) → IsUtf8 text
+    → IfSome (split_open bracket (before closing text)) (AreBracketed text)
+bracketed_by bracket closing text ascii some small are u = by (before closing text) (closed closing text some small u) where
+  by : (o : Option (List ℕ)) → IfSome o (λ start. IsClosed text start closing) → IfSome (split_open bracket o) (AreBracketed text)
   by None h = tt
-  by (Some front) h = weaker (AreBracketed front) (AreBracketed text) (bracketed_in text front h) (split_last bracket front) (opened bracket front ascii h.utf8)
+  by (Some front) h = weaker (λ s. IsOpened front s.0 s.1 bracket) (AreBracketed text) (both bracket closing text front are h) (split_last bracket front) (opened bracket front ascii h.utf8)
 
 brackets : (text : List ℕ) → IsUtf8 text → IfSome (bracketed text) (AreBracketed text)
 brackets text u =
-    or_else (AreBracketed text) (split_open 91 (before 93 text)) (split_open 40 (before 41 text)) (between 91 93 text (omega arith) (omega arith) u)
-    (between 40 41 text (omega arith) (omega arith) u)
+    or_else (AreBracketed text) (split_open 91 (before 93 text)) (split_open 40 (before 41 text))
+    (bracketed_by 91 93 text (omega arith) (omega arith) (omega arith) (λ inner. inl refl) u) (bracketed_by 40 41 text (omega arith) (omega arith) (omega arith) (λ inner. inr refl) u)
+
+within_brackets : (text inner : List ℕ) → IsInBrackets text inner → IsTextOf text inner
+within_brackets text inner (inl e) = record { before = codes "["; after = codes "]"; whole = e }
+within_brackets text inner (inr e) = record { before = codes "("; after = codes ")"; whole = e }
 
 -- ---- what stands in brackets
 
@@ -170,13 +181,19 @@ of_kind note.Default text u = noted_all note.Default text (behind (opening note.
 of_kind note.Values text u = noted_all note.Values text (behind (opening note.Values) text) (begun (opening note.Values) text (omega arith) refl u)
 of_kind note.Env text u = noted_all note.Env text (behind (opening note.Env) text) (begun (opening note.Env) text (omega arith) refl u)
 
+quoted : (text own : List ℕ) → own ≡ drop 1 text → (found : List ℕ) → IsClosed own found 34 → IsUtf8TextOf text found
+quoted text own e found h = record {
+  stands = within text own found (subst (IsTextOf text) (sym e) (dropped 1 text)) (subst (λ t. IsTextOf t found) (sym h.whole) (at_front found (34 ∷ [])));
+  utf8 = h.utf8;
+}
+
 bare_text : (text : List ℕ) → IsUtf8 text → IfSome (unquoted text) (IsUtf8TextOf text)
 bare_text text u = by (slice_index text 0 == 34) refl (list_any is_space text) where
   by : (t : Bool) → (slice_index text 0 == 34) ≡ t → (s : Bool) → IfSome (cond t (before 34 (drop 1 text)) (cond s None (Some text))) (IsUtf8TextOf text)
   by true e s =
       let own = drop 1 text in
-      weaker (IsUtf8Front own) (IsUtf8TextOf text) (λ found h. record { stands = within text own found (dropped 1 text) (subst (IsTextOf own) (sym h.front) (taken (length found) own)); utf8 = h.utf8 })
-      (before 34 own) (closed 34 own (omega arith) (IsUtf8-drop text 1 u (quote_cut text (eqb-true (slice_index text 0) 34 e) u)))
+      weaker (λ found. IsClosed own found 34) (IsUtf8TextOf text) (quoted text own refl) (before 34 own)
+      (closed 34 own (omega arith) (omega arith) (IsUtf8-drop text 1 u (quote_cut text (eqb-true (slice_index text 0) 34 e) u)))
   by false e true = tt
   by false e false = record { stands = itself text; utf8 = u }
 
@@ -187,8 +204,8 @@ bare text u = noted_all note.Default text (unquoted_in (behind (codes "default "
   by (Some found) h =
       weaker (IsUtf8TextOf found) (IsUtf8TextOf text) (λ own g. record { stands = within text found own h.stands g.stands; utf8 = g.utf8 }) (unquoted found) (bare_text found h.utf8)
 
-said : (text : List ℕ) → IsUtf8 text → IfSome (note_in text) (Says text)
-said text u =
+says : (text : List ℕ) → IsUtf8 text → IfSome (note_in text) (Says text)
+says text u =
     let preset = note_of_kind note.Default text in
     let values = note_of_kind note.Values text in
     let env = note_of_kind note.Env text in
@@ -198,19 +215,25 @@ said text u =
 -- ---- the last note
 
 record IsNoted (text start : List ℕ) (n : NoteSaid) : Type 0 where
-  front : IsUtf8Front text start
-  stands : StandsBehind text start n.text
+  utf8 : IsUtf8 start
+  end : List ℕ
+  whole : text ≡ start ++ end
+  note : IsNoteText end n
+  stands : Says end n
 
 abbrev AreNoted : (text : List ℕ) → List ℕ × NoteSaid → Type 0
 AreNoted text s = IsNoted text s.0 s.1
 
--- without white space at the end of the front
-noted_at : (text front inner : List ℕ) → IsBracketed text front inner → (n : NoteSaid) → Says inner n → IsNoted text (trim_end front) n
-noted_at text front inner h n says =
-    let own : IsFront (trim_end front) front = end_front front h.front.utf8 in
+-- with the white space before it
+noted_at : (text front inner : List ℕ) → IsBracketed text front inner → IsEndOf front (trim_end front) → (n : NoteSaid) → Says inner n × (note_in inner ≡ Some n) → IsNoted text (trim_end front) n
+noted_at text front inner h e n g =
+    let end : List ℕ = e.after ++ h.brackets in
     record {
-      front = record { front = front_front (trim_end front) front text own h.front.front; utf8 = (end_trimmed front h.front.utf8).utf8 };
-      stands = from_before (length (trim_end front)) (length front) text n.text (front_size front (trim_end front) own) (within (drop (length front) text) inner n.text h.stands says);
+      utf8 = (end_trimmed front h.utf8).utf8;
+      end = end;
+      whole = h.whole ∙ ap (λ t. t ++ h.brackets) e.whole ∙ append_assoc (trim_end front) e.after h.brackets;
+      note = record { white = e.after; brackets = h.brackets; inner = inner; whole = refl; is_white = e.is_white; in_brackets = h.in_brackets; note = g.1 };
+      stands = within end h.brackets n.text (at_end e.after h.brackets) (within h.brackets inner n.text (within_brackets h.brackets inner h.in_brackets) g.0);
     }
 
 last_noted : (text : List ℕ) → IsUtf8 text → IfSome (last_note text) (AreNoted text)
@@ -219,43 +242,97 @@ last_noted text u = by (bracketed text) (brackets text u) where
   by None h = tt
   by (Some (front, inner)) h =
       mapped (AreNoted text) (λ n. (trim_end front, n)) (note_in inner)
-      (weaker (Says inner) (λ n. IsNoted text (trim_end front) n) (noted_at text front inner h) (note_in inner) (said inner h.utf8))
+      (weaker (λ n. Says inner n × (note_in inner ≡ Some n)) (λ n. IsNoted text (trim_end front) n) (noted_at text front inner h (end_left front h.utf8)) (note_in inner)
+      (there (Says inner) (note_in inner) (says inner h.inner_utf8)))
 
 -- ---- all notes
 
-none_said : (text : List ℕ) → AreNotesOf text no_notes
-none_said text = record { preset = tt; values = tt; env = tt }
+none_said : (text : List ℕ) → text ≡ [] → AreNotesOf text no_notes
+none_said text e = record { notes = []; follow = e; said = refl; preset = tt; values = tt; env = tt }
 
-one_more : (text : List ℕ) (all : NotesSaid) (k : NoteKind) (found : List ℕ) → AreNotesOf text all → IsTextOf text found → AreNotesOf text (with_text k found all)
-one_more text all note.Default found h stands = record { preset = stands; values = h.values; env = h.env }
-one_more text all note.Values found h stands = record { preset = h.preset; values = stands; env = h.env }
-one_more text all note.Env found h stands = record { preset = h.preset; values = h.values; env = within text found (variable found) stands (taken _ found) }
+behind_first : (first rest : List ℕ) (o : Option (List ℕ)) → IfSome o (IsTextOf rest) → IfSome o (IsTextOf (first ++ rest))
+behind_first first rest = weaker (IsTextOf rest) (IsTextOf (first ++ rest)) (λ t. within (first ++ rest) rest t (at_end first rest))
 
--- behind a place before that
-notes_from : (m n : ℕ) (text : List ℕ) (all : NotesSaid) → m ≤ n → AreNotesOf (drop n text) all → AreNotesOf (drop m text) all
-notes_from m n text all fits h = record {
-  preset = weaker (IsTextOf (drop n text)) (IsTextOf (drop m text)) (λ t. from_before m n text t fits) all.preset h.preset;
-  values = weaker (IsTextOf (drop n text)) (IsTextOf (drop m text)) (λ t. from_before m n text t fits) all.values h.values;
-  env = weaker (IsTextOf (drop n text)) (IsTextOf (drop m text)) (λ t. from_before m n text t fits) all.env h.env;
+one_more : (first rest : List ℕ) (all : NotesSaid) (n : NoteSaid) → AreNotesOf rest all → IsNoteText first n → Says first n → AreNotesOf (first ++ rest) (with_note all n)
+one_more first rest all n h own stands = by n.kind refl where
+  here : (t : List ℕ) → IsTextOf first t → IsTextOf (first ++ rest) t
+  here t = within (first ++ rest) first t (at_front first rest)
+
+  preset : IfSome all.preset (IsTextOf (first ++ rest))
+  preset = behind_first first rest all.preset h.preset
+
+  values : IfSome all.values (IsTextOf (first ++ rest))
+  values = behind_first first rest all.values h.values
+
+  env : IfSome all.env (IsTextOf (first ++ rest))
+  env = behind_first first rest all.env h.env
+
+  said : with_note all n ≡ all_said (n ∷ h.notes)
+  said = ap (λ a. with_note a n) h.said
+
+  by : (k : NoteKind) → n.kind ≡ k → AreNotesOf (first ++ rest) (with_text k n.text all)
+  by note.Default e = record { notes = n ∷ h.notes; follow = (first, rest, refl, own, h.follow); said = ap (λ k. with_text k n.text all) (sym e) ∙ said; preset = here n.text stands; values = values; env = env }
+  by note.Values e = record { notes = n ∷ h.notes; follow = (first, rest, refl, own, h.follow); said = ap (λ k. with_text k n.text all) (sym e) ∙ said; preset = preset; values = here n.text stands; env = env }
+  by note.Env e = record {
+    notes = n ∷ h.notes;
+    follow = (first, rest, refl, own, h.follow);
+    said = ap (λ k. with_text k n.text all) (sym e) ∙ said;
+    preset = preset;
+    values = values;
+    env = here (variable n.text) (within first n.text (variable n.text) stands (taken _ n.text));
+  }
+
+-- what is left, and the notes behind it
+record IsLeft (whole text : List ℕ) (all : NotesSaid) : Type 0 where
+  utf8 : IsUtf8 text
+  end : List ℕ
+  parts : whole ≡ text ++ end
+  notes : AreNotesOf end all
+
+one_less : (whole text : List ℕ) (all : NotesSaid) (s : List ℕ × NoteSaid) → IsLeft whole text all → AreNoted text s → IsLeft whole s.0 (with_note all s.1)
+one_less whole text all s h g = record {
+  utf8 = g.utf8;
+  end = g.end ++ h.end;
+  parts = h.parts ∙ ap (λ t. t ++ h.end) g.whole ∙ append_assoc s.0 g.end h.end;
+  notes = one_more g.end h.end all s.1 h.notes g.note g.stands;
 }
 
-cut_stands : (most : ℕ) (whole text : List ℕ) (all : NotesSaid) → IsUtf8Front whole text → AreNotesOf (drop (length text) whole) all → IsCutOf whole (cut_from most text all)
-cut_stands zero whole text all f h = record { rest = f.front; notes = h }
-cut_stands (suc most) whole text all f h = by (last_note text) (last_noted text f.utf8) (λ front n. cut_stands most whole front (with_note all n)) where
-  by : (o : Option (List ℕ × NoteSaid)) → IfSome o (AreNoted text) → ((front : List ℕ) (n : NoteSaid) → IsUtf8Front whole front → AreNotesOf (drop (length front) whole) (with_note all n) → IsCutOf whole (cut_from most front (with_note all n)))
-      → IsCutOf whole (cut_by (cut_from most) text all o)
-  by None g more = record { rest = f.front; notes = h }
-  by (Some (front, n)) g more =
-      more front n (record { front = front_front front text whole g.front.front f.front; utf8 = g.front.utf8 })
-      (one_more (drop (length front) whole) all n.kind n.text (notes_from (length front) (length text) whole all (front_size text front g.front.front) h)
-      (in_longer (length front) text whole n.text (front_size text front g.front.front) f.front g.stands))
+-- all notes are cut
+record IsDone (whole : List ℕ) (c : CutSaid) : Type 0 where
+  left : IsLeft whole c.rest c.notes
+  no_more : last_note c.rest ≡ None
 
-same_front : (text : List ℕ) → IsFront text text
-same_front text = sym (take_all (length text) text (omega arith))
+brackets_size : (text inner : List ℕ) → IsInBrackets text inner → 0 < length text
+brackets_size text inner (inl e) = subst (λ t. 0 < length t) (sym e) (omega arith)
+brackets_size text inner (inr e) = subst (λ t. 0 < length t) (sym e) (omega arith)
+
+note_size : (text : List ℕ) (n : NoteSaid) → IsNoteText text n → 0 < length text
+note_size text n h = omega (arith, ap length h.whole, length-append h.white h.brackets, brackets_size h.brackets h.inner h.in_brackets)
+
+cut_done : (most : ℕ) (whole text : List ℕ) (all : NotesSaid) → length text ≤ most → IsLeft whole text all → IsDone whole (cut_from most text all)
+cut_done zero whole text all fits h = record { left = h; no_more = ap last_note (nil_from_length text (omega (arith, fits))) }
+cut_done (suc most) whole text all fits h =
+    by (last_note text) refl (last_noted text h.utf8) (λ s fit g. cut_done most whole s.0 (with_note all s.1) (omega (arith, fits, fit)) g) where
+      by : (o : Option (List ℕ × NoteSaid)) → last_note text ≡ o → IfSome o (AreNoted text) → ((s : List ℕ × NoteSaid) → length s.0 < length text → IsLeft whole s.0 (with_note all s.1) → IsDone whole (cut_from most s.0 (with_note all s.1)))
+          → IsDone whole (cut_by (cut_from most) text all o)
+      by None e g more = record { left = h; no_more = e }
+      by (Some (front, n)) e g more =
+          more (front, n) (omega (arith, ap length g.whole, length-append front g.end, note_size g.end n g.note)) (one_less whole text all (front, n) h g)
+
+cut_all : (text : List ℕ) → IsUtf8 text → IsDone text (cut text)
+cut_all text u = cut_done (length text) text text no_notes (omega arith) (record { utf8 = u; end = []; parts = sym (append-nil text); notes = none_said [] refl })
+
+begins : (whole text end : List ℕ) → whole ≡ text ++ end → IsFront text whole
+begins whole text end e = sym (ap (take (length text)) e ∙ take-append_seam text end)
+
+notes_behind : (whole text : List ℕ) (all : NotesSaid) → IsLeft whole text all → AreNotesOf (drop (length text) whole) all
+notes_behind whole text all h = subst (λ t. AreNotesOf t all) (sym (ap (drop (length text)) h.parts ∙ drop-append_seam text h.end)) h.notes
 
 pub notes_stand_at_the_end : NotesStandAtTheEnd
 notes_stand_at_the_end text u =
-    cut_stands (length text) text text no_notes (record { front = same_front text; utf8 = u }) (none_said (drop (length text) text))
+    let done = cut_all text u in
+    let c = cut text in
+    record { rest = begins text c.rest done.left.end done.left.parts; no_more = done.no_more; notes = notes_behind text c.rest c.notes done.left }
 
 -- ---- helps
 
@@ -272,11 +349,18 @@ helps_stand_in_their_lines s ls utf8 = by (fit s c.notes) where
 
   by : (t : Bool) → IsHelpOf ls (cond t (helped (take (length c.rest) text) c.notes) (helped text no_notes))
   by true =
-      let h = notes_stand_at_the_end spaced (joined_utf8 32 (omega arith) ls utf8) in
+      let spaced_utf8 : IsUtf8 spaced = joined_utf8 32 (omega arith) ls utf8 in
+      let left = (cut_all spaced spaced_utf8).left in
+      let front : IsFront c.rest spaced = begins spaced c.rest left.end left.parts in
       let size : length c.rest ≡ length (take (length c.rest) text) =
-      omega (arith, length-take (length c.rest) text, joined_length ls, front_size spaced c.rest h.rest) in
+      omega (arith, length-take (length c.rest) text, joined_length ls, ap length left.parts, length-append c.rest left.end) in
       record {
         text = take_front (length c.rest) text;
-        notes = subst (λ n. AreNotesOf (drop n spaced) c.notes) size h.notes;
+        written = pieces_whole (take (length c.rest) text) (IsUtf8-take text (length c.rest) (joined_utf8 10 (omega arith) ls utf8) (help_cut ls text spaced c.rest refl refl front spaced_utf8 left.utf8));
+        notes = subst (λ n. AreNotesOf (drop n spaced) c.notes) size (notes_behind spaced c.rest c.notes left);
       }
-  by false = record { text = same_front text; notes = none_said (drop (length text) spaced) }
+  by false = record {
+    text = sym (take_all (length text) text (omega arith));
+    written = pieces_whole text (joined_utf8 10 (omega arith) ls utf8);
+    notes = none_said (drop (length text) spaced) (drop_all (length text) spaced (omega (arith, joined_length ls)));
+  }

@@ -1,5 +1,5 @@
 -- A text without white space at its ends is a text of it, and has all its letters.
-use Rattle.std.proofs.Common.{◌≡◌, ℕ, Bool, true, false, cond, ◌&&◌, List, [], ◌∷◌, ◌++◌, length, take, refl, sym, ap, ◌∙◌, arith, filter, not}
+use Rattle.std.proofs.Common.{◌≡◌, ℕ, Bool, true, false, cond, ◌&&◌, List, [], ◌∷◌, ◌++◌, length, refl, sym, ap, ◌∙◌, arith, filter, not}
 use Rattle.std.specs.Prelude.{◌==◌, chars, encode_utf8_all}
 use Rattle.std.specs.Char.{is_not_whitespace, is_whitespace}
 use Rattle.std.specs.Str.{IsUtf8, all_scalars, drop_trailing_whitespace, skip_leading_whitespace, trim, trim_end, trim_start}
@@ -8,11 +8,9 @@ use Rattle.std.proofs.lemmas.Bool.Decides.{nat_tests}
 use Rattle.std.proofs.lemmas.List.{append-nil, nil_from_length}
 use Rattle.std.proofs.lemmas.List.Elements.{filter-append}
 use Rattle.std.proofs.lemmas.Str.{chars-encodes, encodes-append}
-use Rattle.std.proofs.Math.Seq.{take-append_seam}
 use Rattle.help_fronts.specs.Laws.{IsTextOf}
 use Rattle.help_fronts.proofs.Texts.{within}
 use Rattle.drafts.specs.Laws.{letters}
-use Rattle.drafts.specs.Notes.{IsFront}
 
 -- some of the characters of a text, with white space before and after them
 record IsCutOf (cs ds : List ℕ) : Type 0 where
@@ -109,14 +107,23 @@ end_trimmed line u =
     let cut = end_cut u.0 in
     cut_text line (trim_end line) u.0 (drop_trailing_whitespace u.0) u.1.0 u.1.1 (end_is line u.0 u.1.0 u.1.1) (record { before = []; after = cut.after; whole = cut.whole; blank_before = refl; blank_after = cut.blank })
 
-pub end_front : (line : List ℕ) → IsUtf8 line → IsFront (trim_end line) line
-end_front line u =
+-- a text without white space at its end
+pub record IsEndOf (line text : List ℕ) : Type 0 where
+  pub after : List ℕ
+  pub whole : line ≡ text ++ after
+  pub is_white : letters after ≡ []
+
+pub end_left : (line : List ℕ) → IsUtf8 line → IsEndOf line (trim_end line)
+end_left line u =
     let cut = end_cut u.0 in
-    let text = encode_utf8_all (drop_trailing_whitespace u.0) in
-    let same : trim_end line ≡ text = end_is line u.0 u.1.0 u.1.1 in
-    let whole : line ≡ trim_end line ++ encode_utf8_all cut.after =
-    sym u.1.1 ∙ ap encode_utf8_all cut.whole ∙ encodes-append (drop_trailing_whitespace u.0) cut.after ∙ ap (λ t. t ++ encode_utf8_all cut.after) (sym same) in
-    sym (ap (take (length (trim_end line))) whole ∙ take-append_seam (trim_end line) (encode_utf8_all cut.after))
+    let own = drop_trailing_whitespace u.0 in
+    let parts = scalar_parts own cut.after (sym (ap all_scalars cut.whole) ∙ u.1.0) in
+    let same : trim_end line ≡ encode_utf8_all own = end_is line u.0 u.1.0 u.1.1 in
+    record {
+      after = encode_utf8_all cut.after;
+      whole = sym u.1.1 ∙ ap encode_utf8_all cut.whole ∙ encodes-append own cut.after ∙ ap (λ t. t ++ encode_utf8_all cut.after) (sym same);
+      is_white = letters_are (encode_utf8_all cut.after) cut.after parts.1 refl ∙ cut.blank;
+    }
 
 pub trimmed : (line : List ℕ) → IsUtf8 line → IsTrimOf line (trim line)
 trimmed line u =

@@ -1,6 +1,6 @@
 -- Laws of drafts.
 use Rattle.std.specs.Prelude.{ℕ, ◌≡◌, Bool, true, false, not, List, [], ◌∷◌, ◌++◌, filter, flat_map, if◌then◌else◌, map}
-use Rattle.std.specs.Prelude.{◌⊎◌, All, IfSome, IsUtf8, chars, codes, drop, length, option_to_list, reverse}
+use Rattle.std.specs.Prelude.{◌⊎◌, All, IfSome, IsUtf8, None, Some, chars, codes, drop, length, option_to_list, reverse}
 use Rattle.std.specs.Char.{is_not_whitespace}
 use Rattle.std.specs.List.{AllPass, list_all, list_any}
 use Rattle.page_model.specs.Permitted.{are_permitted}
@@ -12,7 +12,8 @@ use Rattle.drafts.specs.Options.{are_plain, long_word, short_letter}
 use Rattle.drafts.specs.Free.{Has, free_in, free_keys}
 use Rattle.drafts.specs.Entries.{ValueSaid, value_front, value_name}
 use Rattle.drafts.specs.Texts.{first_word, passage_pieces}
-use Rattle.drafts.specs.Notes.{CutSaid, HelpSaid, IsFront, NotesSaid, cut, help_said, joined, pieces_in}
+use Rattle.drafts.specs.Notes.{CutSaid, HelpSaid, IsFront, NoteSaid, NotesSaid, cut, help_said, joined}
+use Rattle.drafts.specs.Notes.{last_note, no_notes, note_in, pieces_in, with_note}
 use Rattle.drafts.specs.Places.{PlacedSaid, is_empty, is_title, placed}
 use Rattle.drafts.specs.Usages.{FormSaid, first_form, further_form, last_part}
 use Rattle.drafts.specs.declared.notes.Subject.{Subject}
@@ -128,24 +129,54 @@ abbrev pub HelpsAreWhole : Type 0
 HelpsAreWhole = (lines : List (List ℕ)) → All IsUtf8 lines
     → flat_map piece_letters (pieces_in (joined (codes "\n") lines)) ≡ flat_map letters lines
 
--- what notes say stands in a text
-pub record AreNotesOf (text : List ℕ) (n : NotesSaid) : Type 0 where
-  pub preset : IfSome n.preset (IsTextOf text)
-  pub values : IfSome n.values (IsTextOf text)
-  pub env : IfSome n.env (IsTextOf text)
+abbrev pub IsInBrackets : (text inner : List ℕ) → Type 0
+IsInBrackets text inner =
+    (text ≡ codes "[" ++ (inner ++ codes "]")) ⊎ (text ≡ codes "(" ++ (inner ++ codes ")"))
 
--- what is left of a text begins it, and what the notes say stands behind that
+-- a note in brackets, with white space before it
+pub record IsNoteText (text : List ℕ) (n : NoteSaid) : Type 0 where
+  pub white : List ℕ
+  pub brackets : List ℕ
+  pub inner : List ℕ
+  pub whole : text ≡ white ++ brackets
+  pub is_white : letters white ≡ []
+  pub in_brackets : IsInBrackets brackets inner
+  pub note : note_in inner ≡ Some n
+
+-- such texts one after another, and nothing else
+abbrev pub NotesFollowIn : (text : List ℕ) → List NoteSaid → Type 0
+NotesFollowIn text [] = text ≡ []
+NotesFollowIn text (n ∷ ns) =
+    (first : List ℕ) × (rest : List ℕ) × (text ≡ first ++ rest) × IsNoteText first n × NotesFollowIn rest ns
+
+-- all that notes say, where the last is cut first
+abbrev pub all_said : List NoteSaid → NotesSaid
+all_said [] = no_notes
+all_said (n ∷ ns) = with_note (all_said ns) n
+
+-- a text is of notes alone, and what they say stands in it
+pub record AreNotesOf (text : List ℕ) (all : NotesSaid) : Type 0 where
+  pub notes : List NoteSaid
+  pub follow : NotesFollowIn text notes
+  pub said : all ≡ all_said notes
+  pub preset : IfSome all.preset (IsTextOf text)
+  pub values : IfSome all.values (IsTextOf text)
+  pub env : IfSome all.env (IsTextOf text)
+
+-- what is left of a text begins it and ends with no note, and what is cut is notes
 pub record IsCutOf (text : List ℕ) (c : CutSaid) : Type 0 where
   pub rest : IsFront c.rest text
+  pub no_more : last_note c.rest ≡ None
   pub notes : AreNotesOf (drop (length c.rest) text) c.notes
 
 -- of a text that is UTF-8
 abbrev pub NotesStandAtTheEnd : Type 0
 NotesStandAtTheEnd = (text : List ℕ) → IsUtf8 text → IsCutOf text (cut text)
 
--- what is written as the text of a help begins its lines, and what its notes say stands behind that
+-- the text of a help begins its lines and is written with all its letters, and what is left out is notes
 pub record IsHelpOf (lines : List (List ℕ)) (h : HelpSaid) : Type 0 where
   pub text : IsFront h.text (joined (codes "\n") lines)
+  pub written : flat_map piece_letters (pieces_in h.text) ≡ letters h.text
   pub notes : AreNotesOf (drop (length h.text) (joined (codes " ") lines)) h.notes
 
 abbrev pub HelpsStandInTheirLines : Type 0

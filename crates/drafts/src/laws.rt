@@ -76,13 +76,13 @@ pub fn helps_are_whole()
     ensures { HelpsAreWhole }
 {}
 
-/// Notes are cut from the end of a text alone: what is left begins it, and what they say stands behind that.
+/// What is cut of a text is all notes at its end and nothing else, and what they say stands there.
 #[tactic(auto, using(crate::proofs::Noted::notes_stand_at_the_end))]
 pub fn notes_stand_at_the_end()
     ensures { NotesStandAtTheEnd }
 {}
 
-/// What is written as the text of a help begins its lines, and what its notes say stands behind that.
+/// The text of a help begins its lines and is written with all its letters, and what is left out is its notes alone.
 #[tactic(auto, using(crate::proofs::Noted::helps_stand_in_their_lines))]
 pub fn helps_stand_in_their_lines()
     ensures { HelpsStandInTheirLines }
