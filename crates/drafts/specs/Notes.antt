@@ -1,5 +1,5 @@
 -- The notes at the end of a help: `[default: X]`, `[possible values: a, b]` and `[env: X]`, also in parentheses.
-use Rattle.std.specs.Prelude.{ℕ, ◌≡◌, zero, suc, ◌+◌, ◌-◌, ◌==◌, ◌&&◌, Bool, true, false, not, List, [], ◌∷◌, ◌++◌, bytes_eq, codes, drop, flat_map, if◌then◌else◌, length, map, nat_lt, take, Option, None, Some}
+use Rattle.std.specs.Prelude.{ℕ, ◌≡◌, zero, suc, ◌-◌, ◌==◌, ◌&&◌, Bool, true, false, not, List, [], ◌∷◌, ◌++◌, bytes_eq, codes, drop, flat_map, if◌then◌else◌, length, map, nat_lt, take, Option, None, Some}
 use Rattle.std.specs.List.{list_all, list_any, prefix_len, slice_index, slice_split, suffix_len}
 use Rattle.std.specs.Option.{option_map, option_or}
 use Rattle.std.specs.Str.{trim, trim_end}

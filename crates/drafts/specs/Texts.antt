@@ -1,5 +1,5 @@
 -- Lines of a help text as pieces of a text.
-use Rattle.std.specs.Prelude.{ℕ, ◌-◌, ◌==◌, Bool, true, false, not, List, [], ◌∷◌, ◌++◌, drop, fold, if◌then◌else◌, length, map, max, min, nat_lt, take}
+use Rattle.std.specs.Prelude.{ℕ, ◌-◌, ◌==◌, Bool, true, false, not, List, [], ◌∷◌, drop, fold, if◌then◌else◌, length, map, max, min, nat_lt, take}
 use Rattle.std.specs.List.{prefix_len}
 use Rattle.std.specs.Str.{trim, trim_end}
 use Rattle.help_blocks.specs.declared.place.Kind.{Kind}

@@ -1,6 +1,6 @@
 use Rattle.std.proofs.Common.{◌-◌, ◌∙◌, ap, rules}
 use Rattle.drafts.specs.Notes.{cut_from}
-use Rattle.drafts.specs.View.{note_said, notes_said}
+use Rattle.drafts.specs.View.{note_said}
 use Rattle.drafts.proofs.Ends.{cut_done, cut_more, front_front}
 use Rattle.drafts.proofs.notes.cut_notes.Goals as goal
 
