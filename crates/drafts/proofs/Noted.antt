@@ -8,6 +8,8 @@ use Rattle.std.proofs.Math.Seq.{drop-append_seam, take-append_seam}
 use Rattle.std.proofs.lemmas.Bool.{eqb-true}
 use Rattle.std.proofs.lemmas.Bool.Decides.{nat_tests}
 use Rattle.std.proofs.lemmas.List.{append-nil, drop_all, get_or-reverse, get_or-take, length-append, length-reverse, length-take, nil_from_length, take-append-drop, take_all}
+use Rattle.std.proofs.lemmas.List.Elements.{All-weaker}
+use Rattle.std.proofs.lemmas.List.Folds.{list_any_none}
 use Rattle.std.proofs.lemmas.List.Sums.{prefix_len_stops}
 use Rattle.std.proofs.lemmas.Slice.Eq.{bytes_eq-Decides}
 use Rattle.std.proofs.lemmas.Str.{IsCharBoundary-after_ascii, IsCharBoundary-before_ascii, IsUtf8-drop, IsUtf8-take}
@@ -21,6 +23,7 @@ use Rattle.drafts.specs.Laws.{AreNotesOf, HelpsStandInTheirLines, IsHelpOf, IsIn
 use Rattle.drafts.proofs.Cuts.{quote_cut, stands}
 use Rattle.drafts.proofs.Ends.{help_cut, joined_length, take_front}
 use Rattle.drafts.proofs.KeptHelps.{joined_utf8, pieces_whole}
+use Rattle.drafts.proofs.Lists.{end_passes}
 use Rattle.drafts.proofs.Trims.{IsEndOf, end_left, end_trimmed, trimmed}
 
 -- ---- what may be missing
@@ -70,6 +73,7 @@ record IsOpened (text start inner : List ℕ) (bracket : ℕ) : Type 0 where
   utf8 : IsUtf8 start
   inner_utf8 : IsUtf8 inner
   whole : text ≡ start ++ (bracket ∷ inner)
+  is_last : list_any (λ b. b == bracket) inner ≡ false
 
 no_other : (x c : ℕ) → not (x == c) ≡ false → x ≡ c
 no_other x c h = grind (arith, nat_tests)
@@ -82,14 +86,23 @@ last_is c text h =
     no_other (get_or text (length text - 1 - after_last c text) 0) c
     (ap (λ b. not (b == c)) (sym (get_or-reverse text (after_last c text) 0 h)) ∙ prefix_len_stops (λ b. not (b == c)) (reverse text) 0 (omega (arith, h, length-reverse text)))
 
-opened_at : (bracket n m : ℕ) (text : List ℕ) → m ≡ n + 1 → IsUtf8 text → n < length text → get_or text n 0 ≡ bracket → bracket < 128 → IsOpened text (take n text) (drop m text) bracket
-opened_at bracket n m text e u below here ascii =
+differs : (x c : ℕ) → not (x == c) ≡ true → (x == c) ≡ false
+differs x c h = grind (arith, nat_tests)
+
+none_behind : (c : ℕ) (text : List ℕ) → list_any (λ b. b == c) (drop (length text - after_last c text) text) ≡ false
+none_behind c text =
+    let end : List ℕ = drop (length text - after_last c text) text in
+    list_any_none (λ b. b == c) end (All-weaker (λ b. not (b == c) ≡ true) (λ b. (b == c) ≡ false) (λ b. differs b c) end (end_passes (λ b. not (b == c)) text))
+
+opened_at : (bracket n m : ℕ) (text : List ℕ) → m ≡ n + 1 → IsUtf8 text → n < length text → get_or text n 0 ≡ bracket → bracket < 128 → list_any (λ b. b == bracket) (drop m text) ≡ false → IsOpened text (take n text) (drop m text) bracket
+opened_at bracket n m text e u below here ascii none =
     let next : suc n ≡ m = omega (arith, e) in
     let end : drop n text ≡ bracket ∷ drop m text = drop-cons text n 0 below ∙ ap (λ b. b ∷ drop (suc n) text) here ∙ ap (λ k. bracket ∷ drop k text) next in
     record {
       utf8 = IsUtf8-take text n u (IsCharBoundary-before_ascii text n below (omega (arith, here, ascii)));
       inner_utf8 = IsUtf8-drop text m u (subst (IsCharBoundary text) (sym e) (IsCharBoundary-after_ascii text n u below (omega (arith, here, ascii))));
       whole = sym (take-append-drop n text) ∙ ap (λ t. take n text ++ t) end;
+      is_last = none;
     }
 
 opened : (bracket : ℕ) (text : List ℕ) → bracket < 128 → IsUtf8 text → IfSome (split_last bracket text) (λ s. IsOpened text s.0 s.1 bracket)
@@ -102,7 +115,7 @@ opened bracket text ascii u = by (nat_lt (after_last bracket text) (length text)
       let below : k < length text = is_less k (length text) e in
       let place : length text - k - 1 ≡ length text - 1 - k = omega arith in
       let here : get_or text (length text - k - 1) 0 ≡ bracket = ap (λ i. get_or text i 0) place ∙ last_is bracket text below in
-      opened_at bracket (length text - k - 1) (length text - k) text (omega (arith, below)) u (omega (arith, below)) here ascii
+      opened_at bracket (length text - k - 1) (length text - k) text (omega (arith, below)) u (omega (arith, below)) here ascii (none_behind bracket text)
   by false e = tt
 
 -- what stands before the brackets that a text ends with, and in them
@@ -119,17 +132,17 @@ AreBracketed text s = IsBracketed text s.0 s.1
 abbrev between : (bracket closing : ℕ) (inner : List ℕ) → List ℕ
 between bracket closing inner = bracket ∷ (inner ++ (closing ∷ []))
 
-both : (bracket closing : ℕ) (text front : List ℕ) → ((inner : List ℕ) → IsInBrackets (between bracket closing inner) inner) → IsClosed text front closing → (s : List ℕ × List ℕ) → IsOpened front s.0 s.1 bracket
+both : (bracket closing : ℕ) (text front : List ℕ) → ((inner : List ℕ) → list_any (λ b. b == bracket) inner ≡ false → IsInBrackets (between bracket closing inner) inner) → IsClosed text front closing → (s : List ℕ × List ℕ) → IsOpened front s.0 s.1 bracket
     → AreBracketed text s
 both bracket closing text front are h s g = record {
   utf8 = g.utf8;
   inner_utf8 = g.inner_utf8;
   brackets = between bracket closing s.1;
   whole = h.whole ∙ ap (λ t. t ++ (closing ∷ [])) g.whole ∙ append_assoc s.0 (bracket ∷ s.1) (closing ∷ []);
-  in_brackets = are s.1;
+  in_brackets = are s.1 g.is_last;
 }
 
-bracketed_by : (bracket closing : ℕ) (text : List ℕ) → bracket < 128 → 0 < closing → closing < 128 → ((inner : List ℕ) → IsInBrackets (between bracket closing inner) inner) → IsUtf8 text
+bracketed_by : (bracket closing : ℕ) (text : List ℕ) → bracket < 128 → 0 < closing → closing < 128 → ((inner : List ℕ) → list_any (λ b. b == bracket) inner ≡ false → IsInBrackets (between bracket closing inner) inner) → IsUtf8 text
     → IfSome (split_open bracket (before closing text)) (AreBracketed text)
 bracketed_by bracket closing text ascii some small are u = by (before closing text) (closed closing text some small u) where
   by : (o : Option (List ℕ)) → IfSome o (λ start. IsClosed text start closing) → IfSome (split_open bracket o) (AreBracketed text)
@@ -139,11 +152,11 @@ bracketed_by bracket closing text ascii some small are u = by (before closing te
 brackets : (text : List ℕ) → IsUtf8 text → IfSome (bracketed text) (AreBracketed text)
 brackets text u =
     or_else (AreBracketed text) (split_open 91 (before 93 text)) (split_open 40 (before 41 text))
-    (bracketed_by 91 93 text (omega arith) (omega arith) (omega arith) (λ inner. inl refl) u) (bracketed_by 40 41 text (omega arith) (omega arith) (omega arith) (λ inner. inr refl) u)
+    (bracketed_by 91 93 text (omega arith) (omega arith) (omega arith) (λ inner none. inl (refl, none)) u) (bracketed_by 40 41 text (omega arith) (omega arith) (omega arith) (λ inner none. inr (refl, none)) u)
 
 within_brackets : (text inner : List ℕ) → IsInBrackets text inner → IsTextOf text inner
-within_brackets text inner (inl e) = record { before = codes "["; after = codes "]"; whole = e }
-within_brackets text inner (inr e) = record { before = codes "("; after = codes ")"; whole = e }
+within_brackets text inner (inl e) = record { before = codes "["; after = codes "]"; whole = e.0 }
+within_brackets text inner (inr e) = record { before = codes "("; after = codes ")"; whole = e.0 }
 
 -- ---- what stands in brackets
 
@@ -303,8 +316,8 @@ record IsDone (whole : List ℕ) (c : CutSaid) : Type 0 where
   no_more : last_note c.rest ≡ None
 
 brackets_size : (text inner : List ℕ) → IsInBrackets text inner → 0 < length text
-brackets_size text inner (inl e) = subst (λ t. 0 < length t) (sym e) (omega arith)
-brackets_size text inner (inr e) = subst (λ t. 0 < length t) (sym e) (omega arith)
+brackets_size text inner (inl e) = subst (λ t. 0 < length t) (sym e.0) (omega arith)
+brackets_size text inner (inr e) = subst (λ t. 0 < length t) (sym e.0) (omega arith)
 
 note_size : (text : List ℕ) (n : NoteSaid) → IsNoteText text n → 0 < length text
 note_size text n h = omega (arith, ap length h.whole, length-append h.white h.brackets, brackets_size h.brackets h.inner h.in_brackets)

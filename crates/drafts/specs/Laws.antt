@@ -1,5 +1,5 @@
 -- Laws of drafts.
-use Rattle.std.specs.Prelude.{ℕ, ◌≡◌, Bool, true, false, not, List, [], ◌∷◌, ◌++◌, filter, flat_map, if◌then◌else◌, map}
+use Rattle.std.specs.Prelude.{ℕ, ◌≡◌, ◌==◌, Bool, true, false, not, List, [], ◌∷◌, ◌++◌, filter, flat_map, if◌then◌else◌, map}
 use Rattle.std.specs.Prelude.{◌⊎◌, All, IfSome, IsUtf8, None, Some, chars, codes, drop, length, option_to_list, reverse}
 use Rattle.std.specs.Char.{is_not_whitespace}
 use Rattle.std.specs.List.{AllPass, list_all, list_any}
@@ -129,9 +129,11 @@ abbrev pub HelpsAreWhole : Type 0
 HelpsAreWhole = (lines : List (List ℕ)) → All IsUtf8 lines
     → flat_map piece_letters (pieces_in (joined (codes "\n") lines)) ≡ flat_map letters lines
 
+-- in square brackets or in round ones, of which no other opens inside
 abbrev pub IsInBrackets : (text inner : List ℕ) → Type 0
 IsInBrackets text inner =
-    (text ≡ codes "[" ++ (inner ++ codes "]")) ⊎ (text ≡ codes "(" ++ (inner ++ codes ")"))
+    ((text ≡ codes "[" ++ (inner ++ codes "]")) × (list_any (λ b. b == 91) inner ≡ false))
+    ⊎ ((text ≡ codes "(" ++ (inner ++ codes ")")) × (list_any (λ b. b == 40) inner ≡ false))
 
 -- a note in brackets, with white space before it
 pub record IsNoteText (text : List ℕ) (n : NoteSaid) : Type 0 where
