@@ -15,7 +15,7 @@ use Rattle.drafts.specs.Notes.{IsFront, NoteSaid, NotesSaid, after_last, behind,
 
 -- ---- fronts
 
-pub front_size : (text front : List ℕ) → IsFront front text → length front ≤ length text
+front_size : (text front : List ℕ) → IsFront front text → length front ≤ length text
 front_size text front e = let size : length front ≡ min (length front) (length text) = ap length e ∙ length-take (length front) text in omega (arith, size)
 
 pub take_front : (n : ℕ) (text : List ℕ) → IsFront (take n text) text
