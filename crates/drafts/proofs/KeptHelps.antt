@@ -18,7 +18,7 @@ use Rattle.drafts.specs.Laws.{HelpsAreWhole, letters, piece_letters}
 use Rattle.drafts.proofs.KeptLetters.{each_line, one_more}
 use Rattle.drafts.proofs.Trims.{is_nothing, trimmed}
 
-letters_append : (xs ys : List ℕ) → IsUtf8 xs → letters (xs ++ ys) ≡ letters xs ++ letters ys
+pub letters_append : (xs ys : List ℕ) → IsUtf8 xs → letters (xs ++ ys) ≡ letters xs ++ letters ys
 letters_append xs ys u = ap (filter is_not_whitespace) (chars-append xs ys u) ∙ filter-append is_not_whitespace (chars xs) (chars ys)
 
 byte_utf8 : (b : ℕ) → b < 128 → IsUtf8 (b ∷ [])

@@ -8,6 +8,7 @@ mod Fronts
 mod KeptHelps
 mod KeptLetters
 mod Letters
+mod Listed
 mod Lists
 mod Noted
 mod Placing

@@ -13,7 +13,7 @@ use Rattle.drafts.specs.Free.{Has, free_in, free_keys}
 use Rattle.drafts.specs.Entries.{ValueSaid, value_front, value_name}
 use Rattle.drafts.specs.Texts.{first_word, passage_pieces}
 use Rattle.drafts.specs.Notes.{CutSaid, HelpSaid, IsFront, NoteSaid, NotesSaid, cut, help_said, joined}
-use Rattle.drafts.specs.Notes.{last_note, no_notes, note_in, pieces_in, with_note}
+use Rattle.drafts.specs.Notes.{last_note, listed, no_notes, note_in, pieces_in, with_note}
 use Rattle.drafts.specs.Places.{PlacedSaid, is_empty, is_title, placed}
 use Rattle.drafts.specs.Usages.{FormSaid, first_form, further_form, last_part}
 use Rattle.drafts.specs.declared.notes.Subject.{Subject}
@@ -174,6 +174,21 @@ pub record IsCutOf (text : List ℕ) (c : CutSaid) : Type 0 where
 -- of a text that is UTF-8
 abbrev pub NotesStandAtTheEnd : Type 0
 NotesStandAtTheEnd = (text : List ℕ) → IsUtf8 text → IsCutOf text (cut text)
+
+abbrev pub is_no_comma : ℕ → Bool
+is_no_comma c = not (c == 44)
+
+abbrev pub value_letters : (text : List ℕ) → List ℕ
+value_letters text = filter is_no_comma (letters text)
+
+-- values stand in a text, and have all its letters but commas, in order
+pub record AreValuesOf (text : List ℕ) (values : List (List ℕ)) : Type 0 where
+  pub stand : All (IsTextOf text) values
+  pub whole : flat_map value_letters values ≡ value_letters text
+
+-- the values that a note lists
+abbrev pub ValuesStandInTheirNote : Type 0
+ValuesStandInTheirNote = (text : List ℕ) → IsUtf8 text → AreValuesOf text (listed text)
 
 -- the text of a help begins its lines and is written with all its letters, and what is left out is notes
 pub record IsHelpOf (lines : List (List ℕ)) (h : HelpSaid) : Type 0 where

@@ -3,7 +3,7 @@
 ghost use Rattle.drafts.specs.Laws.{EachHasAPlace, EachIsBelowItsTitle, EachIsPlaced, EachLineIsPlaced};
 ghost use Rattle.drafts.specs.Laws.{NamesAreFree, NoNameIsLost, OptionsStandInTheirLine, PassagesFollow};
 ghost use Rattle.drafts.specs.Laws.{FormsStandInTheirLine, HelpsAreWhole, HelpsStandInTheirLines};
-ghost use Rattle.drafts.specs.Laws.{NotesStandAtTheEnd, TextsAreWhole, ValuesStandInTheirLine};
+ghost use Rattle.drafts.specs.Laws.{NotesStandAtTheEnd, TextsAreWhole, ValuesStandInTheirLine, ValuesStandInTheirNote};
 
 use help_blocks::laws::each_line_is_in_a_block;
 
@@ -80,6 +80,11 @@ pub fn helps_are_whole()
 #[tactic(auto, using(crate::proofs::Noted::notes_stand_at_the_end))]
 pub fn notes_stand_at_the_end()
     ensures { NotesStandAtTheEnd }
+{}
+
+/// The values that a note lists stand in its text, and have all its letters but commas, in order.
+pub fn values_stand_in_their_note()
+    ensures { ValuesStandInTheirNote }
 {}
 
 /// The text of a help begins its lines and is written with all its letters, and what is left out is its notes alone.
