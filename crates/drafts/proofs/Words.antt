@@ -32,7 +32,7 @@ IsPut keys more key = (q : Key) → holds_by_order more q ≡ cond (eq_by_cmp by
 put_by_text : (keys more : List Key) (key : Key) → IsPut keys more key → (q : Key) → has_key more q.now ≡ cond (same key q) true (has_key keys q.now)
 put_by_text keys more key = subst (λ (eq : Key → Key → Bool). (q : Key) → list_any (eq q) more ≡ cond (eq key q) true (list_any (eq q) keys)) by_order
 
-one_more : (b c : Bool) → cond b true c ≡ (c || (b || false))
+one_more : (b c : Bool) → cond b true c ≡ (c || b)
 one_more b c = grind arith
 
 texts_equal : (s t : List ℕ) → bytes_eq s t ≡ bytes_eq t s

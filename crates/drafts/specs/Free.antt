@@ -11,7 +11,7 @@ abbrev pub none_taken : Has
 none_taken word = false
 
 abbrev pub with_key : Has → (key : List ℕ) → Has
-with_key has k word = has word || (bytes_eq word k || false)
+with_key has k word = has word || bytes_eq word k
 
 abbrev pub with_keys : Has → (keys : List (List ℕ)) → Has
 with_keys has [] = has

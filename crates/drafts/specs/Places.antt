@@ -135,7 +135,7 @@ part_below title below = if has_below (is_at sought.Entry) below then list_part 
 
 -- ---- roles, by what stands above
 
--- before the usage or next to it
+-- above all entries, and not below both a usage and a text about the program
 abbrev pub is_about : Above → Bool
 is_about a = not a.has_entry && not (a.has_usage && a.has_about)
 

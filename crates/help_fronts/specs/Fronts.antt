@@ -105,7 +105,7 @@ before_name (w ∷ ws) = if is_name w then [] else w ∷ before_name ws
 abbrev pub says_more : List ℕ → Bool
 says_more w = says_value w || is_dots w
 
--- up to the next name
+-- whether a value is said before the next name
 abbrev pub has_value : (words : List (List ℕ)) → Bool
 has_value [] = false
 has_value (w ∷ ws) = not (is_name w) && (says_value w || has_value ws)
