@@ -71,6 +71,9 @@ run_marked p style run is = at (words_of_line run is.line) where
 
 -- ---- a line of code in a code block that is open
 
+no_item : (p : Marked) → p.pending ≡ false → with_item p false ≡ p
+no_item p e = ap (λ b. if b then record p { bytes = p.bytes ++ codes "- "; pending = false; empty_item = false } else p) e
+
 pub code_line_more : (p : Marked) (style : Style) (line : List ℕ) → p.in_code ≡ true → p.pending ≡ false → marked_after p (Shown style (Raw line code_weight)) ≡ with_line p line
 code_line_more p style line opened settled =
     ap (λ q. with_chunk q (Raw line code_weight)) (no_item p settled)
