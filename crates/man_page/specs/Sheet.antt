@@ -7,7 +7,7 @@ pub data Font : Type 0 where
   Bold : Font
   Italic : Font
 
--- a byte that is shown, and how
+-- A byte that is shown, and its font, as its line asks for it: headings and names of synopses are set bold besides.
 pub record Glyph : Type 0 where
   pub byte : ℕ
   pub font : Font
@@ -19,13 +19,13 @@ pub data Kind : Type 0 where
   Bulleted : Kind
   Continued : Kind
 
--- how far an indent goes: as far as the paragraph of a tag, or so many columns
+-- An indent of so many columns, or a usual one, which says what nests in what, and not in how many columns it is set.
 pub data Indent : Type 0 where
   Usual : Indent
   Columns : ℕ → Indent
 
--- A paragraph and an example have the indents that they stand in, the innermost first; a paragraph the lines between its
--- line breaks, and an example its lines as they stand.
+-- A paragraph and an example have the indents that they stand in, the innermost first; a paragraph the lines between
+-- its line breaks, and an example its lines as they stand.
 pub data Said : Type 0 where
   Heading : Rank → List Glyph → Said
   Paragraph : List Indent → Kind → List (List Glyph) → Said
