@@ -87,11 +87,14 @@ def font_behind(font, name):
 
 
 def number_of(rest):
+    """The number of a printable character of ASCII."""
     if next(rest, "") != "'":
         raise Refused("a number without a quote")
     number = 0
     for letter in rest:
         if letter == "'":
+            if not 32 <= number < 127:
+                raise Refused(f"a character {number}")
             return number
         if letter not in "0123456789":
             raise Refused("no number")

@@ -1,14 +1,14 @@
 -- How what is written is told apart into lines, and what a line of text asks for.
-use Rattle.std.proofs.Common.{◌≡◌, ℕ, Bool, true, false, not, ◌&&◌, ◌||◌, List, [], ◌∷◌, ◌++◌, refl, sym, ap, ◌∙◌, subst, append-nil, append_assoc}
-use Rattle.std.specs.Prelude.{Option, Some, None, fold, codes, ◌==◌, if◌then◌else◌}
-use Rattle.std.specs.List.{list_all}
+use Rattle.std.proofs.Common.{◌≡◌, ℕ, Bool, true, false, cond, not, ◌&&◌, ◌||◌, List, [], ◌∷◌, ◌++◌, refl, sym, ap, ◌∙◌, subst, append-nil, append_assoc}
+use Rattle.std.specs.Prelude.{Option, Some, None, codes, ◌==◌, if◌then◌else◌}
+use Rattle.std.specs.List.{list_all, onto_first}
 use Rattle.std.proofs.lemmas.Bool.{and_parts, and_from}
 use Rattle.std.proofs.lemmas.List.Folds.{list_all-append}
-use Rattle.std.proofs.lemmas.List.Sums.{fold-append}
-use Rattle.man_page.specs.Sheet.{Roman, Glyph}
+use Rattle.std.proofs.lemmas.List.Splits.{slice_split-cons_no}
+use Rattle.man_page.specs.Sheet.{Roman, Glyph, Sheet}
 use Rattle.man_page.specs.Exact.{code_front, input_line, is_glyph_first, line_back, line_front}
 use Rattle.man_page.specs.Reader
-use Rattle.man_page.specs.Reader.{Input, Reading, Request, Stand, done_if, ends_in_blank, glyphs, is_in_example, is_plain_input, last_of, line_of, next_line, placed, placed_if, with_input}
+use Rattle.man_page.specs.Reader.{Input, Reading, Request, Stand, done_if, ends_in_blank, glyphs, is_in_example, is_plain_input, last_of, line_of, lines, next_line, page_of, placed, placed_if, whole_page, with_input}
 use Rattle.man_page.proofs.Glyphs.{in_text, is_solid, is_text_byte, run, run_if, run_then}
 
 pub not_true : (x : Bool) → not x ≡ true → x ≡ false
@@ -40,52 +40,46 @@ solid_parts c h =
 
 -- ---- lines
 
--- a text that leads a reading on, line by line
-pub record Leads (bytes : List ℕ) (from to : Option Reading) : Type 0 where
-  pub whole : List (List ℕ)
-  pub splits : (before : List (List ℕ)) → fold Reader.line_end (record { whole = before; rest = [] }) bytes ≡ record { whole = before ++ whole; rest = [] }
-  pub reads : fold next_line from whole ≡ to
+abbrev page_from : Option Reading → List ℕ → Option Sheet
+page_from read bytes = page_of read (lines bytes)
 
-abbrev split_as : List (List ℕ) → List ℕ → Reader.Lines
-split_as whole rest = record { whole = whole; rest = rest }
+-- a text that leads a reading on, line by line, whatever stands behind it
+pub record Leads (bytes : List ℕ) (from to : Option Reading) : Type 0 where
+  pub reads : (rest : List ℕ) → page_from from (bytes ++ rest) ≡ page_from to rest
 
 pub leads_nothing : {r : Option Reading} → Leads [] r r
-leads_nothing = record { whole = []; splits = λ before. ap (λ w. split_as w []) (sym (append-nil before)); reads = refl }
+leads_nothing = record { reads = λ rest. refl }
 
 pub leads_to : {bytes : List ℕ} {r s t : Option Reading} → s ≡ t → Leads bytes r s → Leads bytes r t
-leads_to e p = record { whole = p.whole; splits = p.splits; reads = p.reads ∙ e }
+leads_to e p = record { reads = λ rest. p.reads rest ∙ ap (λ x. page_from x rest) e }
 
 pub leads_then : {a b : List ℕ} {r s t : Option Reading} → Leads a r s → Leads b s t → Leads (a ++ b) r t
-leads_then {a} {b} {r} {s} {t} p q = record {
-  whole = p.whole ++ q.whole;
-  splits = λ before.
-      fold-append Reader.line_end (split_as before []) a b
-      ∙ ap (λ x. fold Reader.line_end x b) (p.splits before)
-      ∙ q.splits (before ++ p.whole)
-      ∙ ap (λ w. split_as w []) (append_assoc before p.whole q.whole);
-  reads = fold-append next_line r p.whole q.whole ∙ ap (λ x. fold next_line x q.whole) p.reads ∙ q.reads;
-}
+leads_then {a} {b} {r} p q = record { reads = λ rest. ap (page_from r) (append_assoc a b rest) ∙ p.reads (b ++ rest) ∙ q.reads rest }
+
+pub leads_whole : {bytes : List ℕ} {r s : Option Reading} → Leads bytes r s → page_from r bytes ≡ whole_page s
+leads_whole {bytes} {r} p = ap (page_from r) (sym (append-nil bytes)) ∙ p.reads []
 
 abbrev pub is_in_line : ℕ → Bool
 is_in_line c = not (c == 10)
 
-split_line : (before : List (List ℕ)) (first line : List ℕ) → list_all is_in_line line ≡ true
-    → fold Reader.line_end (split_as before first) line ≡ split_as before (first ++ line)
-split_line before first [] h = ap (split_as before) (sym (append-nil first))
-split_line before first (b ∷ line) h =
+split_line : (line rest : List ℕ) → list_all is_in_line line ≡ true → lines ((line ++ codes "\n") ++ rest) ≡ line ∷ lines rest
+split_line [] rest h = refl
+split_line (b ∷ line) rest h =
     let parts = and_parts (is_in_line b) (list_all is_in_line line) h in
-    ap (λ (x : Bool). fold Reader.line_end (if x then split_as (before ++ first ∷ []) [] else split_as before (first ++ b ∷ [])) line) (not_true (b == 10) parts.0)
-    ∙ split_line before (first ++ b ∷ []) line parts.1
-    ∙ ap (split_as before) (append_assoc first (b ∷ []) line)
+    slice_split-cons_no (λ c. c == 10) b ((line ++ codes "\n") ++ rest) (not_true (b == 10) parts.0) ∙ ap (onto_first b) (split_line line rest parts.1)
+
+step : (r : Option Reading) (line : List ℕ) (test : Bool) (b : ℕ) (more : List (List ℕ))
+    → page_of r (line ∷ cond test ([] ∷ more) (onto_first b more)) ≡ page_of (next_line r line) (cond test ([] ∷ more) (onto_first b more))
+step r line true b more = refl
+step r line false b [] = refl
+step r line false b (next ∷ more) = refl
+
+page_behind : (r : Option Reading) (line rest : List ℕ) → page_of r (line ∷ lines rest) ≡ page_from (next_line r line) rest
+page_behind r line [] = refl
+page_behind r line (b ∷ rest) = step r line (b == 10) b (lines rest)
 
 pub leads_line : (line : List ℕ) (r s : Option Reading) → list_all is_in_line line ≡ true → next_line r line ≡ s → Leads (line ++ codes "\n") r s
-leads_line line r s h e = record {
-  whole = line ∷ [];
-  splits = λ before.
-      fold-append Reader.line_end (split_as before []) line (codes "\n")
-      ∙ ap (λ x. fold Reader.line_end x (codes "\n")) (split_line before [] line h);
-  reads = e;
-}
+leads_line line r s h e = record { reads = λ rest. ap (page_of r) (split_line line rest h) ∙ page_behind r line rest ∙ ap (λ x. page_from x rest) e }
 
 -- ---- the signs before and behind a text
 

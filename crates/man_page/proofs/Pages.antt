@@ -9,9 +9,9 @@ use Rattle.man_page.specs.Sheet.{Roman, Glyph, Plain, Said}
 use Rattle.man_page.specs.Kept.{TitleSaid, in_font, page_kept, part_kept, title_words}
 use Rattle.man_page.specs.Exact.{is_heading, page_text, part_text, parts_text, title_line}
 use Rattle.man_page.specs.Reader
-use Rattle.man_page.specs.Reader.{Fresh, Reading, Stand, done_if, is_open, next_line, nothing_read, page_of_lines, whole_page, with_title}
+use Rattle.man_page.specs.Reader.{Fresh, Reading, Stand, done_if, is_open, next_line, nothing_read, whole_page, with_title}
 use Rattle.man_page.specs.Promises.{ArePermitted, ReadsAs}
-use Rattle.man_page.proofs.Inputs.{Leads, leads_line}
+use Rattle.man_page.proofs.Inputs.{Leads, leads_line, leads_whole}
 use Rattle.man_page.proofs.Pieces.{bytes_of}
 use Rattle.man_page.proofs.Words.{TitleIsPermitted, title_asks, title_inside, title_line_is, title_shown, title_words_read, title_words_text}
 use Rattle.man_page.proofs.Blocks.{Comes, block_comes, comes_front, comes_nothing, comes_then, comes_to, entries_come, forms_come, heading_leads, here}
@@ -67,7 +67,7 @@ whole_is title said after o = rw o refl
 
 comes_whole : (bytes : List ℕ) (title : List (List Glyph)) (said : List Said) → Comes bytes (Some nothing_read) title said [] → ReadsAs bytes (record { title = title; said = said })
 comes_whole bytes title said p =
-    ap page_of_lines (p.leads.splits []) ∙ ap whole_page p.leads.reads ∙ whole_is title said p.after p.opens
+    leads_whole p.leads ∙ whole_is title said p.after p.opens
 
 pub reads_back : (title : TitleSaid) (parts : List PartSaid) → ArePermitted title parts → ReadsAs (page_text title parts) (page_kept title parts)
 reads_back title parts h = comes_whole (page_text title parts) (map (in_font Roman) (title_words title)) (page_kept title parts).said (page_comes title parts (title_permitted title h.0) h.1)

@@ -90,6 +90,10 @@ pub refuses :
     × (behind (codes "'a\n") ≡ None)
     × (behind (codes "\\x\n") ≡ None)
     × (behind (codes "a\\\n") ≡ None)
+    -- a character by its number that is more than one byte, a control character, and one without a number
+    × (behind (codes "\\N'233'\n") ≡ None)
+    × (behind (codes "\\N'10'\n") ≡ None)
+    × (behind (codes "\\N''\n") ≡ None)
     -- a place to hyphenate, within a word and at its end
     × (behind (codes "a\\%b\n") ≡ None)
     × (behind (codes "(\\fB\\%\\-\\-a\\fP)\n") ≡ None)
@@ -116,4 +120,4 @@ pub refuses :
     × (behind (codes ".EX\na\n") ≡ None)
     -- a line break where no line is
     × (behind (codes ".br\na\n") ≡ None)
-refuses = (refl, refl, refl, refl, refl, refl, refl, refl, refl, refl, refl, refl, refl, refl, refl, refl, refl, refl, refl, refl, refl, refl, refl, refl, refl, refl, refl, refl, refl)
+refuses = (refl, refl, refl, refl, refl, refl, refl, refl, refl, refl, refl, refl, refl, refl, refl, refl, refl, refl, refl, refl, refl, refl, refl, refl, refl, refl, refl, refl, refl, refl, refl, refl)

@@ -1,6 +1,7 @@
 -- A reader of manual pages, for the part of man(7) that a page is written in: the escapes of a line, the words of a
 -- request, and what each request does. What is not of this part is refused.
 use Rattle.std.specs.Prelude.{ℕ, ◌+◌, ◌-◌, ◌*◌, Bool, true, false, not, ◌&&◌, ◌||◌, ◌==◌, nat_lt, nat_le, List, [], ◌∷◌, ◌++◌, Option, Some, None, fold, codes, if◌then◌else◌}
+use Rattle.std.specs.List.{slice_split}
 use Rattle.std.specs.Str.{bytes_eq}
 use Rattle.man_page.specs.Sheet.{Font, Roman, Bold, Italic, Glyph, Kind, Plain, Tagged, Bulleted, Continued, Indent, Usual, Columns, Said, Heading, Paragraph, Example, Synopsis, Sheet}
 use Rattle.page_model.specs.declared.parts.Rank.{Rank}
@@ -17,14 +18,35 @@ blank = 32
 abbrev pub double_quote : ℕ
 double_quote = 34
 
+abbrev pub percent : ℕ
+percent = 37
+
+abbrev pub ampersand : ℕ
+ampersand = 38
+
 abbrev pub quote : ℕ
 quote = 39
+
+abbrev pub parenthesis : ℕ
+parenthesis = 40
 
 abbrev pub hyphen : ℕ
 hyphen = 45
 
 abbrev pub dot : ℕ
 dot = 46
+
+abbrev pub capital_b : ℕ
+capital_b = 66
+
+abbrev pub capital_i : ℕ
+capital_i = 73
+
+abbrev pub capital_n : ℕ
+capital_n = 78
+
+abbrev pub capital_p : ℕ
+capital_p = 80
 
 abbrev pub backslash : ℕ
 backslash = 92
@@ -35,12 +57,21 @@ circumflex = 94
 abbrev pub grave : ℕ
 grave = 96
 
+abbrev pub small_e : ℕ
+small_e = 101
+
+abbrev pub small_f : ℕ
+small_f = 102
+
 abbrev pub tilde : ℕ
 tilde = 126
 
 -- a control character, which roff has no glyph for
 abbrev pub is_control : ℕ → Bool
 is_control b = (nat_lt b 32 && not (b == 9)) || b == 127
+
+abbrev pub is_digit : ℕ → Bool
+is_digit b = nat_le 48 b && nat_le b 57
 
 -- In a text these are the glyphs of a hyphen, of quotes and of accents, which are other characters.
 abbrev pub is_other_glyph : ℕ → Bool
@@ -111,33 +142,40 @@ is_at_front [] = true
 is_at_front (glyph ∷ []) = glyph.byte == blank
 is_at_front (glyph ∷ next ∷ shown) = is_at_front (next ∷ shown)
 
--- A byte behind a backslash: `\&` shows nothing, and `\~` is a blank that no line breaks at. `\%` shows nothing at the
--- front of a word, which it keeps whole; within one, a line may break there with a hyphen that nobody wrote.
+-- A byte behind a backslash. These escapes are read: `\-`, `\e`, `\~`, `\&`, `\%`, `\(` with a name that `special` has,
+-- `\fB`, `\fI`, `\fP`, and `\N'n'` for a printable character. `\&` shows nothing, and `\~` is a blank at which no line
+-- breaks. `\%` shows nothing at the front of a word, which it keeps whole; within one, a line may break there with a
+-- hyphen that nobody wrote.
 abbrev pub escape_byte : Line → ℕ → Option Line
 escape_byte line b =
     if b == hyphen then Some (with_glyph line hyphen)
-    else if b == 101 then Some (with_glyph line backslash)
+    else if b == small_e then Some (with_glyph line backslash)
     else if b == tilde then Some (with_glyph line blank)
-    else if b == 38 then Some (with_mode line Text)
-    else if b == 37 then (if is_at_front line.shown then Some (with_mode line Text) else None)
-    else if b == 40 then Some (with_mode line Special)
-    else if b == 102 then Some (with_mode line FontName)
-    else if b == 78 then Some (with_mode line Number)
+    else if b == ampersand then Some (with_mode line Text)
+    else if b == percent then (if is_at_front line.shown then Some (with_mode line Text) else None)
+    else if b == parenthesis then Some (with_mode line Special)
+    else if b == small_f then Some (with_mode line FontName)
+    else if b == capital_n then Some (with_mode line Number)
     else None
 
--- a byte of the number of a character
+-- a character of ASCII with a glyph, or a blank
+abbrev pub is_printable : ℕ → Bool
+is_printable n = nat_le 32 n && nat_lt n 127
+
+-- A byte of the number of a character. One that is not of ASCII is more than one byte, and a control character has no
+-- glyph.
 abbrev pub number_byte : Line → ℕ → ℕ → Option Line
 number_byte line n b =
-    if b == quote then Some (with_glyph line n)
-    else if nat_le 48 b && nat_le b 57 then Some (with_mode line (NumberOf (n * 10 + (b - 48))))
+    if b == quote then (if is_printable n then Some (with_glyph line n) else None)
+    else if is_digit b then Some (with_mode line (NumberOf (n * 10 + (b - 48))))
     else None
 
 -- A byte behind `\f`: bold or italic begins in roman, and ends there.
 abbrev pub font_byte : Line → Font → ℕ → Option Line
 font_byte line Roman b =
-    if b == 66 then Some (with_font line Bold) else if b == 73 then Some (with_font line Italic) else None
-font_byte line Bold b = if b == 80 then Some (with_font line Roman) else None
-font_byte line Italic b = if b == 80 then Some (with_font line Roman) else None
+    if b == capital_b then Some (with_font line Bold) else if b == capital_i then Some (with_font line Italic) else None
+font_byte line Bold b = if b == capital_p then Some (with_font line Roman) else None
+font_byte line Italic b = if b == capital_p then Some (with_font line Roman) else None
 
 abbrev pub line_byte : Bool → Line → Mode → ℕ → Option Line
 line_byte other line Text b = text_byte other line b
@@ -272,7 +310,7 @@ request_with request (Some words) otherwise = Some (request words)
 -- a number in decimal digits, of which there is one
 abbrev pub next_digit : Option ℕ → ℕ → Option ℕ
 next_digit None b = None
-next_digit (Some n) b = if nat_le 48 b && nat_le b 57 then Some (n * 10 + (b - 48)) else None
+next_digit (Some n) b = if is_digit b then Some (n * 10 + (b - 48)) else None
 
 abbrev pub number : List ℕ → Option ℕ
 number [] = None
@@ -505,31 +543,28 @@ next_line (Some read) line = done_if read (line_of line)
 
 -- ---- the page
 
--- the lines of a text, each of which ends with a newline, and what stands behind the last of these
-pub record Lines : Type 0 where
-  pub whole : List (List ℕ)
-  pub rest : List ℕ
-
-abbrev pub line_end : Lines → ℕ → Lines
-line_end read b =
-    if b == newline then record { whole = read.whole ++ read.rest ∷ []; rest = [] }
-    else record read { rest = read.rest ++ b ∷ [] }
-
-abbrev pub lines : List ℕ → Lines
-lines bytes = fold line_end (record { whole = []; rest = [] }) bytes
+-- the lines of a text, of which a newline ends each but the last
+abbrev pub lines : List ℕ → List (List ℕ)
+lines bytes = slice_split (λ b. b == newline) bytes
 
 -- a page ends outside examples and synopses, and in no indent
 abbrev pub whole_page : Option Reading → Option Sheet
 whole_page None = None
 whole_page (Some read) =
-    if is_open read.stand && in_no_indent read.indents then Some (record { title = read.title; said = read.said }) else None
+    if is_open read.stand && in_no_indent read.indents
+    then Some (record { title = read.title; said = read.said })
+    else None
 
-abbrev pub page_of_lines : Lines → Option Sheet
-page_of_lines read = elim read.rest as (λ _. Option Sheet) [
-  | [] ↦ whole_page (fold next_line (Some nothing_read) read.whole)
-  | b ∷ bytes ↦ None
-]
+-- nothing stands behind its last newline
+abbrev pub page_if_empty : Option Reading → List ℕ → Option Sheet
+page_if_empty read [] = whole_page read
+page_if_empty read (b ∷ line) = None
+
+abbrev pub page_of : Option Reading → List (List ℕ) → Option Sheet
+page_of read [] = None
+page_of read (last ∷ []) = page_if_empty read last
+page_of read (line ∷ next ∷ more) = page_of (next_line read line) (next ∷ more)
 
 -- the page that a text is read as
 abbrev pub read : List ℕ → Option Sheet
-read bytes = page_of_lines (lines bytes)
+read bytes = page_of (Some nothing_read) (lines bytes)
