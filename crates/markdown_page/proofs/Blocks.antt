@@ -1,11 +1,12 @@
 -- How blocks and entries are read.
-use Rattle.std.proofs.Common.{◌≡◌, ◌≤◌, ◌<◌, ◌+◌, ℕ, zero, suc, max, arith, Bool, true, false, not, ◌&&◌, ◌||◌, List, [], ◌∷◌, ◌++◌, length, refl, sym, ap, ◌∙◌, subst, inl, inr, append-nil, append_assoc}
-use Rattle.std.specs.Prelude.{Option, Some, None, codes, fold, map, flat_map, ◌==◌, nat_le, nat_lt, if◌then◌else◌}
-use Rattle.std.specs.List.{list_all}
+use Rattle.std.proofs.Common.{◌≡◌, ◌≤◌, ◌<◌, ◌+◌, ℕ, zero, suc, max, arith, Bool, true, false, cond, not, ◌&&◌, ◌||◌, List, [], ◌∷◌, ◌++◌, length, refl, sym, ap, ◌∙◌, subst, inl, inr, append-nil, append_assoc}
+use Rattle.std.specs.Prelude.{Option, Some, None, codes, map, flat_map, ◌==◌, nat_le, nat_lt, if◌then◌else◌}
+use Rattle.std.specs.List.{list_all, onto_first}
 use Rattle.std.proofs.lemmas.Bool.{and_parts, and_from, eqb-true, eq-eqb, lt-ltb, le-leb, le-ltb}
-use Rattle.std.proofs.lemmas.List.Sums.{fold-append}
+use Rattle.std.proofs.lemmas.List.Folds.{list_all-map}
+use Rattle.std.proofs.lemmas.List.Splits.{slice_split-cons_no}
 use Rattle.page_model.specs.Content.{Line, BlockSaid, paragraph, code, bullets, EntrySaid, TargetSaid}
-use Rattle.page_model.specs.Permitted.{has_permitted_content, is_permitted_block, is_permitted_byte, is_permitted_entry, is_permitted_line, leads_to_permitted}
+use Rattle.page_model.specs.Permitted.{are_permitted, has_permitted_content, is_permitted_block, is_permitted_byte, is_permitted_entry, is_permitted_line, leads_to_permitted}
 use Rattle.page_model.specs.declared.parts.Rank.{Rank}
 use Rattle.page_model.specs.declared.parts.Rank.TheVariants.{Page, Section, Subsection}
 use Rattle.markdown_page.specs.Bytes.{graves, is_grave}
@@ -13,57 +14,52 @@ use Rattle.markdown_page.specs.Sheet.{Glyph, Said, Heading, Item, Paragraph, Cod
 use Rattle.markdown_page.specs.Kept.{block_kept, body_kept, code_byte, code_kept, dash, entry_kept, item_kept, line_kept, line_shown, paragraph_kept, plain, rank_kept, seen, terms_shown}
 use Rattle.markdown_page.specs.Exact.{block_text, body_text, code_line, code_text, entry_text, further_line, indent, indented, item_text, line_text, lines_text, longest_of, paragraph_text, rank_text, terms_text, title_text, written}
 use Rattle.markdown_page.specs.Reader
-use Rattle.markdown_page.specs.Reader.{Between, Broken, FenceLine, Fenced, Filled, HeadingLine, Inlines, ItemLine, Kind, Reading, Stand, TextLine, Within, deeper, fenced_line, fenced_line_in, heading_line, inlines, is_fence, is_open, is_text_line, item_line, kind_of, line_if, line_of, longest_run, new_paragraph, next_line, on_last, same_paragraph, stand_behind, text_line, with_heading, with_line, within}
-use Rattle.markdown_page.proofs.Bools.{all_both, bool_cases, not_false, not_true, or_false}
+use Rattle.markdown_page.specs.Reader.{Between, Broken, FenceLine, Fenced, Filled, HeadingLine, Inlines, ItemLine, Kind, Reading, Stand, TextLine, Within, deeper, fenced_line, fenced_line_in, heading_line, inlines, is_code_byte, is_fence, is_open, is_text_line, item_line, kind_of, line_if, line_of, lines, longest_run, new_paragraph, next_line, on_last, page_of, same_paragraph, stand_behind, text_line, whole_page, with_heading, with_line, within}
+use Rattle.markdown_page.proofs.Bools.{all_both, bool_cases, not_false, not_true, or_false, weaker}
 use Rattle.markdown_page.proofs.Loops.{at_least}
 use Rattle.markdown_page.proofs.Fronts.{graves_fence}
+use Rattle.markdown_page.proofs.Pieces.{bytes_of}
 use Rattle.markdown_page.proofs.Lines.{IsBody, Reads, body_reads, dashed_body, is_in_line, line_body, tail, terms_body, title_begins, title_inlines, title_inside}
 
 -- ---- lines
 
--- a text that leads a reading on, line by line
-pub record Leads (bytes : List ℕ) (from to : Option Reading) : Type 0 where
-  pub whole : List (List ℕ)
-  pub splits : (before : List (List ℕ)) → fold Reader.line_end (record { whole = before; rest = [] }) bytes ≡ record { whole = before ++ whole; rest = [] }
-  pub reads : fold next_line from whole ≡ to
+abbrev page_from : Option Reading → List ℕ → Option (List Said)
+page_from read bytes = page_of read (lines bytes)
 
-abbrev split_as : List (List ℕ) → List ℕ → Reader.Lines
-split_as whole rest = record { whole = whole; rest = rest }
+-- a text that leads a reading on, line by line, whatever stands behind it
+pub record Leads (bytes : List ℕ) (from to : Option Reading) : Type 0 where
+  pub reads : (rest : List ℕ) → page_from from (bytes ++ rest) ≡ page_from to rest
 
 pub leads_nothing : {r : Option Reading} → Leads [] r r
-leads_nothing = record { whole = []; splits = λ before. ap (λ w. split_as w []) (sym (append-nil before)); reads = refl }
+leads_nothing = record { reads = λ rest. refl }
 
 pub leads_to : {bytes : List ℕ} {r s t : Option Reading} → s ≡ t → Leads bytes r s → Leads bytes r t
-leads_to e p = record { whole = p.whole; splits = p.splits; reads = p.reads ∙ e }
+leads_to e p = record { reads = λ rest. p.reads rest ∙ ap (λ x. page_from x rest) e }
 
 pub leads_then : {a b : List ℕ} {r s t : Option Reading} → Leads a r s → Leads b s t → Leads (a ++ b) r t
-leads_then {a} {b} {r} {s} {t} p q = record {
-  whole = p.whole ++ q.whole;
-  splits = λ before.
-      fold-append Reader.line_end (split_as before []) a b
-      ∙ ap (λ x. fold Reader.line_end x b) (p.splits before)
-      ∙ q.splits (before ++ p.whole)
-      ∙ ap (λ w. split_as w []) (append_assoc before p.whole q.whole);
-  reads = fold-append next_line r p.whole q.whole ∙ ap (λ x. fold next_line x q.whole) p.reads ∙ q.reads;
-}
+leads_then {a} {b} {r} p q = record { reads = λ rest. ap (page_from r) (append_assoc a b rest) ∙ p.reads (b ++ rest) ∙ q.reads rest }
 
-split_line : (before : List (List ℕ)) (first line : List ℕ) → list_all is_in_line line ≡ true
-    → fold Reader.line_end (split_as before first) line ≡ split_as before (first ++ line)
-split_line before first [] h = ap (split_as before) (sym (append-nil first))
-split_line before first (b ∷ line) h =
+pub leads_whole : {bytes : List ℕ} {r s : Option Reading} → Leads bytes r s → page_from r bytes ≡ whole_page s
+leads_whole {bytes} {r} p = ap (page_from r) (sym (append-nil bytes)) ∙ p.reads []
+
+split_line : (line rest : List ℕ) → list_all is_in_line line ≡ true → lines ((line ++ codes "\n") ++ rest) ≡ line ∷ lines rest
+split_line [] rest h = refl
+split_line (b ∷ line) rest h =
     let parts = and_parts (is_in_line b) (list_all is_in_line line) h in
-    ap (λ (x : Bool). fold Reader.line_end (if x then split_as (before ++ first ∷ []) [] else split_as before (first ++ b ∷ [])) line) (not_true (b == 10) parts.0)
-    ∙ split_line before (first ++ b ∷ []) line parts.1
-    ∙ ap (split_as before) (append_assoc first (b ∷ []) line)
+    slice_split-cons_no (λ c. c == 10) b ((line ++ codes "\n") ++ rest) (not_true (b == 10) parts.0) ∙ ap (onto_first b) (split_line line rest parts.1)
+
+step : (r : Option Reading) (line : List ℕ) (test : Bool) (b : ℕ) (more : List (List ℕ))
+    → page_of r (line ∷ cond test ([] ∷ more) (onto_first b more)) ≡ page_of (next_line r line) (cond test ([] ∷ more) (onto_first b more))
+step r line true b more = refl
+step r line false b [] = refl
+step r line false b (next ∷ more) = refl
+
+page_behind : (r : Option Reading) (line rest : List ℕ) → page_of r (line ∷ lines rest) ≡ page_from (next_line r line) rest
+page_behind r line [] = refl
+page_behind r line (b ∷ rest) = step r line (b == 10) b (lines rest)
 
 pub leads_line : (line : List ℕ) (r s : Option Reading) → list_all is_in_line line ≡ true → next_line r line ≡ s → Leads (line ++ codes "\n") r s
-leads_line line r s h e = record {
-  whole = line ∷ [];
-  splits = λ before.
-      fold-append Reader.line_end (split_as before []) line (codes "\n")
-      ∙ ap (λ x. fold Reader.line_end x (codes "\n")) (split_line before [] line h);
-  reads = e;
-}
+leads_line line r s h e = record { reads = λ rest. ap (page_of r) (split_line line rest h) ∙ page_behind r line rest ∙ ap (λ x. page_from x rest) e }
 
 -- ---- how many items are open: those of a level, and more
 
@@ -321,6 +317,18 @@ indented_inside : (level : ℕ) (line : List ℕ) → list_all is_in_line line �
 indented_inside level [] h = refl
 indented_inside level (b ∷ line) h = all_both is_in_line (indent level) (b ∷ line) (indent_inside level) h
 
+permitted_code : (low tab newline delete : Bool) → newline ≡ false → not ((low && not (tab || newline)) || delete) ≡ true → (tab || not (low || delete)) ≡ true
+permitted_code low true newline delete e h = refl
+permitted_code false false newline delete e h = h
+permitted_code true false true delete e h = cc
+permitted_code true false false delete e h = cc
+
+code_byte_is : (b : ℕ) → is_permitted_byte b ≡ true → is_code_byte (code_byte b) ≡ true
+code_byte_is b h = elim (bool_cases (b == 10)) [ inl e ↦ rw e refl | inr e ↦ rw e (permitted_code (nat_lt b 32) (b == 9) (b == 10) (b == 127) e h) ]
+
+code_is : (line : List ℕ) → list_all is_permitted_byte line ≡ true → list_all is_code_byte (map code_byte line) ≡ true
+code_is line h = list_all-map is_code_byte code_byte line ∙ weaker is_permitted_byte (λ b. is_code_byte (code_byte b)) code_byte_is line h
+
 -- a line in code
 fenced_some : (said : List Said) (depth n : ℕ) (lines : List (List ℕ)) (level b : ℕ) (line : List ℕ)
     → next_line (on said depth (Fenced n lines)) (indent level ++ b ∷ line) ≡ fenced_line_in (record { said = said; depth = depth; stand = Fenced n lines }) n lines (within depth (indent level ++ b ∷ line))
@@ -335,23 +343,24 @@ next_fenced said level n lines b line =
     ∙ ap (fenced_line_in read n lines) (within_all level (b ∷ line))
     ∙ ap (λ (x : Bool). if x then fenced_line read n lines (b ∷ line) else None) (eq-eqb level level refl)
 
-fenced_takes : (said : List Said) (level n : ℕ) (before : List (List ℕ)) (line : List ℕ) → longest_run 0 line < n
+fenced_takes : (said : List Said) (level n : ℕ) (before : List (List ℕ)) (line : List ℕ) → longest_run 0 line < n → list_all is_code_byte line ≡ true
     → next_line (on said level (Fenced n before)) (indented level line) ≡ on said level (Fenced n (before ++ line ∷ []))
-fenced_takes said level n before [] h = rw (lt-ltb 0 n h) refl
-fenced_takes said level n before (b ∷ line) h =
+fenced_takes said level n before [] h may = rw (lt-ltb 0 n h) refl
+fenced_takes said level n before (b ∷ line) h may =
     next_fenced said level n before b line
-    ∙ ap (λ (x : Bool). if x then on said level (Fenced n (before ++ (b ∷ line) ∷ [])) else (if list_all is_grave (b ∷ line) then on (said ++ Code level before ∷ []) level Between else None)) (lt-ltb (longest_run 0 (b ∷ line)) n h)
+    ∙ ap (λ (x : Bool). if x then on said level (Fenced n (before ++ (b ∷ line) ∷ [])) else (if list_all is_grave (b ∷ line) then on (said ++ Code level before ∷ []) level Between else None)) (and_from (nat_lt (longest_run 0 (b ∷ line)) n) (list_all is_code_byte (b ∷ line)) (lt-ltb (longest_run 0 (b ∷ line)) n h) may)
 
-code_lines_lead : (said : List Said) (level n : ℕ) (before lines : List (List ℕ)) → longest_of lines ≤ n
+code_lines_lead : (said : List Said) (level n : ℕ) (before lines : List (List ℕ)) → longest_of lines ≤ n → list_all (list_all is_permitted_byte) lines ≡ true
     → Leads (flat_map (code_line level) lines) (on said level (Fenced (suc n) before)) (on said level (Fenced (suc n) (before ++ map (map code_byte) lines)))
-code_lines_lead said level n before [] h = leads_to (ap (λ x. on said level (Fenced (suc n) x)) (sym (append-nil before))) leads_nothing
-code_lines_lead said level n before (line ∷ lines) h =
+code_lines_lead said level n before [] h may = leads_to (ap (λ x. on said level (Fenced (suc n) x)) (sym (append-nil before))) leads_nothing
+code_lines_lead said level n before (line ∷ lines) h may =
+    let parts = and_parts (list_all is_permitted_byte line) (list_all (list_all is_permitted_byte) lines) may in
     let shown : List ℕ = map code_byte line in
     let same : longest_run 0 shown ≡ longest_run 0 line = same_run 0 line in
     let few : longest_run 0 shown < suc n = omega arith in
     let others : longest_of lines ≤ n = omega arith in
-    leads_then (leads_line (indented level shown) (on said level (Fenced (suc n) before)) (on said level (Fenced (suc n) (before ++ shown ∷ []))) (indented_inside level shown (code_inside line)) (fenced_takes said level (suc n) before shown few))
-    (leads_to (ap (λ x. on said level (Fenced (suc n) x)) (append_assoc before (shown ∷ []) (map (map code_byte) lines))) (code_lines_lead said level n (before ++ shown ∷ []) lines others))
+    leads_then (leads_line (indented level shown) (on said level (Fenced (suc n) before)) (on said level (Fenced (suc n) (before ++ shown ∷ []))) (indented_inside level shown (code_inside line)) (fenced_takes said level (suc n) before shown few (code_is line parts.0)))
+    (leads_to (ap (λ x. on said level (Fenced (suc n) x)) (append_assoc before (shown ∷ []) (map (map code_byte) lines))) (code_lines_lead said level n (before ++ shown ∷ []) lines others parts.1))
 
 fence_is : (level n : ℕ) → (indent level ++ graves n) ++ codes "\n" ≡ indent level ++ (graves n ++ codes "\n")
 fence_is level n = append_assoc (indent level) (graves n) (codes "\n")
@@ -373,18 +382,18 @@ close_leads said level n lines =
     subst (λ x. Leads x (on said level (Fenced (suc n) lines)) after) (fence_is level (suc n))
     (leads_line (indent level ++ graves (suc n)) (on said level (Fenced (suc n) lines)) after (fence_inside level (suc n))
     (next_fenced said level (suc n) lines 96 (graves n)
-    ∙ ap (λ (x : Bool). if x then on said level (Fenced (suc n) (lines ++ graves (suc n) ∷ [])) else (if list_all is_grave (graves (suc n)) then after else None)) full
+    ∙ ap (λ (x : Bool). if x then on said level (Fenced (suc n) (lines ++ graves (suc n) ∷ [])) else (if list_all is_grave (graves (suc n)) then after else None)) (ap (λ (x : Bool). x && list_all is_code_byte (graves (suc n))) full)
     ∙ ap (λ (x : Bool). if x then after else None) (all_graves (suc n))))
 
-pub code_comes : (level : ℕ) (lines : List (List ℕ)) (said : List Said) (more : ℕ) (stand : Stand) → is_open stand ≡ true
+pub code_comes : (level : ℕ) (lines : List (List ℕ)) (said : List Said) (more : ℕ) (stand : Stand) → list_all (list_all is_permitted_byte) lines ≡ true → is_open stand ≡ true
     → Comes (code_text level lines) (on said (above level more) stand) level (said ++ code_kept level lines)
-code_comes level lines said more stand o =
+code_comes level lines said more stand h o =
     let shown : List (List ℕ) = map (map code_byte) lines in
     let n : ℕ = longest_of lines in
     let whole : List Said = said ++ Code level shown ∷ [] in
     comes_front (empty_leads said (above level more) stand o)
     (comes_front (open_leads said level n more (at_least lines))
-    (comes_front (code_lines_lead said level n [] lines (omega arith))
+    (comes_front (code_lines_lead said level n [] lines (omega arith) h)
     (record {
       more = 0;
       after = Between;
@@ -397,7 +406,7 @@ code_comes level lines said more stand o =
 pub block_comes : (level : ℕ) (shown : BlockSaid) (said : List Said) (more : ℕ) (stand : Stand) → is_permitted_block shown ≡ true → is_open stand ≡ true
     → Comes (block_text level shown) (on said (above level more) stand) level (said ++ block_kept level shown)
 block_comes level (paragraph lines) said more stand h o = paragraph_comes level lines said more stand h o
-block_comes level (code lines) said more stand h o = code_comes level lines said more stand o
+block_comes level (code lines) said more stand h o = code_comes level lines said more stand (weaker are_permitted (list_all is_permitted_byte) bytes_of lines h) o
 block_comes level (bullets items) said more stand h o =
     comes_front (empty_leads said (above level more) stand o)
     (each_comes level (item_text level) (item_kept level) (list_all is_permitted_line) (item_comes level) items said more Between h refl)

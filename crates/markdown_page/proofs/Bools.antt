@@ -33,11 +33,11 @@ and_right false y h = refl
 pub all_both : (p : ℕ → Bool) (a b : List ℕ) → list_all p a ≡ true → list_all p b ≡ true → list_all p (a ++ b) ≡ true
 all_both p a b h g = list_all-append p a b ∙ and_from (list_all p a) (list_all p b) h g
 
-pub weaker : (p q : ℕ → Bool) → ((b : ℕ) → p b ≡ true → q b ≡ true) → (bytes : List ℕ) → list_all p bytes ≡ true → list_all q bytes ≡ true
+pub weaker : {X : Type 0} (p q : X → Bool) → ((x : X) → p x ≡ true → q x ≡ true) → (xs : List X) → list_all p xs ≡ true → list_all q xs ≡ true
 weaker p q implies [] h = refl
-weaker p q implies (b ∷ bytes) h =
-    let parts = and_parts (p b) (list_all p bytes) h in
-    and_from (q b) (list_all q bytes) (implies b parts.0) (weaker p q implies bytes parts.1)
+weaker p q implies (x ∷ xs) h =
+    let parts = and_parts (p x) (list_all p xs) h in
+    and_from (q x) (list_all q xs) (implies x parts.0) (weaker p q implies xs parts.1)
 
 pub or_cases : (x y : Bool) → (x || y) ≡ true → (x ≡ true) ⊎ (y ≡ true)
 or_cases true y h = inl refl

@@ -70,9 +70,11 @@ pub reads :
     × (read (codes "- a\n- b\n\n  - c\n\n- d\n\ne\n") ≡ says (Item 0 ∷ Paragraph 1 (plain (codes "a") ∷ []) ∷ Item 0 ∷ Paragraph 1 (plain (codes "b") ∷ []) ∷ Item 1 ∷ Paragraph 2 (plain (codes "c") ∷ []) ∷ Item 0 ∷ Paragraph 1 (plain (codes "d") ∷ []) ∷ line (codes "e")))
     -- code in an item, and a line that would end it, were it longer
     × (read (codes "- a\n\n  ````\n    b\n\n  ```\n  `````\n") ≡ says (Item 0 ∷ Paragraph 1 (plain (codes "a") ∷ []) ∷ Code 1 (codes "  b" ∷ [] ∷ codes "```" ∷ []) ∷ []))
+    -- code with a tab
+    × (read (codes "```\n\ta\n```\n") ≡ says (Code 0 (codes "\ta" ∷ []) ∷ []))
     -- what begins like code or a number
     × (read (codes "``` a```\n\n12\n") ≡ says (Paragraph 0 (spanned (codes " a") ∷ []) ∷ line (codes "12")))
-reads = (refl, refl, refl, refl, refl, refl, refl, refl, refl, refl)
+reads = (refl, refl, refl, refl, refl, refl, refl, refl, refl, refl, refl)
 
 pub refuses :
     -- a text that does not end with a newline
@@ -104,6 +106,9 @@ pub refuses :
     × (read (codes "```a\nb\n```\n") ≡ None)
     × (read (codes "```\na\n") ≡ None)
     × (read (codes "```\na```\n```\n") ≡ None)
+    -- code with a carriage return, and with a NUL
+    × (read (codes "```\na" ++ (13 ∷ codes "b\n```\n")) ≡ None)
+    × (read (codes "```\n" ++ (0 ∷ codes "\n```\n")) ≡ None)
     -- emphasis, HTML, references and images
     × (read (codes "*a*\n") ≡ None)
     × (read (codes "_a_\n") ≡ None)
@@ -122,4 +127,4 @@ pub refuses :
     × (read (codes "`a\n") ≡ None)
     -- a tab
     × (read (codes "a\tb\n") ≡ None)
-refuses = (refl, refl, refl, refl, refl, refl, refl, refl, refl, refl, refl, refl, refl, refl, refl, refl, refl, refl, refl, refl, refl, refl, refl, refl, refl, refl, refl, refl, refl, refl, refl, refl, refl, refl, refl, refl)
+refuses = (refl, refl, refl, refl, refl, refl, refl, refl, refl, refl, refl, refl, refl, refl, refl, refl, refl, refl, refl, refl, refl, refl, refl, refl, refl, refl, refl, refl, refl, refl, refl, refl, refl, refl, refl, refl, refl, refl)

@@ -1,7 +1,7 @@
 -- A reader of markdown, for the part of CommonMark that a page is written in: what each line begins, in which items it
 -- stands, and what stands within a line. What is not of this part is refused.
 use Rattle.std.specs.Prelude.{ℕ, zero, suc, ◌+◌, ◌-◌, ◌*◌, max, Bool, true, false, not, ◌&&◌, ◌||◌, ◌==◌, nat_lt, nat_le, List, [], ◌∷◌, ◌++◌, length, map, Option, Some, None, fold, codes, if◌then◌else◌}
-use Rattle.std.specs.List.{list_all, list_any}
+use Rattle.std.specs.List.{list_all, list_any, slice_split}
 use Rattle.std.specs.Str.{bytes_eq}
 use Rattle.markdown_page.specs.Bytes.{begins_with, blank, grave, graves, holds_definition, is_blank, is_digit, is_grave, is_letter, is_word}
 use Rattle.markdown_page.specs.Sheet.{Glyph, Said, Heading, Item, Paragraph, Code}
@@ -434,10 +434,15 @@ abbrev pub longest_run : ℕ → List ℕ → ℕ
 longest_run run [] = run
 longest_run run (b ∷ line) = if b == grave then longest_run (suc run) line else max run (longest_run 0 line)
 
+-- a byte of code: CommonMark ends a line at a carriage return too, and has U+FFFD for a NUL
+abbrev pub is_code_byte : ℕ → Bool
+is_code_byte b = b == 9 || not (is_control b)
+
 -- A line in code. It ends with a line of as many backquotes as it began with or more; other lines have fewer.
 abbrev pub fenced_line : Reading → ℕ → List (List ℕ) → List ℕ → Option Reading
 fenced_line read n lines line =
-    if nat_lt (longest_run 0 line) n then Some (record read { stand = Fenced n (lines ++ line ∷ []) })
+    if nat_lt (longest_run 0 line) n && list_all is_code_byte line
+    then Some (record read { stand = Fenced n (lines ++ line ∷ []) })
     else if list_all is_grave line then Some (record read {
       said = read.said ++ Code read.depth lines ∷ [];
       stand = Between;
@@ -467,30 +472,25 @@ next_line (Some read) line = next_in read read.stand line
 
 -- ---- the page
 
--- the lines of a text, each of which ends with a newline, and what stands behind the last of these
-pub record Lines : Type 0 where
-  pub whole : List (List ℕ)
-  pub rest : List ℕ
-
-abbrev pub line_end : Lines → ℕ → Lines
-line_end read b =
-    if b == newline then record { whole = read.whole ++ read.rest ∷ []; rest = [] }
-    else record read { rest = read.rest ++ b ∷ [] }
-
-abbrev pub lines : List ℕ → Lines
-lines bytes = fold line_end (record { whole = []; rest = [] }) bytes
+-- the lines of a text, of which a newline ends each but the last
+abbrev pub lines : List ℕ → List (List ℕ)
+lines bytes = slice_split (λ b. b == newline) bytes
 
 -- a page ends outside code, and behind no line break
 abbrev pub whole_page : Option Reading → Option (List Said)
 whole_page None = None
 whole_page (Some read) = if is_open read.stand then Some read.said else None
 
-abbrev pub page_of_lines : Lines → Option (List Said)
-page_of_lines read = elim read.rest as (λ _. Option (List Said)) [
-  | [] ↦ whole_page (fold next_line (Some nothing_read) read.whole)
-  | b ∷ bytes ↦ None
-]
+-- nothing stands behind its last newline
+abbrev pub page_if_empty : Option Reading → List ℕ → Option (List Said)
+page_if_empty read [] = whole_page read
+page_if_empty read (b ∷ line) = None
+
+abbrev pub page_of : Option Reading → List (List ℕ) → Option (List Said)
+page_of read [] = None
+page_of read (last ∷ []) = page_if_empty read last
+page_of read (line ∷ next ∷ more) = page_of (next_line read line) (next ∷ more)
 
 -- the page that a text is read as
 abbrev pub read : List ℕ → Option (List Said)
-read bytes = page_of_lines (lines bytes)
+read bytes = page_of (Some nothing_read) (lines bytes)

@@ -14,8 +14,8 @@ An entry of a list is an item: its terms are the code spans at its front, with a
 behind them stands ` \u2014 ` and the first paragraph of what is said of it. A usage is code.
 
 Not read, since none is written: indented code, setext headings, thematic breaks, quotes, numbered lists, HTML,
-emphasis, images, link references, entities but `&#32;`, `&#123;`, and `&amp;` in an autolink, and paragraphs that go
-on in a second line without a hard break.
+emphasis, images, link references, entities but `&#32;`, `&#123;`, and `&amp;` in an autolink, paragraphs that go on
+in a second line without a hard break, and control characters but tabs and newlines.
 """
 import re
 
@@ -32,6 +32,8 @@ HEADING = re.compile(r"(#{1,6}) (.*)")
 FENCE = re.compile(r"(```+)([^`]*)")
 # Begins a block that no page has.
 OTHER = re.compile(r"[+*>=~]|<(?!https?:)|\t|    |\[(?:\\.|[^\[\]\\])+\]:|#|-[ -]|[0-9]{1,9}[.)]|_{3}|```+[^`]*$")
+# CommonMark ends a line at a carriage return too, and has U+FFFD for a NUL.
+CONTROL = re.compile(r"[\x00-\x08\x0b-\x1f\x7f]")
 
 
 class Refused(Exception):
@@ -40,6 +42,8 @@ class Refused(Exception):
 
 def read(text):
     """The tree of a page, as `markdown.keeps` gives it."""
+    if CONTROL.search(text):
+        raise Refused("a control character")
     return element("page", *blocks(text.split("\n")))
 
 
