@@ -180,17 +180,30 @@ fn is_made_in(
 
 // Whether it is there in some room, and not before with less of it.
 fn is_made_with_more(rt: &impl Abort, out: Global, row: &(&str, &str)) -> bool {
-    for step in 0..1024 {
-        if let Some(is_that) = is_made_in(rt, out, row.0, row.1, step * 32) {
+    for step in 0..4096 {
+        if let Some(is_that) = is_made_in(rt, out, row.0, row.1, step * 8) {
             return is_that && step > 0;
         }
     }
     false
 }
 
+// Whether each second row is, from the first or from the second on: all of them take a test too long.
+fn are_made_with_more(rt: &impl Abort, out: Global, is_odd: bool) -> bool {
+    for (index, row) in ROWS.iter().enumerate() {
+        if (index % 2 == 1) == is_odd && !is_made_with_more(rt, out, row) {
+            return false;
+        }
+    }
+    true
+}
+
 #[test]
 fn drafts_are_made_with_more_room(rt: HostRuntime) {
-    for row in ROWS {
-        assert!(rt; is_made_with_more(&rt, rt.alloc(), row));
-    }
+    assert!(rt; are_made_with_more(&rt, rt.alloc(), false));
+}
+
+#[test]
+fn others_are_made_with_more_room(rt: HostRuntime) {
+    assert!(rt; are_made_with_more(&rt, rt.alloc(), true));
 }
