@@ -1,4 +1,4 @@
--- Items one behind another, and texts that are cut into them.
+-- Items one after another, and texts that are cut into them.
 use Rattle.std.proofs.Common.{◌≡◌, ℕ, suc, ◌-◌, ◌<◌, ◌==◌, cond, List, [], ◌∷◌, ◌++◌, length, get_or, append_assoc, append-nil, arith, refl, sym, ap, ◌∙◌, Bor, Some, None}
 use Rattle.std.specs.Prelude.{Result, Ok, Err, OnOk, IfOk, is_ok, flat_map, codes, if◌then◌else◌}
 use Rattle.std.specs.List.{after_first, onto_first, slice_split}
@@ -9,7 +9,7 @@ use Rattle.bpaf_doc.specs.Splitter.Chunks.{columns}
 use Rattle.console_page.specs.Usage.{form_margin, hanging, item_front, items_text, left_behind, pieces}
 use Rattle.console_page.specs.Steps.{left_after}
 
--- ---- items behind others
+-- ---- items after others
 
 pub items_append : (room : ℕ) (margin : List ℕ) (left : ℕ) (xs ys : List (List ℕ)) → items_text room margin left (xs ++ ys) ≡ items_text room margin left xs ++ items_text room margin (left_after room left xs) ys
 items_append room margin left [] ys = refl
@@ -59,7 +59,7 @@ next_there c bs f line behind h low =
     let found = split_once_first c bs (Some (line, behind)) h low in
     ap (flat_map f) (slice_split_first (λ b. b == c) bs 0 found.0 ∙ ap (λ x. x ∷ slice_split (λ b. b == c) (after_first (λ b. b == c) bs)) (sym found.1) ∙ ap (λ x. line.now ∷ slice_split (λ b. b == c) x) (sym found.2))
 
--- ---- items behind a front
+-- ---- items after a front
 
 hung_same : (width taken len room : ℕ) (front margin shown : List ℕ) (items : List (List ℕ)) → taken ≡ columns front → margin ≡ form_margin width taken items → shown ≡ margin → len ≡ length shown → room ≡ width - len
     → items_text room shown (width - taken) (flat_map (pieces room) items) ≡ items_text (width - length (form_margin width (columns front) items)) (form_margin width (columns front) items) (width - columns front) (flat_map (pieces (width - length (form_margin width (columns front) items))) items)

@@ -1,4 +1,4 @@
--- Texts of the items of a list, one behind the other.
+-- Texts of the items of a list, one after another.
 use Rattle.std.proofs.Common.{◌≡◌, ℕ, ◌+◌, ◌<◌, List, [], ◌∷◌, ◌++◌, length, append-nil, append_assoc, add-one, sym, ap, ◌∙◌, drop, get_or, map, take}
 use Rattle.std.proofs.Math.Seq.{drop-cons}
 use Rattle.std.specs.Prelude.{flat_map}

@@ -20,7 +20,7 @@ paragraph_text width lines = laid_out width (broken_lines lines) ++ codes "\n"
 abbrev pub item_text : ℕ → List Line → List ℕ
 item_text width item = behind (codes "- ") (codes "  ") (paragraph_text (width - 2) item)
 
--- code is four columns in, as it stands
+-- code is indented by four columns, as it stands
 abbrev pub code_line : List ℕ → List ℕ
 code_line line = shown Code line ++ codes "\n"
 
@@ -32,7 +32,7 @@ block_text width (paragraph lines) = paragraph_text width lines
 block_text width (code lines) = code_text lines
 block_text width (bullets items) = flat_map (item_text width) items
 
--- a block behind another, below an empty line
+-- a block after another, below an empty line
 abbrev pub further_block : ℕ → BlockSaid → List ℕ
 further_block width block = codes "\n" ++ block_text width block
 

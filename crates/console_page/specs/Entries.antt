@@ -15,7 +15,7 @@ abbrev pub terms_text : List Line → List ℕ
 terms_text [] = []
 terms_text (term ∷ terms) = line_text term ++ flat_map further_term terms
 
--- a long name that comes first stands as far in as one behind a short name
+-- a long name that comes first is indented as far as one after a short name
 abbrev pub terms_front : List ℕ → List ℕ
 terms_front (a ∷ b ∷ terms) = if (a == 45) && (b == 45) then codes "    " else []
 terms_front _ = []
@@ -42,7 +42,7 @@ abbrev pub first_line : List ℕ → List ℕ
 first_line text = before_first (λ b. b == 10) text
 
 -- Whether what is said stands beside its term: its first line is not empty, and either it begins in the column, at
--- least two blanks behind the term, or it fits two blanks behind a wider term.
+-- least two blanks after the term, or it fits two blanks after a wider term.
 abbrev pub is_beside : ℕ → ℕ → List ℕ → List ℕ → Bool
 is_beside width column term help =
     has_some (first_line help)
@@ -67,7 +67,7 @@ abbrev pub has_several : {X : Type 0} → List X → Bool
 has_several (a ∷ b ∷ rest) = true
 has_several _ = false
 
--- below one that has several blocks stands an empty line, if another entry follows
+-- an empty line follows an entry that has several blocks, if there is another entry
 abbrev pub entries_text : ℕ → ℕ → Bool → List EntrySaid → List ℕ
 entries_text width column parted [] = []
 entries_text width column parted (entry ∷ list) =

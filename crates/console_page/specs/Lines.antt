@@ -1,4 +1,4 @@
--- Lines behind prefixes, and paragraphs that are laid out.
+-- Lines with prefixes, and paragraphs that are laid out.
 use Rattle.std.specs.Prelude.{ℕ, ◌==◌, Bool, true, false, List, [], ◌∷◌, ◌++◌, codes, replicate}
 use Rattle.bpaf_doc.specs.declared.buffer.Style.TheVariants as style
 use Rattle.bpaf_doc.specs.Buffer.Writes.{with_text}
@@ -7,17 +7,17 @@ use Rattle.bpaf_doc.specs.Console.Exact.{console_page}
 abbrev pub blanks : ℕ → List ℕ
 blanks count = replicate count 32
 
--- A text of words as `bpaf_doc` lays out a document that has nothing but it.
+-- A text of words as `bpaf_doc` lays out a document of nothing else.
 unfoldable pub laid_out : ℕ → List ℕ → List ℕ
 laid_out width text = console_page true width (with_text [] text style.Text)
 
--- a line behind a prefix, which an empty one does not have
+-- a line after a prefix, which an empty line does not have
 abbrev pub fronted : List ℕ → List ℕ → List ℕ
 fronted front [] = []
 fronted front (b ∷ line) = front ++ (b ∷ line)
 
--- The lines of a text, the first behind one prefix and each other behind another: what is `first` stands before the
--- next byte, unless that ends the line, and behind a newline it is the other prefix.
+-- The lines of a text, the first after one prefix and each further one after another: `first` stands before the next
+-- byte, unless that ends the line; after a newline it is the other prefix.
 abbrev pub behind : List ℕ → List ℕ → List ℕ → List ℕ
 behind first others [] = []
 behind first others (b ∷ text) =

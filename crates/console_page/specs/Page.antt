@@ -8,8 +8,8 @@ use Rattle.console_page.specs.Blocks.{block_text}
 use Rattle.console_page.specs.Entries.{entries_text, widest_of}
 use Rattle.console_page.specs.Usage.{usage_text}
 
--- The column of what is said of the entries of a page: two behind the widest term of up to 24 columns, and terms stand
--- four columns in.
+-- The column of what is said of the entries of a page: two after the widest term of up to 24 columns, where terms are
+-- indented by four columns.
 abbrev pub widest_in : ℕ → PartSaid → ℕ
 widest_in widest (heading rank title) = widest
 widest_in widest (usage forms) = widest
@@ -19,7 +19,7 @@ widest_in widest (entries list) = widest_of widest list
 abbrev pub help_column : List PartSaid → ℕ
 help_column parts = fold widest_in 0 parts + 6
 
--- A title has a colon behind it. A usage and a block stand behind a margin, and entries have their own.
+-- A title is followed by a colon. A usage and a block have a margin before them, and entries have their own.
 abbrev pub part_text : ℕ → ℕ → List ℕ → List ℕ → PartSaid → List ℕ
 part_text width column word margin (heading rank title) = shown Text title ++ codes ":\n"
 part_text width column word margin (usage forms) =

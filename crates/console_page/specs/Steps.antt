@@ -2,7 +2,7 @@
 use Rattle.std.specs.Prelude.{ℕ, ◌==◌, ◌&&◌, Bool, not, List, fold}
 use Rattle.console_page.specs.Usage.{left_behind}
 
--- the columns that are left behind some items
+-- the columns that are left after some items
 abbrev pub left_after : ℕ → ℕ → List (List ℕ) → ℕ
 left_after room left items = fold (left_behind room) left items
 

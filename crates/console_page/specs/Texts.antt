@@ -4,7 +4,7 @@ use Rattle.page_model.specs.Content.{Piece, words, literal, value, link, page, L
 use Rattle.console_page.specs.declared.texts.Role.{Role}
 use Rattle.console_page.specs.declared.texts.Role.TheVariants.{Text, Code}
 
--- A newline and a tab are a blank, but a tab in code stays.
+-- A newline is a blank, and so is a tab except in code.
 abbrev pub tab_text : Role → List ℕ
 tab_text Text = codes " "
 tab_text Code = 9 ∷ []

@@ -10,15 +10,15 @@ use Rattle.console_page.specs.Lines.{blanks}
 
 -- ---- items in lines
 
--- Where so many columns are left in a line, an item begins the next one if it does not fit behind a blank, and has more
--- room there.
+-- Where that many columns are left in a line, an item begins the next one if it does not fit after a blank, and has
+-- more room there.
 abbrev pub breaks : ℕ → ℕ → List ℕ → Bool
 breaks room left item = nat_le left (columns item) && nat_lt left room
 
 abbrev pub item_front : ℕ → List ℕ → ℕ → List ℕ → List ℕ
 item_front room margin left item = if breaks room left item then codes "\n" ++ margin else codes " "
 
--- the columns that are left behind it
+-- the columns that are left after it
 abbrev pub left_behind : ℕ → ℕ → List ℕ → ℕ
 left_behind room left item = (if breaks room left item then room else left - 1) - columns item
 
@@ -32,7 +32,7 @@ items_text room margin left (item ∷ items) =
 abbrev pub fits : ℕ → List ℕ → Bool
 fits room item = nat_le (columns item) room
 
--- an item without letters is none
+-- an item without letters is nothing
 abbrev pub kept : List ℕ → List (List ℕ)
 kept [] = []
 kept (b ∷ item) = (b ∷ item) ∷ []
@@ -48,7 +48,7 @@ abbrev pub depth_behind : ℕ → ℕ → ℕ
 depth_behind depth b =
     if is_opening b then min (depth + 1) 18_446_744_073_709_551_615 else if is_closing b then depth - 1 else depth
 
--- a blank behind a bar
+-- a blank after a bar
 abbrev pub is_bar_end : Bool → ℕ → Bool
 is_bar_end behind_bar b = behind_bar && b == 32
 
@@ -61,7 +61,7 @@ outermost least depth behind_bar [] = least
 outermost least depth behind_bar (b ∷ item) =
     outermost (least_behind least depth behind_bar b) (depth_behind depth b) (b == 124) item
 
--- an item with newlines for the blanks behind the bars of a depth
+-- an item with newlines in place of the blanks after the bars of a depth
 abbrev pub is_cut : ℕ → ℕ → Bool → ℕ → Bool
 is_cut least depth behind_bar b = is_bar_end behind_bar b && depth == least
 
@@ -73,11 +73,11 @@ cut_bars least depth behind_bar [] = []
 cut_bars least depth behind_bar (b ∷ item) =
     cut_byte least depth behind_bar b ∷ cut_bars least (depth_behind depth b) (b == 124) item
 
--- an item with newlines behind its outermost bars; closing brackets may come before opening ones
+-- an item with newlines after its outermost bars; closing brackets may come before opening ones
 abbrev pub cut_item : List ℕ → List ℕ
 cut_item item = cut_bars (outermost 18_446_744_073_709_551_615 (length item) false item) (length item) false item
 
--- a part of an item, without white space at its ends: whole, where it fits a line, and else its words
+-- a part of an item, without white space at its ends: whole, where it fits a line, otherwise its words
 abbrev pub part_pieces : ℕ → List ℕ → List (List ℕ)
 part_pieces room part =
     if fits room (trim part) then kept (trim part) else flat_map kept (slice_split (λ b. b == 32) (trim part))
@@ -90,19 +90,19 @@ pieces room item =
 
 -- ---- a form
 
--- the columns behind a front that takes so many, and a blank
+-- the columns after a front that takes that many, and a blank
 abbrev pub room_behind : ℕ → ℕ → ℕ
 room_behind width taken = width - taken - 1
 
 abbrev pub all_fit : ℕ → List (List ℕ) → Bool
 all_fit room items = list_all (fits room) items
 
--- Lines but the first begin under the first item, or four columns in where the widest item would not fit there.
+-- Lines except the first begin under the first item, or four columns in where the widest item would not fit there.
 abbrev pub form_margin : ℕ → ℕ → List (List ℕ) → List ℕ
 form_margin width taken items =
     if all_fit (room_behind width taken) items then blanks taken ++ codes " " else codes "    "
 
--- items behind a front
+-- items after a front
 abbrev pub hung_items : ℕ → List ℕ → List ℕ → List (List ℕ) → List ℕ
 hung_items width front margin items =
     front ++ (items_text (width - length margin) margin (width - columns front)
@@ -114,7 +114,7 @@ hanging width front items = hung_items width front (form_margin width (columns f
 abbrev pub form_text : ℕ → List ℕ → FormSaid → List ℕ
 form_text width word form = hanging width (word ++ shown Text form.name) (map line_text form.items)
 
--- the first form behind a word, and the others under it
+-- the first form after a word, and the others under it
 abbrev pub usage_text : ℕ → List ℕ → List FormSaid → List ℕ
 usage_text width word [] = []
 usage_text width word (form ∷ forms) =

@@ -54,7 +54,7 @@ fn is_cut(least: usize, depth: usize, is_behind_bar: bool, byte: u8) -> bool
     is_bar_end(is_behind_bar, byte) && depth == least
 }
 
-// Writes a text with newlines for the blanks behind the bars of a depth.
+// Writes a text with newlines in place of the blanks after the bars of a depth.
 fn push_cut_at<A: Allocator>(
     out: &mut String<A>,
     item: &str,
@@ -79,7 +79,7 @@ fn push_cut_at<A: Allocator>(
     out.push_str(&item[start..])
 }
 
-/// Writes an item with newlines behind its outermost bars.
+/// Writes an item with newlines after its outermost bars.
 pub fn push_cut<A: Allocator>(out: &mut String<A>, item: &str) -> Result<(), AllocError>
     ensures { OnOk result (string_bytes out.new ≡ string_bytes out.old ++ cut_item item.now) }
 {

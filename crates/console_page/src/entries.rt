@@ -126,7 +126,7 @@ fn push_gap<A: Allocator>(term: &mut String<A>, column: usize) -> Result<(), All
     push_blanks(term, column.saturating_sub(taken).max(2))
 }
 
-// A term, and what is said beside it or below it, behind the margin of the column.
+// A term, and what is said beside it or below it, after the margin of the column.
 fn push_hung<A: Allocator>(
     out: &mut String<A>,
     width: usize,
@@ -178,7 +178,7 @@ fn has_several<B: Allocator>(blocks: &[Block<'_, B>]) -> bool
     blocks.len() > 1
 }
 
-// Writes entries, with what is said of them behind the margin of this column.
+// Writes entries, with what is said of them after the margin of this column.
 fn push_all<A: Allocator + Copy, B: Allocator>(
     out: &mut String<A>,
     alloc: A,

@@ -1,4 +1,4 @@
-//! Pages on a console: a page that is said is written as text for so many columns.
+//! Pages on a console: a page that is said is written as text of a given width.
 #![tactic(auto)]
 
 pub use page::{console_page, console_usage};

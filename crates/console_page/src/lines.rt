@@ -1,4 +1,4 @@
-//! Lines behind prefixes, and paragraphs that are laid out.
+//! Lines with prefixes, and paragraphs that are laid out.
 
 ghost use Rattle.std.specs.Prelude.{◌≡◌, ◌++◌, IfOk, OnOk, string_bytes};
 ghost use Rattle.std.specs.Int.{is_in_range};
@@ -17,7 +17,7 @@ pub fn parting(is_wanted: bool) -> &'static str
     if is_wanted { "\n" } else { "" }
 }
 
-/// Writes so many blanks.
+/// Writes that many blanks.
 pub fn push_blanks<A: Allocator>(out: &mut String<A>, count: usize) -> Result<(), AllocError>
     ensures { OnOk result (string_bytes out.new ≡ string_bytes out.old ++ blanks count) }
 {
@@ -27,7 +27,7 @@ pub fn push_blanks<A: Allocator>(out: &mut String<A>, count: usize) -> Result<()
     Ok(())
 }
 
-// A line behind a prefix, which an empty one does not have.
+// A line after a prefix, which an empty line does not have.
 fn push_fronted<A: Allocator>(
     out: &mut String<A>,
     front: &str,
@@ -42,7 +42,7 @@ fn push_fronted<A: Allocator>(
     out.push_str(line)
 }
 
-/// Writes the lines of a text, the first behind one prefix and each other behind another. Nothing stands before an
+/// Writes the lines of a text, the first after one prefix and each further one after another. Nothing stands before an
 /// empty line.
 pub fn push_behind<A: Allocator>(
     out: &mut String<A>,
@@ -64,7 +64,7 @@ pub fn push_behind<A: Allocator>(
     push_fronted(out, front, rest)
 }
 
-// Whether all of these are printable ASCII. It looks at each, whatever came before, so that it looks at many at once.
+// Whether all of these are printable ASCII. It looks at each, whatever came before, so that many are compared at once.
 fn is_printable(bytes: &[u8]) -> bool
     ensures { result ≡ list_all (is_in_range 0x20 0x7E) bytes.now }
 {

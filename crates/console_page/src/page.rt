@@ -155,10 +155,10 @@ fn are_permitted_texts<B: Allocator>(usage_word: &str, parts: &[Part<'_, B>]) ->
     are_permitted(usage_word) && are_permitted_parts(parts)
 }
 
-/// The page that says these parts in order, as lines of so many columns. A word and a colon stand before a usage.
+/// The page that says these parts in order, as lines of that many columns. A word and a colon stand before a usage.
 ///
-/// Each line of a paragraph is laid out by itself, by `bpaf_doc`, and what it gives is set behind prefixes:
-/// `page_text` says each byte.
+/// Each line of a paragraph is laid out by itself, by `bpaf_doc`, and prefixes are put before the result: `page_text`
+/// says each byte.
 ///
 /// `Character` comes where a text or the word has a control character but newline and tab, or a noncharacter; else an
 /// error comes only where an allocation failed.
@@ -196,7 +196,7 @@ fn are_permitted_usages<B: Allocator>(forms: &[Form<'_, B>]) -> bool
     are_permitted_forms(forms)
 }
 
-/// The forms of a usage alone, as lines of so many columns.
+/// The forms of a usage alone, as lines of that many columns.
 ///
 /// `Character` comes where a text has a control character but newline and tab, or a noncharacter; else an error comes
 /// only where an allocation failed.

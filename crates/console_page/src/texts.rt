@@ -39,7 +39,7 @@ impl StandIns for Role {
     }
 }
 
-// Whether each byte stands for itself. It looks at each, whatever came before, so that it looks at many at once.
+// Whether each byte stands for itself. It looks at each, whatever came before, so that many are compared at once.
 fn stand_alone(bytes: &[u8]) -> bool
     ensures { result ≡ list_all stands_alone bytes.now }
 {
@@ -73,7 +73,7 @@ fn push_piece<A: Allocator>(out: &mut String<A>, piece: Inline<'_>) -> Result<()
     }
 }
 
-/// Writes the pieces of a line behind what is there.
+/// Appends the pieces of a line to what is there.
 pub fn push_line<A: Allocator>(out: &mut String<A>, pieces: &[Inline<'_>]) -> Result<(), AllocError>
     ensures { OnOk result (string_bytes out.new ≡ string_bytes out.old ++ line_text (line_of pieces.now)) }
 {

@@ -16,7 +16,7 @@ use page_model::replaced::push_replaced;
 use page_model::{Form, Inline, Line};
 use std::alloc::{AllocError, Allocator};
 
-// What stands before the lines but the first, and how many columns these have for items.
+// What stands before each line except the first, and how many columns these have for items.
 #[derive(Clone, Copy)]
 struct Hang<'a> {
     margin: &'a str,
@@ -56,7 +56,7 @@ fn push_item_front<A: Allocator>(
     out.push_str(hang.margin)
 }
 
-// What is not broken, in a line that has so many columns left. How many it has then is returned.
+// Writes what is not broken, in a line that has that many columns left, and returns how many it has then.
 fn push_kept<A: Allocator>(
     out: &mut String<A>,
     left: usize,
@@ -235,7 +235,7 @@ fn push_margin<A: Allocator + Copy, B: Allocator>(
     margin.push_str(" ")
 }
 
-// Items behind a front.
+// Items after a front.
 fn push_hanging<A: Allocator + Copy, B: Allocator>(
     out: &mut String<A>,
     alloc: A,
@@ -290,7 +290,7 @@ fn push_forms<A: Allocator + Copy, B: Allocator>(
     Ok(())
 }
 
-/// Writes the forms of a usage, the first behind a word and the others under it.
+/// Writes the forms of a usage, the first after a word and the others under it.
 pub fn push_usage<A: Allocator + Copy, B: Allocator>(
     out: &mut String<A>,
     alloc: A,

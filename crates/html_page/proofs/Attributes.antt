@@ -26,7 +26,7 @@ event_values name end = []
 abbrev pub given_in : (name : List ℕ) → List Event → List (List ℕ)
 given_in name = flat_map (event_values name)
 
--- the elements that are open behind an event, the innermost first
+-- the elements that are open after an event, the innermost first
 abbrev pub outer : List Tag → List Tag
 outer [] = []
 outer (tag ∷ tags) = tags

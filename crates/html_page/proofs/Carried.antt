@@ -126,7 +126,7 @@ module _ (P : List ℕ → Type 0) where
   pub one_text : (e : Element) (bytes : List ℕ) → Quiet P (text_in e bytes)
   one_text e bytes = in_element e (say bytes ∷ []) (one_say bytes)
 
-  -- ---- one behind another
+  -- ---- one after another
 
   module _ {X : Type 0} (f : X → List Event) (a : X → List (List ℕ)) (gives : (x : X) → Each P (a x) → Quiet P (f x)) where
     pub flat_gives : (xs : List X) → Each P (flat_map a xs) → Quiet P (flat_map f xs)

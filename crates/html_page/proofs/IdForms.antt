@@ -1,4 +1,4 @@
--- What an id tells: the title of the chapter that it is of, and what stands behind the id of the chapter's section.
+-- What an id says: the title of the chapter that it is of, and what follows the id of the chapter's section.
 use Rattle.std.proofs.Common.{◌≡◌, ℕ, ◌+◌, ◌*◌, ◌%◌, ◌/◌, ◌<◌, ◌^◌, ◌==◌, Bool, true, false, List, [], ◌∷◌, ◌++◌, codes, decimal, if◌then◌else◌, refl, sym, ap, ap₂, ◌∙◌, subst, inl, inr, ◌⊎◌, arith, append_assoc, append-nil}
 use Rattle.std.specs.Prelude.{not, ◌&&◌}
 use Rattle.std.specs.Char.{digit_char, digit_value}
@@ -76,7 +76,7 @@ text_told (x ∷ v) (y ∷ w) e = let both = byte_told x y (id_text v) (id_text 
 
 -- ---- a title
 
--- what may stand behind the id of a section: nothing, or two colons first
+-- what may follow the id of a section: nothing, or two colons first
 abbrev pub Tail : List ℕ → Type 0
 Tail [] = Unit {0}
 Tail (b ∷ []) = ⊥
@@ -118,7 +118,7 @@ no_blank_last y e h = false≢true (sym (ap (λ b. is_parted (b ∷ [])) e) ∙ 
 no_two_blanks : (y z : ℕ) (b : List ℕ) → y ≡ 32 → z ≡ 32 → is_parted (y ∷ z ∷ b) ≡ true → ⊥
 no_two_blanks y z b e f h = false≢true (sym (ap₂ (λ c d. is_parted (c ∷ d ∷ b)) e f) ∙ h)
 
--- behind one title is nothing or two colons: so the other goes on no further
+-- nothing or two colons follow one title: so the other title ends there too
 no_more : (y : ℕ) (b t u : List ℕ) → is_parted (y ∷ b) ≡ true → Tail t → t ≡ title_byte y ++ (chapter_id b ++ u) → ⊥
 no_more y b [] u h k e = elim (blank_or_not y) [
   | inl p ↦ let none : [] ≡ 58 ∷ (chapter_id b ++ u) = e ∙ ap (λ bs. bs ++ (chapter_id b ++ u)) p.1 in cc
@@ -136,7 +136,7 @@ no_more y b (c ∷ d ∷ ts) u h k e = elim (blank_or_not y) [
     | inr q ↦ no_colon_first z (chapter_id b ++ u) ts (sym (append_assoc (id_byte z) (chapter_id b) u) ∙ sym (ap (λ bs. (bs ++ chapter_id b) ++ u) q.1) ∙ sym r ∙ ap (λ a. a ∷ ts) k.1)
   ]
 
--- the title, and what is behind the section's id
+-- the title, and what follows the section's id
 pub title_of_id : (a b t u : List ℕ) → is_parted a ≡ true → is_parted b ≡ true → Tail t → Tail u → chapter_id a ++ t ≡ chapter_id b ++ u → (a ≡ b) × (t ≡ u)
 title_of_id [] [] t u pa pb ht hu e = (refl, e)
 title_of_id [] (y ∷ b) t u pa pb ht hu e = absurd (no_more y b t u pb ht (e ∙ append_assoc (title_byte y) (chapter_id b) u))
@@ -152,7 +152,7 @@ title_of_id (x ∷ a) (y ∷ b) t u pa pb ht hu e =
 abbrev pub number : (earlier : ℕ) → List ℕ
 number earlier = if earlier == 0 then [] else codes "::" ++ decimal (earlier + 1)
 
--- behind the section's id
+-- after the section's id
 abbrev pub word_tail : (word : List ℕ) → (earlier : ℕ) → List ℕ
 word_tail word earlier = 58 ∷ 58 ∷ (id_text word ++ number earlier)
 

@@ -1,4 +1,4 @@
--- What calls say of a page, one behind another.
+-- What calls say of a page, one after another.
 use Rattle.std.proofs.Common.{◌≡◌, List, [], ◌∷◌, ◌++◌, fold, refl, sym, ap, ◌∙◌, arith, append_assoc, append-nil, Option, Some, None, Result, Ok, Err, OnOk, IfErr, inl, inr}
 use Rattle.std.specs.Prelude.{alloc_error, ◌⊎◌}
 use Rattle.std.proofs.lemmas.Grind.{fold-append}
@@ -55,7 +55,7 @@ puts_one d0 d1 event r ok fails = by (event_fault d0 event) refl r ok fails wher
       let same : error ≡ fault = cc in
       blamed_fault error (said d0 (event ∷ [])) (step_opened d0 event ∙ ap (λ f. told f (with_event d0 event)) e ∙ ap failed (sym same))
 
--- ---- one behind another
+-- ---- one after another
 
 failed_stays : (error : PageError) (events : List Event) → fold step (failed error) events ≡ failed error
 unfolding step
@@ -78,7 +78,7 @@ pub ruleset putting = (blamed_step, blamed_more, blamed_refused, fold-append, ap
 said_next : (d0 : Draft) (event : Event) (events : List Event) (f : Option PageError) → event_fault d0 event ≡ f → said d0 (event ∷ events) ≡ fold step (told f (with_event d0 event)) events
 said_next d0 event events f e = ap (λ o. fold step o events) (step_opened d0 event ∙ ap (λ f. told f (with_event d0 event)) e)
 
--- of what is said behind an event it is known, where that has no fault
+-- what is said after an event is known, where the event has no fault
 pub said_drafted : (d0 d1 : Draft) (events : List Event) → so_far d1 ≡ said d0 events → d1 ≡ with_events d0 events
 said_drafted d0 d1 [] e = cc
 said_drafted d0 d1 (event ∷ events) e = by (event_fault d0 event) refl (said_drafted (with_event d0 event) d1 events) where

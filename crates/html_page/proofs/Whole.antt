@@ -10,7 +10,7 @@ use Rattle.html_page.specs.Promises.{FailsBy}
 use Rattle.html_page.specs.Steps.{blamed, failed, said, so_far}
 use Rattle.html_page.proofs.Outcomes.{blamed_cases, said_drafted, said_faultless, said_faulty}
 
--- an error that is handed on
+-- an error that is passed on
 pub handed_on : {T : Type 0} (fault : Option PageError) (r : Result T PageError) (error : PageError) → IsErrAnd r (λ other. other ≡ error) → (error ≡ Refused alloc_error) ⊎ (fault ≡ Some error) → FailsBy fault r
 handed_on fault (Ok made) error same fails = absurd same
 handed_on fault (Err other) error same fails = subst (λ e. (e ≡ Refused alloc_error) ⊎ (fault ≡ Some e)) (sym same) fails

@@ -29,7 +29,7 @@ entry_id title word = chapter_id title ++ (codes "::" ++ id_text word)
 abbrev pub heading_id : (title heading : List ℕ) → List ℕ
 heading_id title heading = chapter_id title ++ (codes ":::" ++ id_text heading)
 
--- where others of the chapter have it too, the second and later ones have their number behind it
+-- where others of the chapter have it too, the second and later ones have their number after it
 abbrev pub numbered : (id : List ℕ) → (earlier : ℕ) → List ℕ
 numbered id earlier = if earlier == 0 then id else id ++ (codes "::" ++ decimal (earlier + 1))
 

@@ -52,7 +52,7 @@ block_addresses (bullets items) = flat_map (flat_map line_addresses) items
 abbrev pub entry_addresses : EntrySaid → List (List ℕ)
 entry_addresses e = flat_map line_addresses e.terms ++ flat_map block_addresses e.body
 
--- those of a usage are no links
+-- those of a usage are not links
 abbrev pub part_addresses : PartSaid → List (List ℕ)
 part_addresses (heading rank title) = []
 part_addresses (usage forms) = []
@@ -96,7 +96,7 @@ is_among all one = list_any (bytes_eq one) all
 abbrev pub EntriesLeadToTitles : ChapterSaid → Type 0
 EntriesLeadToTitles top = list_all (is_among (titles_in top)) (all_led_to top) ≡ true
 
--- `#` and one of these ids: what begins with anything else is the target of no element
+-- `#` and one of these ids: what begins with anything else does not lead to an element
 abbrev pub is_target_of : (ids : List (List ℕ)) → (target : List ℕ) → Bool
 is_target_of ids target = list_any (λ id. bytes_eq target (codes "#" ++ id)) ids
 

@@ -54,7 +54,7 @@ usage_piece (value bytes) = text_in Var bytes
 usage_piece (link address) = say address ∷ []
 usage_piece (page name) = say name ∷ []
 
--- an item behind a blank
+-- an item after a blank
 abbrev pub usage_item : Line → List Event
 usage_item item = say (codes " ") ∷ inside Code (flat_map usage_piece item)
 
@@ -87,7 +87,7 @@ own_term id terms = inside_with_id Dt id (link_to id (terms_events terms))
 abbrev pub leading_term : (title : List ℕ) → List Line → List Event
 leading_term title terms = inside Dt (link_to (chapter_id title) (terms_events terms))
 
--- behind the entries before it, in the chapter of this title
+-- after the entries before it, in the chapter of this title
 abbrev pub id_behind : (title : List ℕ) → (before : List (List ℕ)) → (word : List ℕ) → List ℕ
 id_behind title before word = numbered (entry_id title word) (times word before)
 
@@ -117,7 +117,7 @@ entries_events title before (e ∷ es) = entry_events title before e ++ entries_
 abbrev pub heading_behind : (title : List ℕ) → (before : List (List ℕ)) → (heading : List ℕ) → List ℕ
 heading_behind title before text = numbered (heading_id title text) (times text before)
 
--- a part behind those before it
+-- a part after those before it
 abbrev pub part_events : FrameSaid → (title : List ℕ) → Before → PartSaid → List Event
 part_events frame title before (heading rank text) = inside_with_id (Heading Three) (heading_behind title before.headings text) (say text ∷ [])
 part_events frame title before (usage forms) = usage_events frame.usage forms

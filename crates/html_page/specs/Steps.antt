@@ -1,4 +1,4 @@
--- What the steps of the code leave. Nobody has to believe it.
+-- What the steps of the code leave. Internal: no promise cites it.
 pub mod Counts
 pub mod View
 use Rattle.std.specs.Prelude.{◌≡◌, List, fold, Option, Some, None, Result, Ok, Err}

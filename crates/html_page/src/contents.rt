@@ -1,4 +1,4 @@
-//! Links to all sections and to their headings, one in another as the chapters are.
+//! Links to all sections and to their headings, nested as the chapters are.
 #![tactic(auto, using(crate::proofs::Outcomes::putting, crate::proofs::Views::views))]
 
 ghost use Rattle.std.specs.Prelude.{◌≡◌, ◌++◌, ◌∷◌, [], flat_map, map, OnOk};
@@ -221,7 +221,7 @@ fn put_nav_list<A: Allocator + Copy, B: Allocator>(
     end(page)
 }
 
-/// Puts links to all sections, where there is anything but the first.
+/// Puts links to all sections, where there is any besides the first.
 pub fn put_nav<A: Allocator + Copy, B: Allocator>(
     alloc: A,
     page: &mut Page<A>,

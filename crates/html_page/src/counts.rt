@@ -12,7 +12,7 @@ use std::collections::BTreeMap;
 /// Texts, with how often each of them is there, so that none has to be looked for among them.
 #[derive(Drop)]
 pub struct Counts<'a, B: Allocator> {
-    /// No code reads them: contracts speak of them, and since they have room the counts fit.
+    /// No code reads them: contracts speak of them, and since there is room for them the counts fit.
     pub texts: Vec<&'a str, B>,
     // A text that is not there may be absent.
     counts: BTreeMap<&'a str, usize, B>,
@@ -37,7 +37,7 @@ impl<'a, B: Allocator + Copy> Counts<'a, B> {
         count_in(&self.counts, text)
     }
 
-    /// Puts a text behind the others.
+    /// Appends a text.
     pub fn push(&mut self, text: &'a str) -> Result<(), AllocError>
         ensures { OnOk result (map (λ text. text.now) self.new.texts.items
             ≡ map (λ text. text.now) self.old.texts.items ++ text.now ∷ []) }

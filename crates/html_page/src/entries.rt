@@ -57,7 +57,7 @@ fn put_leading_term<A: Allocator + Copy, B: Allocator>(
     end(page)
 }
 
-// A term behind those of the chapter that have an id.
+// A term after those of the chapter that have an id.
 fn put_counted_term<A: Allocator + Copy, B: Allocator>(
     alloc: A,
     page: &mut Page<A>,
@@ -124,7 +124,7 @@ fn count_entry<'a, A: Allocator + Copy, B: Allocator>(
     }
 }
 
-/// Puts entries of the chapter of this title, behind those before.
+/// Puts entries of the chapter of this title, after those before.
 pub fn put_entries<'a, A: Allocator + Copy, B: Allocator>(
     alloc: A,
     page: &mut Page<A>,

@@ -17,7 +17,7 @@ pub fn chapter_id<B: Allocator>(alloc: B, title: &str) -> Result<String<B>, Allo
     Ok(id)
 }
 
-/// The id of an entry in the chapter of this title, before which so many others with its word have one.
+/// The id of an entry in the chapter of this title, before which that many others with its word have one.
 pub fn entry_id<B: Allocator + Copy>(
     alloc: B,
     title: &str,
@@ -33,7 +33,7 @@ pub fn entry_id<B: Allocator + Copy>(
     Ok(id)
 }
 
-/// The id of a heading in that chapter, before which so many are the same.
+/// The id of a heading in that chapter, before which that many are the same.
 pub fn heading_id<B: Allocator + Copy>(
     alloc: B,
     title: &str,
@@ -49,7 +49,7 @@ pub fn heading_id<B: Allocator + Copy>(
     Ok(id)
 }
 
-// Puts a number behind an id, unless it is the first of its kind.
+// Appends a number to an id, unless it is the first of its kind.
 fn push_number<B: Allocator + Copy>(
     alloc: B,
     id: &mut String<B>,

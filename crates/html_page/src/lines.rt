@@ -42,7 +42,7 @@ fn put_line<A: Allocator>(page: &mut Page<A>, pieces: &[Inline<'_>]) -> Result<(
     Ok(())
 }
 
-// ---- lines behind one another
+// ---- lines one after another
 
 // Lines, each on a new line.
 fn put_further_lines<A: Allocator, B: Allocator>(
@@ -203,7 +203,7 @@ pub fn put_block<A: Allocator, B: Allocator>(
     }
 }
 
-/// Puts blocks, one behind another.
+/// Puts blocks, one after another.
 pub fn put_blocks<A: Allocator, B: Allocator>(
     page: &mut Page<A>,
     blocks: &[Block<'_, B>],

@@ -43,7 +43,7 @@ module _ (title : List (List Glyph)) where
   pub comes_nothing : (said : List Said) (indents : List Indent) (stand : Stand) → is_open stand ≡ true → Comes [] (here title said indents stand) title said indents
   comes_nothing said indents stand o = record { after = stand; opens = o; leads = leads_nothing }
 
-  -- what holds of each part of a list, one behind the other
+  -- what holds of each part of a list, one after another
   each_comes : {X : Type 0} (indents : List Indent) (text : X → List ℕ) (kept : X → List Said) (may : X → Bool)
       → ((x : X) (said : List Said) (stand : Stand) → may x ≡ true → is_open stand ≡ true → Comes (text x) (here title said indents stand) title (said ++ kept x) indents)
       → (xs : List X) (said : List Said) (stand : Stand) → list_all may xs ≡ true → is_open stand ≡ true → Comes (flat_map text xs) (here title said indents stand) title (said ++ flat_map kept xs) indents
@@ -122,7 +122,7 @@ module _ (title : List (List Glyph)) where
   abbrev in_paragraph : List Said → List Indent → Kind → List (List Glyph) → List Said
   in_paragraph said indents kind lines = said ++ Paragraph indents kind lines ∷ []
 
-  -- where a line of text comes to stand behind these lines of a paragraph
+  -- where a line of text comes after these lines of a paragraph
   abbrev TakesLines : Reading → List Said → List Indent → Kind → List (List Glyph) → Type 0
   TakesLines read said indents kind before = (line : List Glyph) → placed read read.stand line ≡ here title (in_paragraph said indents kind (before ++ line ∷ [])) indents Filled
 
@@ -201,7 +201,7 @@ module _ (title : List (List Glyph)) where
 
     -- ---- entries
 
-    -- blocks behind what stands in the paragraph of a tag
+    -- blocks after what stands in the paragraph of a tag
     behind_tagged : (said : List Said) (tag : List Glyph) (lines : List (List Glyph)) (blocks : List BlockSaid) (stand : Stand) → list_all is_permitted_block blocks ≡ true → is_open stand ≡ true
         → Comes (flat_map (inner_text section) blocks) (here title (in_paragraph said [] (Tagged tag) lines) [] stand) title (said ++ Paragraph [] (Tagged tag) lines ∷ flat_map (inner_kept section) blocks) []
     behind_tagged said tag lines blocks stand h o =

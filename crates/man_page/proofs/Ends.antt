@@ -1,4 +1,4 @@
--- The last byte of a line, whether a word begins behind it, and whether a sentence ends with it.
+-- The last byte of a line, whether a word begins after it, and whether a sentence ends with it.
 use Rattle.std.proofs.Common.{◌≡◌, ℕ, ◌-◌, ◌+◌, ◌<◌, Bool, true, false, ◌&&◌, ◌||◌, suc, List, [], ◌∷◌, ◌++◌, length, get_or, map, drop, refl, ap, ◌∙◌, arith}
 use Rattle.std.specs.Prelude.{◌==◌, codes, flat_map}
 use Rattle.std.proofs.lemmas.Bool.{ne_eqb}

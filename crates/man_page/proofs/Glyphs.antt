@@ -13,7 +13,7 @@ use Rattle.man_page.specs.Reader
 use Rattle.man_page.specs.declared.escape.Role.{Role}
 use Rattle.man_page.specs.declared.escape.Role.TheVariants.{Text, Item, Code, Title}
 
--- ---- bytes that something else stands for
+-- ---- bytes that are replaced
 
 -- what holds of each of them
 abbrev pub OfSigns : (ℕ → Type 0) → Type 0
@@ -78,7 +78,7 @@ in_text font shown = Some (record { mode = Reader.Text; font = font; shown = sho
 abbrev pub run : Bool → Option Reader.Line → List ℕ → Option Reader.Line
 run other line bytes = fold (Reader.next_byte other) line bytes
 
--- one behind the other
+-- one after another
 pub run_then : (other : Bool) (r s t : Option Reader.Line) (a b : List ℕ) → run other r a ≡ s → run other s b ≡ t → run other r (a ++ b) ≡ t
 run_then other r s t a b e f = fold-append (Reader.next_byte other) r a b ∙ ap (λ x. run other x b) e ∙ f
 

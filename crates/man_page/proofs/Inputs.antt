@@ -1,4 +1,4 @@
--- How what is written is told apart into lines, and what a line of text asks for.
+-- How what is written is split into lines, and what a line of text asks for.
 use Rattle.std.proofs.Common.{◌≡◌, ℕ, Bool, true, false, cond, not, ◌&&◌, ◌||◌, List, [], ◌∷◌, ◌++◌, refl, sym, ap, ◌∙◌, subst, append-nil, append_assoc}
 use Rattle.std.specs.Prelude.{Option, Some, None, codes, ◌==◌, if◌then◌else◌}
 use Rattle.std.specs.List.{list_all, onto_first}
@@ -43,7 +43,7 @@ solid_parts c h =
 abbrev page_from : Option Reading → List ℕ → Option Sheet
 page_from read bytes = page_of read (lines bytes)
 
--- a text that leads a reading on, line by line, whatever stands behind it
+-- a text that leads a reading on, line by line, whatever follows it
 pub record Leads (bytes : List ℕ) (from to : Option Reading) : Type 0 where
   pub reads : (rest : List ℕ) → page_from from (bytes ++ rest) ≡ page_from to rest
 
@@ -81,7 +81,7 @@ page_behind r line (b ∷ rest) = step r line (b == 10) b (lines rest)
 pub leads_line : (line : List ℕ) (r s : Option Reading) → list_all is_in_line line ≡ true → next_line r line ≡ s → Leads (line ++ codes "\n") r s
 leads_line line r s h e = record { reads = λ rest. ap (page_of r) (split_line line rest h) ∙ page_behind r line rest ∙ ap (λ x. page_from x rest) e }
 
--- ---- the signs before and behind a text
+-- ---- the signs before and after a text
 
 abbrev pub sign_if : Bool → List ℕ
 sign_if wanted = if wanted then codes "\\&" else []
@@ -96,7 +96,7 @@ all_sign p h false = refl
 all_signed : (p : ℕ → Bool) → list_all p (codes "\\&") ≡ true → (front back : Bool) (text : List ℕ) → list_all p text ≡ true → list_all p (signed front back text) ≡ true
 all_signed p s front back text h = all_both p (sign_if front) (text ++ sign_if back) (all_sign p s front) (all_both p text (sign_if back) h (all_sign p s back))
 
--- whether a line does not begin with a dot; and begins with no blank, and not with its end
+-- whether a line does not begin with a dot, and begins neither with a blank nor with its end
 abbrev pub no_dot : List ℕ → Bool
 no_dot [] = true
 no_dot (b ∷ line) = not (b == 46)
@@ -214,7 +214,7 @@ front_no_blank : (text : List ℕ) → wants_front text ≡ false → no_blank t
 front_no_blank [] h = cc
 front_no_blank (b ∷ text) h = not_false (b == 32) (or_false (b == 46) (b == 32) (or_false (b == 46 || b == 32) (is_glyph_first (b ∷ text)) h).0).1
 
--- a line of text that does not end with a blank, unless there is a sign behind it
+-- a line of text that does not end with a blank, unless a sign follows it
 plain_leads : (read : Reading) (back : Bool) (text : List ℕ) (shown : List Glyph) → list_all is_text_byte text ≡ true → (back ≡ false → (last_of 0 text == 32) ≡ false)
     → run false (in_text Roman []) text ≡ in_text Roman shown
     → Leads (line_front text ++ (text ++ (sign_if back ++ codes "\n"))) (Some read) (placed read read.stand shown)
@@ -234,7 +234,7 @@ last_solid b (c ∷ text) e h =
     let parts = and_parts (is_solid c) (list_all is_solid text) h in
     last_solid c text (solid_parts c parts.0).1 parts.1
 
--- an item of a usage, with a sign behind it or not
+-- an item of a usage, with or without a sign after it
 pub item_leads : (read : Reading) (back : Bool) (text : List ℕ) (shown : List Glyph) → list_all is_text_byte text ≡ true → list_all is_solid text ≡ true → run false (in_text Roman []) text ≡ in_text Roman shown
     → Leads (line_front text ++ (text ++ (sign_if back ++ codes "\n"))) (Some read) (placed read read.stand shown)
 item_leads read back text shown bytes solid e = plain_leads read back text shown bytes (λ _. last_solid 0 text refl solid) e

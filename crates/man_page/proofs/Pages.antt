@@ -19,7 +19,7 @@ use Rattle.man_page.proofs.Blocks.{Comes, block_comes, comes_front, comes_nothin
 -- ---- parts
 
 module _ (title : List (List Glyph)) (section : List ℕ) (permitted : list_all is_permitted_byte section ≡ true) where
-  -- a part is read, and behind a heading the next text begins a paragraph
+  -- a part is read, and after a heading the next text begins a paragraph
   abbrev PartComes : Bool → PartSaid → List Said → Stand → Type 0
   PartComes behind part said stand = (p : Comes (part_text section behind part) (here title said [] stand) title (said ++ part_kept section part) []) × (is_heading part ≡ true → p.after ≡ Fresh Plain)
 

@@ -61,7 +61,7 @@ pub pieces_next : {X : Type 0} (role : Role) (guarded front : Bool) (section : L
     → pieces_from role guarded front section (map see (drop i pieces)) ≡ piece_text role (guarded && front) section (see (get_or pieces i d)) ++ pieces_from role guarded (begins_behind front (see (get_or pieces i d))) section (map see (drop (i + 1) pieces))
 pieces_next role guarded front section see pieces i d h = ap (λ xs. pieces_from role guarded front section (map see xs)) (drop_next pieces i d h)
 
--- the title line, word by word behind what stands before it
+-- the title line, word by word, after what stands before it
 pub title_line_words : (out : List ℕ) (title : TitleSaid) → ((((((out ++ codes ".TH") ++ title_word title.name) ++ title_word title.section) ++ title_word title.date) ++ title_word title.vendor) ++ title_word title.title) ++ codes "\n" ≡ out ++ title_line title
 title_line_words out title = simp (append_assoc {A = ℕ}) refl
 

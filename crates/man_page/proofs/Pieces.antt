@@ -64,7 +64,7 @@ module _ (section : List ℕ) where
 -- ---- what is read
 
 module _ (role : Role) (filled : is_filled role ≡ true) where
-  -- a text in a font, up to the sign behind it
+  -- a text in a font, up to the sign after it
   in_font_read : (font : Font) (wanted : Bool) (shown : List Glyph) (text rest : List ℕ) → list_all is_permitted_byte text ≡ true → (wanted ≡ true → is_at_front shown ≡ true)
       → run false (in_text font shown) (optional wanted (codes "\\%") ++ (escaped role text ++ rest)) ≡ run false (in_text font (shown ++ in_font font text)) rest
   in_font_read font wanted shown text rest h may =

@@ -1,4 +1,4 @@
--- Pages, each with what is written for it and what that is read as, and texts that the reader refuses.
+-- Pages, each with what is written for it and how that reads, and texts that the reader refuses.
 use Rattle.std.specs.Prelude.{◌≡◌, ℕ, List, [], ◌∷◌, ◌++◌, Option, Some, None, codes}
 use Rattle.std.proofs.Common.{refl}
 use Rattle.page_model.specs.Content.{words, literal, value, link, page, paragraph, code, bullets, heading, usage, block, entries, PartSaid}
@@ -14,7 +14,7 @@ title = record { name = codes "a-b"; section = codes "1"; date = []; vendor = co
 abbrev front : List ℕ
 front = codes ".TH a-b 1 \"\" \"v  \\N'37'1\" T\\(aq\n"
 
--- what is written is this behind the title line, and reads back
+-- after the title line this is written, and it reads back
 abbrev IsWrittenAs : List PartSaid → List ℕ → Type 0
 IsWrittenAs parts bytes = (page_text title parts ≡ front ++ bytes) × (read (front ++ bytes) ≡ Some (page_kept title parts))
 
@@ -55,9 +55,9 @@ plain bytes = Paragraph [] Plain (in_font Roman bytes ∷ []) ∷ []
 pub reads :
     -- lines that follow one another are one, with a blank between two
     (behind (codes "a\nb\n") ≡ says (plain (codes "a b")))
-    -- a request is none of the text
+    -- a request is not part of the text
     × (behind (codes "a\n.PP\nb\n") ≡ says (plain (codes "a") ++ plain (codes "b")))
-    -- but what stands behind a sign that shows nothing is
+    -- but what follows a sign that shows nothing is
     × (behind (codes "\\&.PP\n") ≡ says (plain (codes ".PP")))
     -- escapes
     × (behind (codes "\\%\\-\\e\\~\\%\\(aq\\(ga\\(ha\\(ti\\(dq\\N'37'\n") ≡ says (plain (codes "-\\ '`^~\"%")))
@@ -67,7 +67,7 @@ pub reads :
     × (behind (codes ".TP\nt\na\n.br\nb\n") ≡ says (Paragraph [] (Tagged (in_font Roman (codes "t"))) (in_font Roman (codes "a") ∷ in_font Roman (codes "b") ∷ []) ∷ []))
     -- an item, also one without text
     × (behind (codes ".IP \\(bu 2\na\n.IP \\(bu 2\n") ≡ says (Paragraph [] Bulleted (in_font Roman (codes "a") ∷ []) ∷ Paragraph [] Bulleted [] ∷ []))
-    -- an indent, and one of so many columns in it
+    -- an indent, and one of a number of columns in it
     × (behind (codes ".RS\na\n.RE\n") ≡ says (Paragraph (Usual ∷ []) Plain (in_font Roman (codes "a") ∷ []) ∷ []))
     × (behind (codes ".RS\n.RS 12\na\n.RE\nb\n.RE\n") ≡ says (Paragraph (Columns 12 ∷ Usual ∷ []) Plain (in_font Roman (codes "a") ∷ []) ∷ Paragraph (Usual ∷ []) Plain (in_font Roman (codes "b") ∷ []) ∷ []))
     -- lines of an example, with their blanks
@@ -109,7 +109,7 @@ pub refuses :
     -- indents and examples that do not pair
     × (behind (codes ".RE\n") ≡ None)
     × (behind (codes ".RS\na\n") ≡ None)
-    -- an example behind a tag, and a synopsis in an indent
+    -- an example after a tag, and a synopsis in an indent
     × (behind (codes ".TP\nt\n.EX\na\n.EE\n") ≡ None)
     × (behind (codes ".IP\n.EX\na\n.EE\n") ≡ None)
     × (behind (codes ".RS\n.SY a\n.YS\n.RE\n") ≡ None)
@@ -118,6 +118,6 @@ pub refuses :
     × (behind (codes ".RS \na\n.RE\n") ≡ None)
     × (behind (codes ".EX\na\n.PP\n.EE\n") ≡ None)
     × (behind (codes ".EX\na\n") ≡ None)
-    -- a line break where no line is
+    -- a line break where there is no line
     × (behind (codes ".br\na\n") ≡ None)
 refuses = (refl, refl, refl, refl, refl, refl, refl, refl, refl, refl, refl, refl, refl, refl, refl, refl, refl, refl, refl, refl, refl, refl, refl, refl, refl, refl, refl, refl, refl, refl, refl, refl)

@@ -99,7 +99,7 @@ word_bare read role (b ∷ bytes) h = first_read read (escaped role (b ∷ bytes
 abbrev quoted_if : Bool → List ℕ → List ℕ
 quoted_if quoted bytes = if quoted then in_quotes bytes else bytes
 
--- a word and the blank behind it
+-- a word and the blank after it
 word_then : (quoted : Bool) (read : List (List ℕ)) (bytes rest : List ℕ) → list_all is_inner bytes ≡ true
     → (quoted ≡ false → words_run (at_place read Between) bytes ≡ at_place read (Bare bytes))
     → words_run (at_place read Between) (quoted_if quoted bytes ++ (codes " " ++ rest)) ≡ words_run (at_place (read ++ bytes ∷ []) Between) rest

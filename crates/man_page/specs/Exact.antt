@@ -12,7 +12,7 @@ use Rattle.man_page.specs.Reader.{last_of}
 
 -- ---- texts
 
--- A blank, as which a newline counts, and but in code a tab. In a usage item no line breaks at it.
+-- A blank; a newline counts as one, and so does a tab except in code. In a usage item no line breaks at it.
 abbrev pub blank_text : Role → List ℕ
 blank_text Text = codes " "
 blank_text Item = codes "\\~"
@@ -58,13 +58,14 @@ escaped role text = flat_map (escaped_byte role) text
 
 -- ---- lines
 
--- whether a text begins with a glyph by its name, of which some programs that read the name of a page drop the most at
--- the front of a line
+-- whether a text begins with a glyph by its name: some programs that read the name of a page drop most of these at the
+-- front of a line
 abbrev pub is_glyph_first : List ℕ → Bool
 is_glyph_first (a ∷ b ∷ text) = a == 92 && b == 40
 is_glyph_first _ = false
 
--- A line that begins with a dot is a request, one that begins with a blank begins a new line, and an empty one is one.
+-- A line that begins with a dot is a request, one that begins with a blank starts a new line, and an empty one is
+-- shown.
 abbrev pub line_front : List ℕ → List ℕ
 line_front [] = codes "\\&"
 line_front (b ∷ line) = if (b == 46 || b == 32) || is_glyph_first (b ∷ line) then codes "\\&" else []
@@ -108,7 +109,7 @@ piece_text role guarded section (page name) =
     codes "\\fB" ++ (unhyphenated guarded name ++ (escaped role name
     ++ (codes "\\fP(" ++ (escaped role section ++ codes ")"))))
 
--- whether what stands behind a text is at the front of a word, where the text is or not
+-- whether what follows a text is at the front of a word, where the text is or not
 abbrev pub begins_word : Bool → List ℕ → Bool
 begins_word front [] = front
 begins_word front (b ∷ text) = is_blank (last_of b text)
@@ -145,7 +146,7 @@ example_text lines = codes ".RS 4\n.EX\n" ++ (flat_map code_line lines ++ codes 
 abbrev pub bullet_text : List ℕ → List Line → List ℕ
 bullet_text section item = codes ".IP \\(bu 2\n" ++ lines_text section item
 
--- a paragraph and code have the request of a new one before them, but directly behind a heading
+-- a paragraph and code have the request of a new one before them, except directly after a heading
 abbrev pub new_paragraph : Bool → List ℕ
 new_paragraph true = []
 new_paragraph false = codes ".PP\n"
@@ -178,15 +179,15 @@ entry_text section entry =
 
 -- ---- items of a usage
 
--- Behind a sentence that ends with its line a blank more is set. A stop ends one, also with what closes behind it:
--- brackets, quotes and signs of a note, of which there are some that are not of ASCII.
+-- After a sentence that ends with its line an extra blank is set. A stop ends a sentence, also where closing signs
+-- follow it: brackets, quotes and note signs, some of which are not ASCII.
 abbrev pub is_stop : ℕ → Bool
 is_stop b = b == 46 || b == 63 || b == 33
 
 abbrev pub is_closing : ℕ → Bool
 is_closing b = b == 41 || b == 93 || b == 34 || b == 39 || b == 42 || nat_le 128 b || is_blank b
 
--- whether a sentence ends with a text, behind one with which a sentence ends or not
+-- whether a sentence ends with a text, where one ended with the text before or not
 abbrev pub ends_sentence : Bool → List ℕ → Bool
 ends_sentence ended [] = ended
 ends_sentence ended (b ∷ text) = ends_sentence (is_stop b || (ended && is_closing b)) text

@@ -29,7 +29,7 @@ line_shown section pieces = flat_map (piece_shown section) pieces
 abbrev pub lines_shown : List ℕ → List Line → List (List Glyph)
 lines_shown section lines = map (line_shown section) lines
 
--- a paragraph without lines is none
+-- a paragraph without lines is nothing
 abbrev pub paragraph_kept : List ℕ → List Indent → Kind → List Line → List Said
 paragraph_kept section indents kind [] = []
 paragraph_kept section indents kind (line ∷ lines) = Paragraph indents kind (lines_shown section (line ∷ lines)) ∷ []
@@ -76,7 +76,7 @@ entry_kept section entry = body_kept section (terms_shown section entry.terms) e
 abbrev pub form_kept : List ℕ → FormSaid → Said
 form_kept section form = Synopsis (in_font Roman form.name) (map (line_shown section) form.items)
 
--- a page that stands behind another has the heading of a section
+-- a page that follows another has the heading of a section
 abbrev pub rank_kept : Rank → Rank
 rank_kept Page = Section
 rank_kept Section = Section
@@ -88,7 +88,7 @@ part_kept section (usage forms) = map (form_kept section) forms
 part_kept section (block shown) = block_kept section shown
 part_kept section (entries list) = flat_map (entry_kept section) list
 
--- the words of the title line, as they are said
+-- the words of the title line
 pub record TitleSaid : Type 0 where
   pub name : List ℕ
   pub section : List ℕ

@@ -82,14 +82,14 @@ is_other_glyph b = b == hyphen || b == quote || b == grave || b == circumflex ||
 pub data Mode : Type 0 where
   -- in text
   Text : Mode
-  -- behind a backslash
+  -- after a backslash
   Escape : Mode
-  -- behind `\(`, and behind that and one byte
+  -- after `\(`, and after that and one byte
   Special : Mode
   SpecialOf : ℕ → Mode
-  -- behind `\f`
+  -- after `\f`
   FontName : Mode
-  -- behind `\N`, and in the number of a character behind its quote
+  -- after `\N`, and in the number of a character after its quote
   Number : Mode
   NumberOf : ℕ → Mode
 
@@ -136,13 +136,13 @@ text_byte other line b =
     else if is_control b || (is_other_glyph b && not other) then None
     else Some (with_glyph line b)
 
--- Whether a word may begin behind what is shown: nothing, or a blank at its end.
+-- Whether a word may begin after what is shown: after nothing, or after a blank.
 abbrev pub is_at_front : List Glyph → Bool
 is_at_front [] = true
 is_at_front (glyph ∷ []) = glyph.byte == blank
 is_at_front (glyph ∷ next ∷ shown) = is_at_front (next ∷ shown)
 
--- A byte behind a backslash. These escapes are read: `\-`, `\e`, `\~`, `\&`, `\%`, `\(` with a name that `special` has,
+-- A byte after a backslash. These escapes are read: `\-`, `\e`, `\~`, `\&`, `\%`, `\(` with a name that `special` has,
 -- `\fB`, `\fI`, `\fP`, and `\N'n'` for a printable character. `\&` shows nothing, and `\~` is a blank at which no line
 -- breaks. `\%` shows nothing at the front of a word, which it keeps whole; within one, a line may break there with a
 -- hyphen that nobody wrote.
@@ -162,15 +162,15 @@ escape_byte line b =
 abbrev pub is_printable : ℕ → Bool
 is_printable n = nat_le 32 n && nat_lt n 127
 
--- A byte of the number of a character. One that is not of ASCII is more than one byte, and a control character has no
--- glyph.
+-- A byte of the number of a character. A character that is not ASCII is more than one byte, and a control character has
+-- no glyph.
 abbrev pub number_byte : Line → ℕ → ℕ → Option Line
 number_byte line n b =
     if b == quote then (if is_printable n then Some (with_glyph line n) else None)
     else if is_digit b then Some (with_mode line (NumberOf (n * 10 + (b - 48))))
     else None
 
--- A byte behind `\f`: bold or italic begins in roman, and ends there.
+-- A byte after `\f`: bold or italic begins in roman, and ends there.
 abbrev pub font_byte : Line → Font → ℕ → Option Line
 font_byte line Roman b =
     if b == capital_b then Some (with_font line Bold) else if b == capital_i then Some (with_font line Italic) else None
@@ -218,7 +218,7 @@ pub data Place : Type 0 where
   -- in a word of these bytes, which stands by itself or in double quotes
   Bare : List ℕ → Place
   Quoted : List ℕ → Place
-  -- behind the second quote
+  -- after the second quote
   Closed : Place
 
 pub record Words : Type 0 where
@@ -296,7 +296,7 @@ pub data Request : Type 0 where
   -- a line of text
   Input : List ℕ → Request
 
--- what stands behind these bytes
+-- what follows these bytes
 abbrev pub behind : List ℕ → List ℕ → Option (List ℕ)
 behind [] bytes = Some bytes
 behind (b ∷ front) [] = None
@@ -307,7 +307,7 @@ abbrev pub request_with : (List ℕ → Request) → Option (List ℕ) → Optio
 request_with request None otherwise = otherwise
 request_with request (Some words) otherwise = Some (request words)
 
--- a number in decimal digits, of which there is one
+-- a number in decimal digits, of which there is at least one
 abbrev pub next_digit : Option ℕ → ℕ → Option ℕ
 next_digit None b = None
 next_digit (Some n) b = if is_digit b then Some (n * 10 + (b - 48)) else None
@@ -316,7 +316,7 @@ abbrev pub number : List ℕ → Option ℕ
 number [] = None
 number (b ∷ bytes) = fold next_digit (Some 0) (b ∷ bytes)
 
--- an indent of so many columns
+-- an indent of that many columns
 abbrev pub wide_indent : Option ℕ → Option Request
 wide_indent None = None
 wide_indent (Some n) = Some (StartIndent (Columns n))
@@ -360,7 +360,7 @@ pub data Stand : Type 0 where
   Fresh : Kind → Stand
   -- where the next line is a tag
   Tag : Stand
-  -- in the paragraph that is last; there without a text yet, and there behind a line break
+  -- in the paragraph that is last; there without a text yet, and there after a line break
   Filled : Stand
   Bodied : Stand
   Broken : Stand
@@ -383,7 +383,7 @@ standing read stand = Some (record read { stand = stand })
 abbrev pub saying : Reading → Said → Stand → Option Reading
 saying read more stand = Some (record read { said = read.said ++ more ∷ []; stand = stand })
 
--- a line behind those of the last paragraph
+-- a line after those of the last paragraph
 abbrev pub with_line : Said → List Glyph → Said
 with_line (Heading rank shown) line = Heading rank shown
 with_line (Paragraph indents kind lines) line = Paragraph indents kind (lines ++ line ∷ [])
@@ -395,7 +395,7 @@ on_last change [] = []
 on_last change (x ∷ []) = change x ∷ []
 on_last change (x ∷ y ∷ xs) = x ∷ on_last change (y ∷ xs)
 
--- a line that goes on with the last one of the last paragraph, behind a blank
+-- a line that continues the last one of the last paragraph, after a blank
 abbrev pub with_more : Said → List Glyph → Said
 with_more (Heading rank shown) more = Heading rank shown
 with_more (Paragraph indents kind lines) more =
@@ -413,7 +413,7 @@ last_of b (c ∷ bytes) = last_of c bytes
 abbrev pub ends_in_blank : List ℕ → Bool
 ends_in_blank line = last_of 0 line == blank
 
--- whether a line of text is none that roff takes for more than its glyphs: it is not empty, and no blank is at its ends
+-- whether roff takes a line of text for its glyphs alone: it is not empty, and has no blank at an end
 abbrev pub is_plain_input : List ℕ → Bool
 is_plain_input [] = false
 is_plain_input (b ∷ bytes) = not (b == blank) && not (last_of b bytes == blank)
@@ -496,7 +496,7 @@ abbrev pub with_break : Reading → Stand → Option Reading
 with_break read Filled = standing read Broken
 with_break read _ = None
 
--- Behind a tag or a bullet an example would stand in that paragraph, and not in its indents alone.
+-- After a tag or a bullet an example would stand in that paragraph, and not in its indents alone.
 abbrev pub with_example_start : Reading → Stand → Option Reading
 with_example_start read (Fresh Plain) = standing read (InExample [])
 with_example_start read _ = None
@@ -555,7 +555,7 @@ whole_page (Some read) =
     then Some (record { title = read.title; said = read.said })
     else None
 
--- nothing stands behind its last newline
+-- nothing follows its last newline
 abbrev pub page_if_empty : Option Reading → List ℕ → Option Sheet
 page_if_empty read [] = whole_page read
 page_if_empty read (b ∷ line) = None

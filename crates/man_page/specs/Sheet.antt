@@ -7,7 +7,7 @@ pub data Font : Type 0 where
   Bold : Font
   Italic : Font
 
--- A byte that is shown, and its font, as its line asks for it: headings and names of synopses are set bold besides.
+-- A byte that is shown, and its font, as its line asks for it: headings and names of synopses are also set bold.
 pub record Glyph : Type 0 where
   pub byte : ℕ
   pub font : Font
@@ -19,7 +19,7 @@ pub data Kind : Type 0 where
   Bulleted : Kind
   Continued : Kind
 
--- An indent of so many columns, or a usual one, which says what nests in what, and not in how many columns it is set.
+-- An indent of that many columns, or a usual one, which says what nests in what, but not how wide it is.
 pub data Indent : Type 0 where
   Usual : Indent
   Columns : ℕ → Indent

@@ -5,7 +5,7 @@ use Rattle.man_page.specs.declared.escape.Role.TheVariants.{Text, Item, Title}
 use Rattle.man_page.specs.declared.escape.Role.{Role}
 use Rattle.man_page.specs.Exact.{inner_text, input_line, is_spaced_text, lines_text, pieces_text, word_text}
 
--- a line behind the first of a paragraph, and a term behind the first of an entry
+-- a line after the first of a paragraph, and a term after the first of an entry
 abbrev pub further_line : List ℕ → Line → List ℕ
 further_line section line = codes ".br\n" ++ input_line (pieces_text Text true section line)
 
@@ -21,6 +21,6 @@ first_text section (bullets items) = inner_text section (bullets items)
 abbrev pub title_role : List ℕ → Role
 title_role title = if is_spaced_text true title then Text else Item
 
--- a word of the title line behind a blank
+-- a word of the title line after a blank
 abbrev pub title_word : List ℕ → List ℕ
 title_word word = codes " " ++ word_text Title word

@@ -107,7 +107,7 @@ pub fn is_blank(byte: u8) -> bool
     matches!(byte, b' ' | b'\t' | b'\n')
 }
 
-// Whether what stands behind a text is at the front of a word.
+// Whether what follows a text is at the front of a word.
 #[tactic(auto, using(crate::proofs::Ends::word_begins, crate::proofs::Ends::no_word_begins))]
 fn begins_word(text: &str, is_at_front: bool) -> bool
     ensures { result ≡ begins_word is_at_front text.now }
@@ -130,7 +130,7 @@ fn begins_behind(piece: Inline<'_>, is_at_front: bool) -> bool
     }
 }
 
-/// Writes the pieces of a line behind what it has, at the front of a word.
+/// Appends the pieces of a line to what it has, at the front of a word.
 #[tactic(auto, using(crate::proofs::Parts::pieces_next))]
 pub fn push_pieces<A: Allocator>(
     line: &mut String<A>,
@@ -218,7 +218,7 @@ fn is_closing(byte: u8) -> bool
     matches!(byte, b')' | b']' | b'"' | b'\'' | b'*' | 128..=255) || is_blank(byte)
 }
 
-// Whether a sentence ends with a text, behind one with which a sentence ends or not.
+// Whether a sentence ends with a text, where one ended with the text before or not.
 #[tactic(auto, using(crate::proofs::Ends::sentence_next))]
 fn ends_sentence(text: &str, has_ended: bool) -> bool
     ensures { result ≡ ends_sentence has_ended text.now }
@@ -253,7 +253,7 @@ fn pieces_end_sentence(pieces: &[Inline<'_>], section: &str) -> bool
     is_end
 }
 
-/// What stands behind an item of a usage, so that no sentence ends with it.
+/// What follows an item of a usage, so that no sentence ends with it.
 pub fn item_back(pieces: &[Inline<'_>], section: &str) -> &'static str
     ensures { result.now ≡ item_back section.now (line_of pieces.now) }
 {
@@ -286,7 +286,7 @@ pub fn push_input<A: Allocator>(out: &mut String<A>, line: &str) -> Result<(), A
     push_parts(out, line_front(line), line, line_back(line))
 }
 
-/// Writes a line with an item of a usage, and with what stands behind it.
+/// Writes a line with an item of a usage, and with what follows it.
 pub fn push_item<A: Allocator>(
     out: &mut String<A>,
     line: &str,

@@ -178,7 +178,7 @@ fn push_block<A: Allocator, B: Allocator>(
     }
 }
 
-// A block in the body of an entry, behind the first one.
+// A block in the body of an entry, after the first one.
 fn push_inner<A: Allocator, B: Allocator>(
     writer: &mut Writer<A>,
     block: &Block<'_, B>,
@@ -571,8 +571,8 @@ fn write_page<A: Allocator + Copy, B: Allocator>(
     Ok(writer.page)
 }
 
-/// The manual page that says these parts in order, behind a title line of these words. A reader of man(7) reads it,
-/// whole, as what was said, but for what a manual page has no room for.
+/// The manual page that says these parts in order, after a title line of these words. A reader of man(7) reads it,
+/// whole, as what was said, except what a manual page has no form for.
 ///
 /// `Character` comes where a text or a word of the title line has a control character but newline and tab, or a
 /// noncharacter; else an error comes only where an allocation failed.

@@ -26,7 +26,7 @@ use Rattle.markdown_page.proofs.Lines.{IsBody, Reads, body_reads, dashed_body, i
 abbrev page_from : Option Reading → List ℕ → Option (List Said)
 page_from read bytes = page_of read (lines bytes)
 
--- a text that leads a reading on, line by line, whatever stands behind it
+-- a text that leads a reading on, line by line, whatever follows it
 pub record Leads (bytes : List ℕ) (from to : Option Reading) : Type 0 where
   pub reads : (rest : List ℕ) → page_from from (bytes ++ rest) ≡ page_from to rest
 
@@ -135,7 +135,7 @@ indent_inside (suc level) = indent_inside level
 abbrev in_paragraph : List Said → ℕ → List (List Glyph) → List Said
 in_paragraph said level lines = said ++ Paragraph level lines ∷ []
 
--- a line behind this prefix comes to stand behind these lines of a paragraph
+-- a line after this prefix comes after these lines of a paragraph
 abbrev TakesLine : Option Reading → List ℕ → List Said → ℕ → List (List Glyph) → Type 0
 TakesLine from prefix said level before = (line : List ℕ) (x : Inlines) → Reads line x
     → next_line from (prefix ++ line) ≡ on (in_paragraph said level (before ++ x.shown ∷ [])) level (stand_behind x.breaks)
@@ -199,7 +199,7 @@ lines_lead from prefix said level before takes inside body glyphs p (next ∷ li
 
 -- ---- blocks
 
--- A text that leads from a reading to one that has said this, where a block of a level may come.
+-- A text that leads from a reading to one that has said this, at a place where a block of a level may come.
 pub record Comes (bytes : List ℕ) (from : Option Reading) (level : ℕ) (said : List Said) : Type 0 where
   pub more : ℕ
   pub after : Stand
@@ -218,7 +218,7 @@ comes_to {level = level} e p = record { more = p.more; after = p.after; opens = 
 pub comes_nothing : (level more : ℕ) (said : List Said) (stand : Stand) → is_open stand ≡ true → Comes [] (on said (above level more) stand) level said
 comes_nothing level more said stand o = record { more = more; after = stand; opens = o; leads = leads_nothing }
 
--- what holds of each part of a list, one behind the other
+-- what holds of each part of a list, one after another
 pub each_comes : {X : Type 0} (level : ℕ) (text : X → List ℕ) (kept : X → List Said) (may : X → Bool)
     → ((x : X) (said : List Said) (more : ℕ) (stand : Stand) → may x ≡ true → is_open stand ≡ true → Comes (text x) (on said (above level more) stand) level (said ++ kept x))
     → (xs : List X) (said : List Said) (more : ℕ) (stand : Stand) → list_all may xs ≡ true → is_open stand ≡ true → Comes (flat_map text xs) (on said (above level more) stand) level (said ++ flat_map kept xs)
@@ -413,7 +413,7 @@ block_comes level (bullets items) said more stand h o =
 
 -- ---- entries
 
--- what stands in the item of an entry, behind its first lines
+-- what follows the first lines of an entry, in its item
 behind_first : (said : List Said) (blocks : List BlockSaid) → list_all is_permitted_block blocks ≡ true
     → Comes (flat_map (block_text 1) blocks) (on said 1 Filled) 1 (said ++ flat_map (block_kept 1) blocks)
 behind_first said blocks h = each_comes 1 (block_text 1) (block_kept 1) is_permitted_block (block_comes 1) blocks said 0 Filled h refl
@@ -457,7 +457,7 @@ heading_takes said rank text h =
     ap (λ (x : Bool). if not x then with_heading said rank (inlines true (title_text text)) else None) (title_begins text)
     ∙ ap (with_heading said rank) (title_inlines text h)
 
--- a heading, behind the marks of its rank
+-- a heading, after the marks of its rank
 marked_leads : (marks : List ℕ) (said : List Said) (depth rank : ℕ) (text : List ℕ) → list_all is_permitted_byte text ≡ true → list_all is_in_line marks ≡ true
     → next_line (on said depth Between) (marks ++ title_text text) ≡ heading_line said 0 rank (title_text text)
     → Leads (marks ++ (title_text text ++ codes "\n")) (on said depth Between) (on (said ++ Heading rank (seen (plain text)) ∷ []) 0 Between)

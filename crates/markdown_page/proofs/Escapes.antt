@@ -33,7 +33,7 @@ left : (x y : Bool) → (x && y) ≡ true → x ≡ true
 left true y h = refl
 left false y h = absurd cc
 
--- a byte behind a backslash is a character, and no white space
+-- a byte after a backslash is a character, and no white space
 pub marked_is : (heading behind : Bool) (b : ℕ) (text : List ℕ) → is_escaped heading behind b text ≡ true → IsMark b
 marked_is heading behind b text h = elim (or_cases (is_sign b || (b == 35 && heading) || (b == 95 && not (behind && begins_in_word text)) || (b == 38 && may_refer text)) (b == 33 && is_end text) h) [
   | inr e ↦ mark_at b 33 (omega arith, refl) (left (b == 33) (is_end text) e)
@@ -49,7 +49,7 @@ marked_is heading behind b text h = elim (or_cases (is_sign b || (b == 35 && hea
 run_more : (text : List ℕ) (start at : ℕ) → start ≤ at → at < length text → take (at + 1 - start) (drop start text) ≡ take (at - start) (drop start text) ++ get_or text at 0 ∷ []
 run_more text start at le h = grind (arith, length-drop start text, take_more (drop start text) (at - start) 0, get_or-drop start text (at - start) 0)
 
--- what is written, what lies behind it and what is written of the others
+-- what is written, what follows it and what is written of the others
 abbrev pub Written : Bool → List ℕ → List ℕ → List ℕ → ℕ → ℕ → Bool → Type 0
 Written heading text first out start at behind = out ++ (take (at - start) (drop start text) ++ escaped heading behind (drop at text)) ≡ first ++ escaped heading false text
 

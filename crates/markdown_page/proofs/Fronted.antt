@@ -1,4 +1,4 @@
--- Lines that are written in parts: what stands at the front, what stands behind that, and the end.
+-- Lines that are written in parts: what stands at the front, what follows that, and the end.
 use Rattle.std.proofs.Common.{◌≡◌, ◌<◌, ◌≤◌, ◌+◌, ◌-◌, ℕ, zero, suc, arith, Bool, true, false, ◌||◌, List, [], ◌∷◌, ◌++◌, length, get_or, take, drop, refl, sym, ap, ◌∙◌, inl, inr, subst, append_assoc}
 use Rattle.std.specs.Prelude.{◌==◌, nat_lt, if◌then◌else◌, Result, Ok, Err, OnOk, is_ok}
 use Rattle.std.specs.Str.{IsCharBoundary, IsUtf8}

@@ -98,7 +98,7 @@ abbrev pub is_nil : {X : Type 0} → List X → Bool
 is_nil [] = true
 is_nil (x ∷ xs) = false
 
--- whether both are empty or none
+-- whether both are empty or neither is
 abbrev pub AreAlike : List ℕ → List Glyph → Type 0
 AreAlike bytes glyphs = is_nil bytes ≡ is_nil glyphs
 

@@ -18,7 +18,7 @@ use Rattle.markdown_page.proofs.Spans.{no_grave_first}
 use Rattle.markdown_page.proofs.Pieces.{LineReaches, escaped_free, dashed_reaches, pieces_reach, terms_reach}
 use Rattle.markdown_page.proofs.Fronts.{AreAlike, alike_both, free_alike, is_nil, pieces_alike, pieces_fence, terms_alike, terms_fence}
 
--- ---- what stands behind a line: a backslash, where a line break follows
+-- ---- what follows a line: a backslash, where a line break comes
 
 abbrev pub tail : Bool → List ℕ
 tail true = codes "\\"
@@ -101,7 +101,7 @@ module _ (shown : List Glyph) (before : Before) (breaks : Bool) (x : Inlines) wh
   abbrev here : Option Reader.Line
   here = at None shown (Text before)
 
-  -- a byte that reads the same behind a backslash
+  -- a byte that reads the same after a backslash
   abbrev ReadsSame : ℕ → Type 0
   ReadsSame b = ((more : List ℕ) → finish false here (92 ∷ b ∷ more) ≡ finish false here (b ∷ more)) × ((b == 32) ≡ false)
 
@@ -262,7 +262,7 @@ numbered_tail true true = refl
 numbered_tail false true = refl
 numbered_tail behind false = refl
 
--- what stands behind the digits at the front does not go on with a number
+-- what follows the digits at the front does not continue a number
 numbered_end : (behind : Bool) (b : ℕ) (line : List ℕ) (breaks : Bool) → is_digit b ≡ false → wants_mark behind b ≡ false → is_numbered behind (with_end (b ∷ line) ++ tail breaks) ≡ false
 numbered_end true b [] breaks d w = elim (bool_cases (b == 32)) [ inl e ↦ rw e refl | inr e ↦ rw (e, d, w) refl ]
 numbered_end false b [] breaks d w = elim (bool_cases (b == 32)) [ inl e ↦ rw e refl | inr e ↦ rw (e, d) refl ]

@@ -45,7 +45,7 @@ at_least (line ∷ lines) = let more = at_least lines in omega arith
 pub longest_init : (lines : List (List ℕ)) → longest_of lines ≡ max 2 (longest_of lines)
 longest_init lines = let h = at_least lines in omega arith
 
--- whether a text defines a link, behind a bracket or not
+-- whether a text defines a link, after a bracket or not
 abbrev pub defines_behind : Bool → List ℕ → Bool
 defines_behind behind [] = false
 defines_behind behind (b ∷ text) = (behind && b == 58) || defines_behind (b == 93) text

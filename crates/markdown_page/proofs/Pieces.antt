@@ -22,7 +22,7 @@ use Rattle.markdown_page.proofs.Spans.{IsGuarded, Reaches, is_solid, reaches_not
 pub bytes_of : (text : List ℕ) → are_permitted text ≡ true → list_all is_permitted_byte text ≡ true
 bytes_of text h = (and_parts (list_all is_permitted_byte text) (list_all is_permitted (chars text)) h).0
 
--- ---- whatever stands behind
+-- ---- whatever follows
 
 module _ (heading : Bool) (outside : Option (List Glyph)) where
   -- a text that leads from a reading to one that shows this
@@ -261,7 +261,7 @@ span_then span a glyphs solid guarded p before shown calm =
     let first = span_reaches false None span before shown calm solid refl in
     reaches_then false None guarded first (reaches_to false None (append_assoc shown (map code_glyph span) glyphs) (p first.after (shown ++ map code_glyph span) first.calm))
 
--- a piece that is no literal, behind a span and before others
+-- a piece that is not a literal, after a span and before others
 piece_then : (span written more : List ℕ) (g h : List Glyph) → list_all is_solid span ≡ true → begins_free written ≡ true → LineEnds written g → LineReaches more h
     → LineReaches ((span_text span ++ written) ++ more) (map code_glyph span ++ (g ++ h))
 piece_then span written more g h solid free p q before shown calm =

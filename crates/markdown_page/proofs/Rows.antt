@@ -1,4 +1,4 @@
--- Pages, each with what is written for it and what that is read as, and texts that the reader takes or refuses.
+-- Pages, each with what is written for it and how that reads, and texts that the reader takes or refuses.
 use Rattle.std.specs.Prelude.{◌≡◌, ℕ, List, [], ◌∷◌, ◌++◌, Option, Some, None, codes}
 use Rattle.std.proofs.Common.{refl}
 use Rattle.page_model.specs.Content.{words, literal, value, link, page, paragraph, code, bullets, to_page, heading, usage, block, entries, PartSaid}
@@ -8,7 +8,7 @@ use Rattle.markdown_page.specs.Kept.{leading_to, page_kept, plain, spanned}
 use Rattle.markdown_page.specs.Exact.{page_text}
 use Rattle.markdown_page.specs.Reader.{read}
 
--- what is written is this behind the title, and reads back
+-- after the title this is written, and it reads back
 abbrev IsWrittenAs : List PartSaid → List ℕ → Type 0
 IsWrittenAs parts bytes = (page_text (codes "t") parts ≡ codes "# t\n" ++ bytes) × (read (codes "# t\n" ++ bytes) ≡ Some (page_kept (codes "t") parts))
 
@@ -60,13 +60,13 @@ pub reads :
     -- escapes, and a blank and a brace by their numbers
     × (read (codes "\\#\\*\\`\\&amp;&#32;\n") ≡ says (line (codes "#*`&amp; ")))
     × (read (codes "&#123;&#123;a}} &#123;% b\n") ≡ says (line (codes "{{a}} {% b")))
-    -- what is no mark where it stands
+    -- what is not a mark where it stands
     × (read (codes "a_b & c! d# ~ >\n") ≡ says (line (codes "a_b & c! d# ~ >")))
     -- code spans, with a blank more at their ends than they show or not
     × (read (codes "``a`b`` ` c ` `  ` `d `\n") ≡ says (Paragraph 0 ((spanned (codes "a`b") ++ (plain (codes " ") ++ (spanned (codes "c") ++ (plain (codes " ") ++ (spanned (codes "  ") ++ (plain (codes " ") ++ spanned (codes "d "))))))) ∷ []) ∷ []))
     -- links
     × (read (codes "[a`b`](c.md)<http://d>\n") ≡ says (Paragraph 0 ((leading_to (codes "c.md") (plain (codes "a") ++ spanned (codes "b")) ++ leading_to (codes "http://d") (plain (codes "http://d"))) ∷ []) ∷ []))
-    -- items, with empty lines between them or not, one in another, and a paragraph behind them
+    -- items, with empty lines between them or not, one nested, and a paragraph after them
     × (read (codes "- a\n- b\n\n  - c\n\n- d\n\ne\n") ≡ says (Item 0 ∷ Paragraph 1 (plain (codes "a") ∷ []) ∷ Item 0 ∷ Paragraph 1 (plain (codes "b") ∷ []) ∷ Item 1 ∷ Paragraph 2 (plain (codes "c") ∷ []) ∷ Item 0 ∷ Paragraph 1 (plain (codes "d") ∷ []) ∷ line (codes "e")))
     -- code in an item, and a line that would end it, were it longer
     × (read (codes "- a\n\n  ````\n    b\n\n  ```\n  `````\n") ≡ says (Item 0 ∷ Paragraph 1 (plain (codes "a") ∷ []) ∷ Code 1 (codes "  b" ∷ [] ∷ codes "```" ∷ []) ∷ []))
@@ -102,7 +102,7 @@ pub refuses :
     -- a heading that has a number sign, and one in an item
     × (read (codes "# a #\n") ≡ None)
     × (read (codes "- a\n\n  # b\n") ≡ None)
-    -- code that has words behind its fence, that has no end, and whose line has as many backquotes
+    -- code with words after its fence, code without an end, and code with a line of as many backquotes
     × (read (codes "```a\nb\n```\n") ≡ None)
     × (read (codes "```\na\n") ≡ None)
     × (read (codes "```\na```\n```\n") ≡ None)
@@ -117,7 +117,7 @@ pub refuses :
     × (read (codes "&amp;\n") ≡ None)
     × (read (codes "&#65;\n") ≡ None)
     × (read (codes "![a](b.md)\n") ≡ None)
-    -- brackets that are no link, and one that defines a link
+    -- brackets that are not a link, and one that defines a link
     × (read (codes "[a]\n") ≡ None)
     × (read (codes "a]\n") ≡ None)
     × (read (codes "[a]: b\n") ≡ None)

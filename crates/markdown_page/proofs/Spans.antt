@@ -17,7 +17,7 @@ is_solid b = not (is_control b)
 
 -- ---- the text between them
 
--- whether a text, behind so many backquotes, ends with another byte
+-- whether a text, after that many backquotes, ends with another byte
 abbrev pub open_end : ℕ → List ℕ → Bool
 open_end zero [] = true
 open_end (suc run) [] = false
@@ -36,7 +36,7 @@ graves_behind : (n : ℕ) (text : List ℕ) → graves n ++ 96 ∷ text ≡ 96 �
 graves_behind zero text = refl
 graves_behind (suc n) text = ap (λ x. 96 ∷ x) (graves_behind n text)
 
--- a text with a blank behind it
+-- a text followed by a blank
 has_run_blank : (n run : ℕ) (text : List ℕ) → has_run (suc n) run (text ++ 32 ∷ []) ≡ has_run (suc n) run text
 has_run_blank n run [] = elim (bool_cases (run == suc n)) [ inl e ↦ rw e refl | inr e ↦ rw (e, ne_eqb 0 (suc n) (λ h. absurd (omega arith))) refl ]
 has_run_blank n run (b ∷ text) = elim (bool_cases (b == 96)) [ inl e ↦ rw e (has_run_blank n (suc run) text) | inr e ↦ rw e (ap (λ (x : Bool). run == suc n || x) (has_run_blank n 0 text)) ]
@@ -137,7 +137,7 @@ no_grave_first [] = true
 no_grave_first (b ∷ text) = not (b == 96)
 
 module _ (heading : Bool) (outside : Option (List Glyph)) where
-  -- A text that leads from a reading to one that shows this, where no backquote stands behind it.
+  -- A text that leads from a reading to one that shows this, where no backquote follows it.
   pub record Reaches (bytes : List ℕ) (from : Option Line) (shown : List Glyph) : Type 0 where
     pub after : Before
     pub calm : is_bang after ≡ false
@@ -152,7 +152,7 @@ module _ (heading : Bool) (outside : Option (List Glyph)) where
   pub reaches_to : {bytes : List ℕ} {from : Option Line} {first shown : List Glyph} → first ≡ shown → Reaches bytes from first → Reaches bytes from shown
   reaches_to e p = record { after = p.after; calm = p.calm; leads = λ rest free_end. p.leads rest free_end ∙ ap (λ x. finish heading (at outside x (Text p.after)) rest) e }
 
-  -- a text that begins with free_end backquote, whatever stands behind it
+  -- a text that begins with no backquote, whatever follows it
   abbrev pub IsGuarded : List ℕ → Type 0
   IsGuarded bytes = (rest : List ℕ) → no_grave_first rest ≡ true → no_grave_first (bytes ++ rest) ≡ true
 
@@ -210,7 +210,7 @@ module _ (heading : Bool) (outside : Option (List Glyph)) where
   abbrev pub MayStand : List ℕ → Type 0
   MayStand text = (is_within_link outside && holds_definition text) ≡ false
 
--- it ends where no backquote stands behind it
+-- it ends where no backquote follows it
 span_ends : (heading : Bool) (outside : Option (List Glyph)) (n : ℕ) (bytes text : List ℕ) (shown : List Glyph) → unpadded bytes ≡ text → MayStand heading outside text → (rest : List ℕ) → no_grave_first rest ≡ true
     → finish heading (at outside shown (Span n bytes (suc n))) rest ≡ finish heading (at outside (shown ++ map code_glyph text) (Text Other)) rest
 span_ends heading None n bytes text shown e may [] free_end = rw (eq-eqb (suc n) (suc n) refl, e) refl

@@ -54,7 +54,7 @@ by_signs P known plain b =
     one_sign P b 10 known.12 (λ n12.
     plain b (record { no_backslash = n0; no_grave = n1; no_asterisk = n2; no_open = n3; no_close = n4; no_less = n5; no_brace = n6; no_number_sign = n7; no_underscore = n8; no_ampersand = n9; no_bang = n10; no_tab = n11; no_newline = n12 }))))))))))))))
 
--- a letter or a digit is none of them
+-- a letter or a digit is not one of them
 pub word_is_plain : (b : ℕ) → is_word b ≡ true → IsPlain b
 word_is_plain b h = by_signs (λ c. is_word c ≡ true → IsPlain c) (λ e. absurd cc, λ e. absurd cc, λ e. absurd cc, λ e. absurd cc, λ e. absurd cc, λ e. absurd cc, λ e. absurd cc, λ e. absurd cc, λ e. absurd cc, λ e. absurd cc, λ e. absurd cc, λ e. absurd cc, λ e. absurd cc) (λ c p _. p) b h
 
@@ -79,7 +79,7 @@ module _ (heading : Bool) where
   run_both line a b = fold-append (next_byte heading) line a b
 
   module _ (outside : Option (List Glyph)) where
-    -- a text that leads from a reading to one in text that shows this, not behind an exclamation mark
+    -- a text that leads from a reading to one in text that shows this, not after an exclamation mark
     pub record Shows (bytes : List ℕ) (from : Option Line) (shown : List Glyph) : Type 0 where
       pub after : Before
       pub calm : is_bang after ≡ false
@@ -125,12 +125,12 @@ module _ (heading : Bool) where
 
     -- ---- a text
 
-    -- what is read of a text, behind what stands before it
+    -- what is read of a text, after what stands before it
     abbrev TextReads : List ℕ → Type 0
     TextReads text = (before : Before) (behind : Bool) (shown : List Glyph) → (behind ≡ true → before ≡ Word) → (is_end text ≡ true → is_bang before ≡ false)
         → Shows (escaped heading behind text) (at outside shown (Text before)) (shown ++ plain text)
 
-    -- a byte that is read as this one, and what stands behind it
+    -- a byte that is read as this one, and what follows it
     then_text : (text : List ℕ) (b : ℕ) (first : List ℕ) (before : Before) (behind : Bool) (after : Before) (shown : List Glyph) → TextReads text
         → ((more : List ℕ) → run heading (at outside shown (Text before)) (first ++ more) ≡ run heading (at outside (shown ++ plain (b ∷ [])) (Text after)) more)
         → (behind ≡ true → after ≡ Word) → (is_end text ≡ true → is_bang after ≡ false)

@@ -27,17 +27,17 @@ is_word b = is_letter b || is_digit b
 abbrev pub begins_with : List ℕ → List ℕ → Bool
 begins_with front bytes = starts_with nat_eq bytes front
 
--- so many backquotes
+-- that many backquotes
 abbrev pub graves : ℕ → List ℕ
 graves zero = []
 graves (suc n) = grave ∷ graves n
 
--- Whether a text, behind so many backquotes, has a run of just this many of them.
+-- Whether a text, after that many backquotes, has a run of exactly this many of them.
 abbrev pub has_run : ℕ → ℕ → List ℕ → Bool
 has_run n run [] = run == n
 has_run n run (b ∷ text) = if b == grave then has_run n (suc run) text else run == n || has_run n 0 text
 
--- Whether a text has `]:`, which behind a bracket at the front of a line may define a link.
+-- Whether a text has `]:`, which after a bracket at the front of a line may define a link.
 abbrev pub holds_definition : List ℕ → Bool
 holds_definition [] = false
 holds_definition (b ∷ []) = false

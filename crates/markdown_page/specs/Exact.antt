@@ -27,8 +27,8 @@ abbrev pub is_end : List ℕ → Bool
 is_end [] = true
 is_end (b ∷ text) = false
 
--- Whether a backslash stands before a byte, behind a letter or a digit or not, and before this text: an exclamation
--- mark at the end of a text may stand before a link.
+-- Whether a byte is written with a backslash, where it is after a letter or a digit or not, and before this text: an
+-- exclamation mark at the end of a text may stand before a link.
 abbrev pub is_escaped : Bool → Bool → ℕ → List ℕ → Bool
 is_escaped in_heading behind_word b text =
     is_sign b
@@ -53,8 +53,7 @@ escaped in_heading behind_word (b ∷ text) =
 
 -- ---- code spans
 
--- How many more backquotes than one begin a span: as many as there are counts before the first, from one on, that no
--- run of the text has.
+-- How many more backquotes than one begin a span: the least number, from one on, that no run of the text has, less one.
 abbrev pub spare_run : List ℕ → ℕ
 spare_run text = position_or_len (λ count. not (has_run count 0 text)) (range_with_len 1 (length text))
 
@@ -93,12 +92,12 @@ page_link name = leading_text (page_address name) (escaped false false name)
 
 -- ---- pieces
 
--- a piece that is no literal
+-- a piece that is not a literal
 abbrev pub link_text : List ℕ → List ℕ
 link_text text = if is_link text then auto_text text else escaped false false text
 
--- Literals that touch are one span, which is written before the next text. These are the bytes of the span so far, with
--- a piece that is no literal, its text and what is written for it; one without a text is nothing.
+-- Literals that touch are one span, which is written before the next text. These are the bytes of the span so far, a
+-- piece that is not a literal, by its text, and what is written for it; one without a text is nothing.
 abbrev pub behind_literal : List ℕ → List ℕ → List ℕ → List ℕ
 behind_literal span [] written = []
 behind_literal span (b ∷ text) written = span_text span ++ written
@@ -134,12 +133,12 @@ with_end (b ∷ c ∷ line) = b ∷ with_end (c ∷ line)
 abbrev pub is_block_mark : ℕ → Bool
 is_block_mark b = b == 35 || b == 43 || b == 45 || b == 61 || b == 62 || b == 126
 
--- what would end a number, behind a digit, or begin a block
+-- what would end a number, after a digit, or begin a block
 abbrev pub wants_mark : Bool → ℕ → Bool
 wants_mark true b = b == 46 || b == 41
 wants_mark false b = is_block_mark b
 
--- a line that begins no block, behind a digit at its front or not
+-- a line that begins no block, after a digit at its front or not
 abbrev pub guarded : Bool → List ℕ → List ℕ
 guarded behind_digit [] = []
 guarded behind_digit (b ∷ line) =
@@ -157,13 +156,13 @@ framed (b ∷ line) = if b == 32 then kept_blank ++ with_end line else with_end 
 abbrev pub title_text : List ℕ → List ℕ
 title_text title = framed (escaped true false title)
 
--- ---- blocks, which stand in so many items
+-- ---- blocks, nested in that many items
 
 abbrev pub indent : ℕ → List ℕ
 indent zero = []
 indent (suc level) = 32 ∷ 32 ∷ indent level
 
--- a line behind a line break
+-- a line after a line break
 abbrev pub further_line : ℕ → List ℕ → List ℕ
 further_line level line = codes "\\\n" ++ (indent level ++ line_text line)
 

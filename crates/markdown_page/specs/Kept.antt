@@ -31,15 +31,14 @@ seen (glyph ∷ glyphs) = glyph ∷ glyphs
 
 -- ---- addresses
 
--- an address in the web, without blanks, `<` and `>`, and without `{`, which a program that makes pages of a site may take for its own
+-- an address in the web, without blanks, `<` and `>`, and without `{`, which a site generator may take for its own
 abbrev pub is_link_byte : ℕ → Bool
 is_link_byte b = nat_lt 32 b && not (b == 60 || b == 62 || b == 123 || b == 127)
 
 abbrev pub is_link : List ℕ → Bool
 is_link text = (begins_with (codes "http://") text || begins_with (codes "https://") text) && list_all is_link_byte text
 
--- the page of a name, beside this one: the name and `.md`, with the number of each byte but those that every address
--- may have
+-- the page of a name, beside this one: the name and `.md`, in which only unreserved bytes stay as they are
 abbrev pub is_unreserved : ℕ → Bool
 is_unreserved b = is_word b || (b == 45 || b == 46 || b == 95 || b == 126)
 
@@ -62,7 +61,7 @@ target_address (to_heading title) = heading_address title
 
 -- ---- lines
 
--- a text that is no address in the web is no link
+-- a text that is not an address in the web is not a link
 abbrev pub piece_shown : Piece → List Glyph
 piece_shown (words text) = plain text
 piece_shown (literal text) = spanned text
@@ -87,7 +86,7 @@ piece_bytes (page name) = name
 abbrev pub line_bytes : Line → List ℕ
 line_bytes line = flat_map piece_bytes line
 
--- ---- blocks, which stand in so many items
+-- ---- blocks, nested in that many items
 
 -- a paragraph without lines is none, and neither is an item without them
 abbrev pub paragraph_kept : ℕ → List Line → List Said
@@ -125,7 +124,7 @@ terms_shown target (term ∷ terms) = first_term target (line_bytes term) ++ fla
 abbrev pub dash : List ℕ
 dash = 32 ∷ 226 ∷ 128 ∷ 148 ∷ 32 ∷ []
 
--- an entry is an item, whose first paragraph stands behind its terms
+-- an entry is an item, whose first paragraph follows its terms
 abbrev pub body_kept : List Glyph → List BlockSaid → List Said
 body_kept terms [] = Paragraph 1 (seen terms ∷ []) ∷ []
 body_kept terms (paragraph (line ∷ lines) ∷ blocks) =

@@ -45,21 +45,21 @@ before_of b = if is_word b then Word else if b == 33 then Bang else Other
 pub data Mode : Type 0 where
   -- in text
   Text : Before → Mode
-  -- behind a backslash
+  -- after a backslash
   Escape : Mode
-  -- behind an underscore that stands behind a letter or a digit
+  -- after an underscore that follows a letter or a digit
   Underscore : Mode
-  -- behind an ampersand, and in the number of a character behind `&#`
+  -- after an ampersand, and in the number of a character after `&#`
   Ampersand : Mode
   Number : ℕ → Mode
-  -- behind one backquote and so many more, which begin a code span; and in the span that these begin, behind this text
-  -- and so many backquotes
+  -- after one backquote and that many more, which begin a code span; and in the span that these begin, after this text
+  -- and that many backquotes
   Opening : ℕ → Mode
   Span : ℕ → List ℕ → ℕ → Mode
   -- in an autolink, and in the name of a character in it
   Auto : List ℕ → Mode
   Entity : List ℕ → List ℕ → Mode
-  -- behind the text of a link, and in its address
+  -- after the text of a link, and in its address
   Bracket : Mode
   Address : List ℕ → Mode
 
@@ -91,7 +91,7 @@ abbrev pub begins_auto : Line → Option (List Glyph) → Option Line
 begins_auto line None = with_mode line (Auto [])
 begins_auto line (Some outside) = None
 
--- behind an exclamation mark a link is an image, and in a link stands no other
+-- after an exclamation mark a link is an image, and links do not nest
 abbrev pub begins_link : Line → Option (List Glyph) → Before → Option Line
 begins_link line (Some outside) before = None
 begins_link line None Word = Some (record { mode = Text Other; shown = []; outside = Some line.shown })
@@ -134,7 +134,7 @@ ampersand_byte heading line b =
     else if is_letter b then None
     else text_byte heading (with_text line Other (38 ∷ [])) Other b
 
--- a blank or an opening brace by its number, without zeros before it, since more than seven digits are none
+-- a blank or an opening brace by its number, without leading zeros, since more than seven digits are not a reference
 abbrev pub number_byte : Line → ℕ → ℕ → Option Line
 number_byte line n b =
     if b == 48 && n == 0 then None
@@ -160,7 +160,7 @@ abbrev pub is_within_link : Option (List Glyph) → Bool
 is_within_link None = false
 is_within_link (Some outside) = true
 
--- behind a code span; the first link of a paragraph is none where this begins the definition of a link
+-- after a code span; the first link of a paragraph is not a link where this begins a link's definition
 abbrev pub behind_span : Line → List ℕ → Option Line
 behind_span line text =
     if is_within_link line.outside && holds_definition text then None
@@ -277,18 +277,18 @@ pub data Kind : Type 0 where
   HeadingLine : ℕ → List ℕ → Kind
   FenceLine : ℕ → Kind
 
--- Whether a line, behind so many backquotes at its front, begins code. Behind these stands no other.
+-- Whether a line, after that many backquotes at its front, begins code. No further backquote follows these.
 abbrev pub is_fence : ℕ → List ℕ → Bool
 is_fence n [] = nat_le 3 n
 is_fence n (b ∷ line) = if b == grave then is_fence (suc n) line else nat_le 3 n && not (list_any is_grave line)
 
--- whether it begins, behind a digit or not, as an item with a number
+-- whether it begins, after a digit or not, as an item with a number
 abbrev pub is_numbered : Bool → List ℕ → Bool
 is_numbered behind_digit [] = false
 is_numbered behind_digit (b ∷ line) =
     if is_digit b then is_numbered true line else behind_digit && (b == 46 || b == 41)
 
--- what may begin a block that is no paragraph: `#`, `+`, `-`, `=`, `>`, `~`
+-- what may begin a block that is not a paragraph: `#`, `+`, `-`, `=`, `>`, `~`
 abbrev pub is_block_mark : ℕ → Bool
 is_block_mark b = b == 35 || b == 43 || b == 45 || b == 61 || b == 62 || b == 126
 
@@ -297,7 +297,7 @@ is_text_line [] = false
 is_text_line (b ∷ line) =
     not (b == blank || is_block_mark b) && (not (is_numbered false (b ∷ line)) && not (is_fence 0 (b ∷ line)))
 
--- what stands behind these bytes
+-- what follows these bytes
 abbrev pub behind : List ℕ → List ℕ → Option (List ℕ)
 behind [] bytes = Some bytes
 behind (b ∷ front) [] = None
@@ -321,7 +321,7 @@ kind_of line =
 pub data Stand : Type 0 where
   -- where any block may begin
   Between : Stand
-  -- behind a line of the paragraph that is last, and behind a line break in it
+  -- after a line of the paragraph that is last, and after a line break in it
   Filled : Stand
   Broken : Stand
   -- in code, with the backquotes of its fence and the lines so far
@@ -429,7 +429,7 @@ line_if read at (Some kind) = line_of read at.level at.line kind
 abbrev pub empty_line : Reading → Option Reading
 empty_line read = if_open read.stand (Some (record read { stand = Between }))
 
--- the most backquotes of a line that follow one another, behind so many
+-- the most backquotes of a line that follow one another, after that many
 abbrev pub longest_run : ℕ → List ℕ → ℕ
 longest_run run [] = run
 longest_run run (b ∷ line) = if b == grave then longest_run (suc run) line else max run (longest_run 0 line)
@@ -476,12 +476,12 @@ next_line (Some read) line = next_in read read.stand line
 abbrev pub lines : List ℕ → List (List ℕ)
 lines bytes = slice_split (λ b. b == newline) bytes
 
--- a page ends outside code, and behind no line break
+-- a page ends outside code, and not after a line break
 abbrev pub whole_page : Option Reading → Option (List Said)
 whole_page None = None
 whole_page (Some read) = if is_open read.stand then Some read.said else None
 
--- nothing stands behind its last newline
+-- nothing follows its last newline
 abbrev pub page_if_empty : Option Reading → List ℕ → Option (List Said)
 page_if_empty read [] = whole_page read
 page_if_empty read (b ∷ line) = None

@@ -13,21 +13,21 @@ place_byte Autolink b = auto_byte b
 place_byte Span b = shown_byte b ∷ []
 place_byte Code b = code_byte b ∷ []
 
--- what stands behind the text of a link
+-- what follows the text of a link
 abbrev pub behind_text : (address : List ℕ) → List ℕ
 behind_text address = codes "](" ++ (address ++ codes ")")
 
 -- ---- runs of backquotes
 
--- Which lengths are seen: at each place whether the length that is one more is. Room for a run of so many.
+-- Which lengths are seen: at each place whether the length that is one more is. With room for a run of this length.
 abbrev pub widened : List Bool → ℕ → List Bool
 widened seen run = seen ++ replicate (run - length seen) false
 
--- with a run of so many, which may be none
+-- with a run of this length, which may be 0
 abbrev pub with_run : List Bool → ℕ → List Bool
 with_run seen run = if run == 0 then seen else set (widened seen run) (run - 1) true
 
--- with those of a text behind a run of so many
+-- with those of a text after a run of this length
 abbrev pub with_runs : List Bool → ℕ → List ℕ → List Bool
 with_runs seen run [] = with_run seen run
 with_runs seen run (b ∷ text) =
@@ -44,16 +44,16 @@ abbrev pub digits_of : List ℕ → ℕ
 digits_of [] = 0
 digits_of (b ∷ line) = if is_digit b then suc (digits_of line) else 0
 
--- what stands before the rest of a line, behind a digit or not
+-- what stands before the rest of a line, after a digit or not
 abbrev pub front_mark : Bool → List ℕ → List ℕ
 front_mark behind_digit [] = []
 front_mark behind_digit (b ∷ line) = mark_if (wants_mark behind_digit b)
 
--- a line behind the first of a paragraph
+-- a line after the first of a paragraph
 abbrev pub written_line : ℕ → Line → List ℕ
 written_line level line = further_line level (written line)
 
--- the lines of an entry, behind its terms
+-- the lines of an entry, after its terms
 abbrev pub first_text : List ℕ → List Line → List ℕ
 first_text terms [] = lines_text 1 terms []
 first_text terms (line ∷ lines) = lines_text 1 (terms ++ (dash ++ written line)) (map written lines)

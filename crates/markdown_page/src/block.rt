@@ -77,7 +77,7 @@ fn push_further_lines<A: Allocator, B: Allocator>(
     Ok(())
 }
 
-/// Writes the line that is put together, and others behind it.
+/// Writes the line that is put together, and others after it.
 pub fn push_lines<A: Allocator, B: Allocator>(
     writer: &mut Writer<A>,
     lines: &[Line<'_, B>],
@@ -215,7 +215,7 @@ fn push_code<A: Allocator>(
     push_fence(page, level, more)
 }
 
-/// Writes a block that stands in so many items.
+/// Writes a block, nested in that many items.
 pub fn push_block<A: Allocator, B: Allocator>(
     writer: &mut Writer<A>,
     block: &Block<'_, B>,

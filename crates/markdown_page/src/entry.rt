@@ -54,7 +54,7 @@ fn push_term<A: Allocator>(line: &mut LineText<A>, term: &[Inline<'_>]) -> Resul
     push_open_span(line)
 }
 
-// Whether behind a bracket a text might define a link.
+// Whether a text might define a link where it follows a bracket.
 #[tactic(auto, using(crate::proofs::Loops::defines_is, crate::proofs::Loops::defines_next))]
 fn holds_definition(text: &[u8]) -> bool
     ensures { result ≡ holds_definition text.now }
@@ -155,7 +155,7 @@ fn push_alone<A: Allocator>(writer: &mut Writer<A>) -> Result<(), AllocError>
     writer.page.push_str("\n")
 }
 
-// Writes them with the first paragraph behind them.
+// Writes them with the first paragraph after them.
 fn push_with_terms<A: Allocator, B: Allocator>(
     writer: &mut Writer<A>,
     lines: &[Line<'_, B>],

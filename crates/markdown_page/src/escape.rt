@@ -1,4 +1,4 @@
-//! Texts of a line, in which what markdown reads as more than a letter stands behind a backslash.
+//! Texts of a line, with a backslash before each character that markdown would read as a mark.
 
 ghost use Rattle.std.specs.Prelude.{◌≡◌, ◌<◌, ◌++◌, ◌||◌, ◌==◌, false, true, IsTrue, OnOk, string_bytes};
 ghost use Rattle.markdown_page.specs.Bytes.{is_digit, is_letter, is_word};
@@ -51,7 +51,7 @@ fn may_refer(text: &[u8]) -> bool
     }
 }
 
-// Whether a backslash stands before a byte, behind a letter or a digit or not, and before this text.
+// Whether a byte is written with a backslash, where it is after a letter or a digit or not, and before this text.
 fn is_escaped(in_heading: bool, is_behind_word: bool, byte: u8, text: &[u8]) -> bool
     ensures { result ≡ is_escaped in_heading is_behind_word byte text.now }
 {

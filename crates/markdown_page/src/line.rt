@@ -18,8 +18,8 @@ use page_model::Inline;
 use page_model::replaced::push_replaced;
 use std::alloc::{AllocError, Allocator};
 
-/// A line that is put together: what is written of it, the text of the span that stands behind that, and room to note
-/// how long the runs of backquotes in that are.
+/// A line that is put together: what is written of it, the text of the span after that, and room to note how long the
+/// runs of backquotes in that text are.
 #[derive(Drop)]
 pub struct LineText<A: Allocator> {
     pub text: String<A>,
@@ -27,7 +27,7 @@ pub struct LineText<A: Allocator> {
     pub runs: Vec<bool, A>,
 }
 
-/// Writes the span behind what is there.
+/// Writes the span after what is there.
 pub fn push_open_span<A: Allocator>(line: &mut LineText<A>) -> Result<(), AllocError>
     ensures written { OnOk result (string_bytes line.new.text
         ≡ string_bytes line.old.text ++ span_text (string_bytes line.old.span)) }
@@ -75,7 +75,7 @@ fn push_name<A: Allocator>(line: &mut LineText<A>, name: &str) -> Result<(), All
     push_page(&mut line.text, name)
 }
 
-// Whatever pieces come behind it.
+// Whatever pieces follow it.
 fn push_piece<A: Allocator>(line: &mut LineText<A>, piece: Inline<'_>) -> Result<(), AllocError>
     ensures { OnOk result ((rest : Line)
         → string_bytes line.new.text ++ pieces_text (string_bytes line.new.span) rest
@@ -89,7 +89,7 @@ fn push_piece<A: Allocator>(line: &mut LineText<A>, piece: Inline<'_>) -> Result
     }
 }
 
-/// Writes pieces behind what is there, where no span is open.
+/// Writes pieces after what is there, where no span is open.
 pub fn push_pieces<A: Allocator>(
     line: &mut LineText<A>,
     pieces: &[Inline<'_>],

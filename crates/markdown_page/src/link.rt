@@ -50,7 +50,7 @@ fn push_auto<A: Allocator>(out: &mut String<A>, address: &str) -> Result<(), All
     out.push_str(">")
 }
 
-/// Writes a text as a link to itself, where it is an address in the web, and else as words.
+/// Writes a text as a link to itself, where it is an address in the web, otherwise as words.
 pub fn push_link<A: Allocator>(out: &mut String<A>, text: &str) -> Result<(), AllocError>
     ensures { OnOk result (string_bytes out.new ≡ string_bytes out.old ++ link_text text.now) }
 {
@@ -130,7 +130,7 @@ fn push_address<A: Allocator + Copy>(
     }
 }
 
-/// Writes what stands behind the text of a link that leads there.
+/// Writes what follows the text of a link that leads there.
 pub fn push_target<A: Allocator + Copy>(
     alloc: A,
     out: &mut String<A>,

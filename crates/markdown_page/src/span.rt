@@ -9,7 +9,7 @@ ghost use Rattle.markdown_page.specs.Steps.{first_unseen, widened, with_run, wit
 
 use std::alloc::{AllocError, Allocator};
 
-/// Writes one backquote and so many more.
+/// Writes one backquote and that many more.
 #[tactic(auto, using(crate::proofs::Loops::more_graves))]
 pub fn push_graves<A: Allocator>(out: &mut String<A>, more: usize) -> Result<(), AllocError>
     ensures { OnOk result (string_bytes out.new ≡ string_bytes out.old ++ graves (suc more)) }
@@ -21,7 +21,7 @@ pub fn push_graves<A: Allocator>(out: &mut String<A>, more: usize) -> Result<(),
     Ok(())
 }
 
-// Makes room for runs of so many backquotes, of which none is seen.
+// Makes room for runs of that many backquotes, of which none is seen yet.
 fn widen<A: Allocator>(seen: &mut Vec<bool, A>, run: usize) -> Result<(), AllocError>
     ensures { OnOk result (seen.new.items ≡ widened seen.old.items run) }
 {
@@ -32,7 +32,7 @@ fn widen<A: Allocator>(seen: &mut Vec<bool, A>, run: usize) -> Result<(), AllocE
     Ok(())
 }
 
-// Notes that a run of so many backquotes is seen, if they are any.
+// Notes that a run of that many backquotes is seen, if there are any.
 fn note_run<A: Allocator>(seen: &mut Vec<bool, A>, run: usize) -> Result<(), AllocError>
     ensures { OnOk result (seen.new.items ≡ with_run seen.old.items run) }
 {

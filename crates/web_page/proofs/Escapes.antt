@@ -52,11 +52,11 @@ plain_character v c p =
 pub signed_character : (v : Bool) (c : ℕ) (text : List ℕ) → c < 128 → escaped_byte v c ≡ text → escaped v (encode_utf8 c) ≡ text
 signed_character v c text h e = ap (escaped v) (encode_ascii c h) ∙ append-nil (escaped_byte v c) ∙ e
 
--- what stands for a text and its next byte
+-- what is written for a text and its next byte
 escaped_more : (v : Bool) (text : List ℕ) (at : ℕ) → at < length text → escaped v (take (at + 1) text) ≡ escaped v (take at text) ++ escaped_byte v (get_or text at 0)
 escaped_more v text at h = grind (arith, take_more text at 0 h, flat_map-append (escaped_byte v) (take at text) (get_or text at 0 ∷ []), append-nil (escaped_byte v (get_or text at 0)))
 
--- the next byte of what lies behind a place
+-- the next byte of what follows a place
 run_more : (text : List ℕ) (start at : ℕ) → start ≤ at → at < length text → take (at + 1 - start) (drop start text) ≡ take (at - start) (drop start text) ++ get_or text at 0 ∷ []
 run_more text start at le h = grind (arith, length-drop start text, take_more (drop start text) (at - start) 0, get_or-drop start text (at - start) 0)
 
@@ -64,14 +64,14 @@ run_more text start at le h = grind (arith, length-drop start text, take_more (d
 pub plain_next : (v : Bool) (text out first : List ℕ) (start at : ℕ) → start ≤ at → at < length text → escaped_byte v (get_or text at 0) ≡ get_or text at 0 ∷ [] → out ++ take (at - start) (drop start text) ≡ first ++ escaped v (take at text) → out ++ take (at + 1 - start) (drop start text) ≡ first ++ escaped v (take (at + 1) text)
 plain_next v text out first start at le h e w = grind (arith, run_more text start at le h, append_assoc out (take (at - start) (drop start text)) (get_or text at 0 ∷ []), append_assoc first (escaped v (take at text)) (get_or text at 0 ∷ []), escaped_more v text at h)
 
--- a step over one that something else stands for
+-- a step over a byte that a reference stands for
 pub named_next : (v : Bool) (text out first more new name : List ℕ) (start at : ℕ) → at < length text → escaped_byte v (get_or text at 0) ≡ name → more ≡ out ++ take (at - start) (drop start text) → new ≡ more ++ name → out ++ take (at - start) (drop start text) ≡ first ++ escaped v (take at text) → new ++ take (at + 1 - (at + 1)) (drop (at + 1) text) ≡ first ++ escaped v (take (at + 1) text)
 named_next v text out first more new name start at h e m n w = grind (arith, append-nil new, append_assoc first (escaped v (take at text)) name, escaped_more v text at h)
 
 pub extends_more : (first old new more : List ℕ) → Extends first old → new ≡ old ++ more → Extends first new
 extends_more first old new more h e = (h.0 ++ more, e ∙ ap (λ x. x ++ more) h.1 ∙ append_assoc first h.0 more)
 
--- the same where the text came in or not
+-- the same, whether the text was appended or not
 pub extends_tried : (first old new more : List ℕ) (came : Bool) → Extends first old → new ≡ (if came then old ++ more else old) → Extends first new
 extends_tried first old new more true h e = extends_more first old new more h e
 extends_tried first old new more false h e = (h.0, e ∙ h.1)
@@ -80,7 +80,7 @@ extends_tried first old new more false h e = (h.0, e ∙ h.1)
 pub cut_at_end : (old new : List ℕ) (n : ℕ) → IsUtf8 old → IsUtf8 new → n ≡ length old → Extends old new → IsCharBoundary new n
 cut_at_end old new n u v e h = grind (arith, length-append, take-append_seam, IsCharBoundary-from_take)
 
--- and comes to it again
+-- and is that one again
 pub cut_back : (old new : List ℕ) (n : ℕ) → n ≡ length old → Extends old new → take n new ≡ old
 cut_back old new n e h = ap (λ k. take k new) e ∙ ap (take (length old)) h.1 ∙ take-append_seam old h.0
 

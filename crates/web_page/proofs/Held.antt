@@ -238,7 +238,7 @@ around_is here outers frames nodes h4 = grind arith
 model_from : (here : Open) (frame : Frame) (frames : List Frame) (nodes : Nodes) → Describes here frame frames nodes → ends here ≡ true → inked here ≡ true → fits_model frame.tag frame.attributes nodes ≡ true
 model_from here frame frames nodes d may ink = grind (arith, and_from, ends_in, inked_in)
 
--- behind the end of an element that is as its model has it
+-- after the end of an element that is as its model has it
 end_inside : (here outer : Open) (outers : List Open) (frame : Frame) (frames : List Frame) (nodes : Nodes) → ends here ≡ true → inked here ≡ true → AreOpen here (outer ∷ outers) (frame ∷ frames) nodes
     → AreOpen (behind_child outer here.tag here.has_ink) outers frames (joined frame.before (element frame.tag frame.attributes nodes none))
 end_inside here outer outers frame frames nodes h6 h7 h8 = grind (arith, with_inner, model_from)
@@ -247,7 +247,7 @@ clean_end : (tag : Tag) → IsClean (end_text tag)
 clean_end tag = clean-ascii (end_text tag) (each_tag (λ other. list_all is_ascii_byte (end_text other)) refl tag)
 
 -- the end of an element in the body of any page
--- where it is in the body directly, and else
+-- where it is in the body directly, and where it is deeper
 abbrev EndsThere : Frame → Nodes → List ℕ → Nodes → Nodes → List Frame → Type 0
 EndsThere frame nodes language head before frames =
     run (reading Content (Some (in_page language head before (record { open_elements = frame ∷ frames; nodes = nodes })))) (end_text frame.tag) ≡ reading Content (Some (in_page language head before (with_end_in (frame ∷ frames) nodes)))
@@ -353,7 +353,7 @@ whole_held bytes here o u may =
     subst (λ list. ReadsAs (bytes ++ page_end) (whole_page (record { open_elements = list; nodes = o.draft.nodes }))) (sym same)
     (page_reads bytes body.language head o.draft.nodes o.draft.nodes (record { utf8 = u; permitted = o.permitted }) reads (settles Body o.draft.nodes at.content.ordered at.content.kept) body.is_language (fit_head body.title body.style body.has_title) refl at.content)
 
--- what stands behind the front
+-- what follows the front
 pub content_held : {at : ℕ} (bytes : List ℕ) (here : Open) (o : IsOngoing bytes at here []) → ends here ≡ true → ReadsInBody o.content.content o.draft.nodes
 unfolding reading_of
 content_held bytes here o may front language head f before behind white white_behind =

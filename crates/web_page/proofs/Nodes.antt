@@ -24,7 +24,7 @@ or_false a = grind arith
 or_swap : (a : Bool) → ((a || false) || false) ≡ (false || a)
 or_swap a = grind arith
 
--- ---- nodes behind nodes
+-- ---- nodes after nodes
 
 pub joined-none : (nodes : Nodes) → joined nodes none ≡ nodes
 joined-none none = refl
@@ -61,7 +61,7 @@ are_fit-joined in_link none more = refl
 are_fit-joined in_link (text bytes rest) more = are_fit-joined in_link rest more
 are_fit-joined in_link (element tag given content rest) more = grind (arith, are_fit-joined in_link rest more, and_assoc)
 
--- ---- a byte of text behind nodes
+-- ---- a byte of text after nodes
 
 last_child-with_byte : (before : Option Child) (nodes : Nodes) (b : ℕ) → last_child before (with_byte nodes b) ≡ Some Words
 last_child-with_byte before (text bytes (text more rest)) b = last_child-with_byte (Some Words) (text more rest) b
@@ -69,7 +69,7 @@ last_child-with_byte before (text bytes (element tag given content rest)) b = la
 last_child-with_byte before (element tag given content rest) b = last_child-with_byte (Some (Inner tag)) rest b
 last_child-with_byte before x b = grind arith
 
--- whether text may come behind the nodes: a last text takes it
+-- whether text may follow the nodes: a last text takes it
 abbrev takes_after : Tag → Option Child → Nodes → Bool
 takes_after tag before none = may_hold tag before Words
 takes_after tag before (text bytes none) = true
@@ -117,7 +117,7 @@ are_fit-with_byte in_link (text bytes (element tag given content rest)) b = are_
 are_fit-with_byte in_link (element tag given content rest) b = grind (arith, are_fit-with_byte in_link rest b)
 are_fit-with_byte in_link x b = grind arith
 
--- ---- text behind nodes
+-- ---- text after nodes
 
 pub last_child-with_words : (before : Option Child) (nodes : Nodes) (b : ℕ) (bytes : List ℕ) → last_child before (with_words nodes (b ∷ bytes)) ≡ Some Words
 last_child-with_words before nodes b [] = last_child-with_byte before nodes b

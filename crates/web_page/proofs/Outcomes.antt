@@ -109,7 +109,7 @@ ends_now bytes here outers now o v = ends_is here outers o.draft.open_elements o
 pub inked_now : {at : ℕ} (bytes : List ℕ) (here : Open) (outers : List Open) (now : Draft) (o : IsOngoing bytes at here outers) → draft_of bytes ≡ now → inked here ≡ has_ink_in now.open_elements now.nodes
 inked_now bytes here outers now o v = inked_is here outers o.draft.open_elements o.draft.nodes o.are_open ∙ ap (λ (d : Draft). has_ink_in d.open_elements d.nodes) (seen bytes here outers now o v)
 
--- an end where the code's tests say that there may be one, and where they say that there is no ink
+-- an end where the code's tests allow one, and where they find no ink
 pub end_placed : {T : Type 0} (draft : Draft) (r : Result T PageError) → is_inside_body draft.open_elements ≡ true → may_end_in draft.open_elements draft.nodes ≡ true → has_ink_in draft.open_elements draft.nodes ≡ true → FailsOnlyBy None r → FailsOnlyBy (end_fault draft) r
 end_placed draft r a e i f = rw (a, e, i) f
 

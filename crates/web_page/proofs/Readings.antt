@@ -22,7 +22,7 @@ run r bytes = fold next r bytes
 pub run-append : (r : Reading) (a b : List ℕ) → run r (a ++ b) ≡ run (run r a) b
 run-append r a b = fold-append next r a b
 
--- one behind the other
+-- one after another
 pub run_then : (r s t : Reading) (a b : List ℕ) → run r a ≡ s → run s b ≡ t → run r (a ++ b) ≡ t
 run_then r s t a b e f = run-append r a b ∙ ap (λ x. run x b) e ∙ f
 
@@ -195,7 +195,7 @@ no_slash b bytes h e = grind (arith, or_parts)
 abbrev with_one : Draft → ℕ → Draft
 with_one draft b = record draft { nodes = with_byte draft.nodes b }
 
--- in a style, up to the next `<`; and behind one
+-- in a style, up to the next `<`; and after one
 abbrev RawReads : List ℕ → Type 0
 RawReads style = (draft : Draft) (rest : List ℕ) → has_end_sign style ≡ false → run (reading Raw (Some draft)) (style ++ 60 ∷ rest) ≡ run (reading RawSign (Some (with_text draft style))) rest
 

@@ -15,7 +15,7 @@ use Rattle.web_page.specs.declared.elements.Element.TheVariants.{Header, Nav, Ma
 abbrev plain : Tag → Nodes → Nodes → Nodes
 plain tag content rest = element tag [] content rest
 
--- the head of the pages below, and what stands before and behind the content of their main element
+-- the head of the pages below, and what stands before and after the content of their main element
 abbrev head_text : List ℕ
 head_text = codes "<head><meta charset=\"utf-8\"><title>T</title><style></style></head>"
 
@@ -89,7 +89,7 @@ reads_2 :
     (main_of (codes "<pre>\n\na</pre>") ≡ page (plain (Of Pre) (text (codes "\na") none) none))
     -- a newline need not be there
     × (main_of (codes "<pre>a</pre><pre></pre>") ≡ page (plain (Of Pre) (text (codes "a") none) (plain (Of Pre) none none)))
-    -- a newline behind another tag in it is text
+    -- a newline after another tag in it is text
     × (main_of (codes "<pre><code>\na</code></pre>") ≡ page (plain (Of Pre) (plain (Of Code) (text (codes "\na") none) none) none))
     -- a br has no end
     × (main_of (codes "<p>a<br>b</p>") ≡ paragraph (text (codes "a") (plain Br none (text (codes "b") none))))
@@ -99,7 +99,7 @@ reads_2 :
     × (main_of (codes "<section id=\"\" lang=\"de\"></section>") ≡ page (element (Of Section) (record { name = codes "id"; value = [] } ∷ attribute (codes "lang") (codes "de")) none none))
     -- headings of each level
     × (main_of (codes "<h1></h1><h2></h2><h3></h3><h4></h4><h5></h5><h6></h6>") ≡ page (plain (Of (Heading One)) none (plain (Of (Heading Two)) none (plain (Of (Heading Three)) none (plain (Of (Heading Four)) none (plain (Of (Heading Five)) none (plain (Of (Heading Six)) none none)))))))
-    -- in a style all is text but `</`
+    -- in a style all but `</` is text
     × (read (codes "<!DOCTYPE html><html lang=\"en\"><head><title>&amp;</title><style>a>b{c:\"&amp;<<b>\"}</style></head></html>") ≡ Some (element Html (attribute (codes "lang") (codes "en")) (plain Head (plain Title (text (codes "&") none) (plain Style (text (codes "a>b{c:\"&amp;<<b>\"}") none) none)) none) none))
     -- between the parts of a page it is nothing
     × (read (codes "<!DOCTYPE html><html lang=\"en\">\n<head>\n" ++ codes "<title>T</title>\n</head>\n<body>\n</body>\n</html>") ≡ Some (whole (plain Title (text (codes "T") none) none) none))
@@ -107,7 +107,7 @@ reads_2 :
     × (read (codes "<!DOCTYPE html>\n<html lang=\"en\"></html>\n") ≡ Some (element Html (attribute (codes "lang") (codes "en")) none none))
     -- in a text a form feed counts
     × (main_of (codes "<p>" ++ 12 ∷ [] ++ codes "</p>") ≡ paragraph (text (12 ∷ []) none))
-    -- behind main a footer, with white space between and in it
+    -- after main a footer, with white space around and in it
     × (read (before_main ++ codes "</main>\n<footer> <p>a</p>\n</footer>\n</body></html>") ≡ Some (whole head (plain (Of Main) none (plain (Of Footer) (plain (Of P) (text (codes "a") none) none) none))))
 unfolding read reading_of chars is_utf8 encode
 reads_2 = (refl, refl, refl, refl, refl, refl, refl, refl, refl, refl, refl, refl)
@@ -181,13 +181,13 @@ refuses_2 = (refl, refl, refl, refl, refl, refl, refl, refl, refl, refl, refl, r
 refuses_3 :
     -- a character that is cut off
     (main_of (codes "<p>" ++ 195 ∷ [] ++ codes "</p>") ≡ None)
-    -- a control character behind the first byte of another
+    -- a control character after the first byte of another
     × (main_of (codes "<p>" ++ 195 ∷ 0 ∷ [] ++ codes "</p>") ≡ None)
     -- no document type
     × (read (codes "<html lang=\"en\"></html>") ≡ None)
     -- another document type
     × (read (codes "<!DOCTYPE HTML><html lang=\"en\"></html>") ≡ None)
-    -- text behind the page
+    -- text after the page
     × (read (codes "<!DOCTYPE html><html lang=\"en\"></html>a") ≡ None)
     -- a second html element
     × (read (codes "<!DOCTYPE html><html></html><html></html>") ≡ None)
@@ -204,7 +204,7 @@ refuses_3 = (refl, refl, refl, refl, refl, refl, refl, refl, refl, refl)
 
 -- ---- what the models have and do not have
 
--- whether a page is as the models have it whose body has this content
+-- whether a page whose body has this content is as the models have it
 abbrev fits_body : Nodes → Bool
 fits_body body = are_fit false (whole head body)
 
@@ -240,7 +240,7 @@ models_2 :
     (fits_body (plain (Of Header) none none) ≡ false)
     -- two of them
     × (fits_body (plain (Of Main) none (plain (Of Main) none none)) ≡ false)
-    -- a header behind main
+    -- a header after main
     × (fits_body (plain (Of Main) none (plain (Of Header) none none)) ≡ false)
     -- a footer before main
     × (fits_body (plain (Of Footer) none (plain (Of Main) none none)) ≡ false)
@@ -248,7 +248,7 @@ models_2 :
     × (fits_body (plain (Of Footer) none none) ≡ false)
     -- two of them
     × (fits_body (plain (Of Main) none (plain (Of Footer) none (plain (Of Footer) none none))) ≡ false)
-    -- a nav behind the footer
+    -- a nav after the footer
     × (fits_body (plain (Of Main) none (plain (Of Footer) none (plain (Of Nav) none none))) ≡ false)
     -- a section in a footer
     × (fits_body (plain (Of Main) none (plain (Of Footer) (plain (Of Section) none none) none)) ≡ false)
@@ -282,7 +282,7 @@ models_3 :
 models_3 = (refl, refl, refl, refl, refl, refl, refl, refl, refl, refl)
 
 models_4 :
-    -- an element behind the list in an item
+    -- an element after the list in an item
     (fits_main (item (plain (Of Ul) (plain (Of Li) (plain (Of Em) (text (codes "a") none) none) none) (plain (Of Em) none none))) ≡ false)
     -- a text there, also one of white space
     × (fits_main (item (plain (Of Ul) (plain (Of Li) (text (codes "a") none) none) (text (codes " ") none))) ≡ false)
@@ -296,7 +296,7 @@ models_4 :
     × (fits_main (item none) ≡ false)
     -- a paragraph in a list
     × (fits_main (plain (Of Ul) (plain (Of P) (text (codes "a") none) none) none) ≡ false)
-    -- the head says the encoding first, and one time
+    -- the head says the encoding first, and once
     × (begins_with_encoding head ≡ true)
     × (begins_with_encoding (plain Title none (charset none)) ≡ false)
     × (begins_with_encoding (charset (charset none)) ≡ false)

@@ -16,7 +16,7 @@ on_text before (b ∷ bytes) = on_text (before ++ b ∷ []) bytes ∙ ap (λ x. 
 pub at_front : (b : ℕ) (bytes : List ℕ) → with_words none (b ∷ bytes) ≡ text (b ∷ bytes) none
 at_front b bytes = on_text (b ∷ []) bytes
 
--- a byte behind nodes whose last is an element, or a text behind one
+-- a byte after nodes whose last is an element, or a text after one
 byte_behind : (nodes content : Nodes) (tag : Tag) (given : List Attribute) (b : ℕ) → with_byte (joined nodes (element tag given content none)) b ≡ joined nodes (element tag given content (text (b ∷ []) none))
 byte_behind (text bytes (text more rest)) content tag given b = ap (text bytes) (byte_behind (text more rest) content tag given b)
 byte_behind (text bytes (element inner others within rest)) content tag given b = ap (text bytes) (byte_behind (element inner others within rest) content tag given b)

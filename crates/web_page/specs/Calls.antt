@@ -16,7 +16,7 @@ use Rattle.web_page.specs.declared.errors.PageError.TheVariants as errors
 
 -- ---- what is added
 
--- bytes of text behind nodes: they go into a text that is last, and where there are none nothing changes
+-- bytes of text after nodes: they go into a text that is last, and where there are none nothing changes
 abbrev pub with_words : Nodes → List ℕ → Nodes
 with_words nodes bytes = fold with_byte nodes bytes
 
@@ -127,7 +127,7 @@ is_inside_body (frame ∷ []) = false
 is_inside_body (frame ∷ outer ∷ []) = false
 is_inside_body (frame ∷ outer ∷ outermost ∷ frames) = true
 
--- whether the innermost element may end behind what is in it
+-- whether the innermost element may end after what is in it
 abbrev pub may_end_in : List Frame → Nodes → Bool
 may_end_in [] nodes = false
 may_end_in (frame ∷ frames) nodes = may_end frame.tag (last_child None nodes)
@@ -146,12 +146,12 @@ abbrev pub finish_fault : Draft → Option PageError
 finish_fault draft =
     unless (not (is_inside_body draft.open_elements) && may_end_in draft.open_elements draft.nodes) errors.Misplaced None
 
--- a call fails with its fault where it has one, and else only where memory is refused
+-- a call fails with its fault where it has one, and otherwise only where memory is refused
 abbrev pub FailsOnlyBy : {T : Type 0} → Option PageError → Result T PageError → Type 0
 FailsOnlyBy (Some fault) result = result ≡ Err fault
 FailsOnlyBy None result = IfErr result (λ error. error ≡ errors.Refused alloc_error)
 
--- one that takes no memory fails with its fault where it has one, and else not
+-- one that takes no memory fails with its fault where it has one, and otherwise does not fail
 abbrev pub FailsJustBy : {T : Type 0} → Option PageError → Result T PageError → Type 0
 FailsJustBy (Some fault) result = result ≡ Err fault
 FailsJustBy None result = IsOk result

@@ -22,7 +22,7 @@ attributes_text [] = []
 attributes_text (given ∷ more) =
     codes " " ++ (given.name ++ (codes "=\"" ++ (escaped true given.value ++ (codes "\"" ++ attributes_text more))))
 
--- the end of a start tag; behind that of a pre a newline
+-- the end of a start tag; a newline follows that of a pre
 abbrev pub tag_end : Tag → List ℕ
 tag_end tag = if is_tag (Of Pre) tag then codes ">\n" else codes ">"
 
@@ -32,7 +32,7 @@ start_text tag given = codes "<" ++ (name_of tag ++ (attributes_text given ++ ta
 abbrev pub end_text : Tag → List ℕ
 end_text tag = codes "</" ++ (name_of tag ++ codes ">")
 
--- what stands before the content of the body, and behind it
+-- what stands before and after the content of the body
 abbrev pub page_front : List ℕ → List ℕ → List ℕ → List ℕ
 page_front language title style =
     codes "<!DOCTYPE html><html lang=\"" ++ (escaped true language

@@ -12,7 +12,7 @@ use Rattle.web_page.specs.declared.elements.Child.TheVariants.{Words, Inner}
 use Rattle.web_page.specs.declared.elements.Level.TheVariants.{One}
 use Rattle.web_page.specs.declared.elements.Element.TheVariants.{Header, Nav, Main, Footer, Section, Heading, P, Pre, Ul, Li, Dl, Dt, Dd, Code, Strong, Em, Var}
 
--- ---- what stands behind what
+-- ---- what may follow what
 
 -- whether a child is an element of one of these kinds
 abbrev pub is_child : List Tag → Child → Bool
@@ -36,7 +36,7 @@ abbrev pub is_behind : (Child → Bool) → Option Child → Bool
 is_behind test None = false
 is_behind test (Some before) = test before
 
--- whether a child may stand in an element of the body, behind this child or, at None, as the first one
+-- whether a child may stand in an element of the body, after this child or, at None, as the first one
 abbrev pub element_may_hold : Element → Option Child → Child → Bool
 -- headings, paragraphs, preformatted text, lists
 element_may_hold Header before child = is_flow child
@@ -49,7 +49,7 @@ element_may_hold P before child = is_phrasing child
 element_may_hold Pre before child = is_phrasing child
 -- items
 element_may_hold Ul before child = is_child (Of Li ∷ []) child
--- what stands within a line, and behind it at most one list
+-- what stands within a line, and after it at most one list
 element_may_hold Li before child =
     not (is_behind (is_child (Of Ul ∷ [])) before) && (is_phrasing child || is_child (Of Ul ∷ []) child)
 -- a term first, and then terms and descriptions
@@ -88,7 +88,7 @@ may_hold Br before child = false
 may_hold A before child = is_phrasing child
 may_hold (Of e) before child = element_may_hold e before child
 
--- whether an element may end behind this child
+-- whether an element may end after this child
 abbrev pub may_end : Tag → Option Child → Bool
 may_end Html last = is_behind (is_child (Body ∷ [])) last
 may_end Head last = is_behind (is_child (Style ∷ [])) last
@@ -96,13 +96,13 @@ may_end Body last = is_behind (is_child (Of Main ∷ Of Footer ∷ [])) last
 may_end (Of Dl) last = is_behind (is_child (Of Dd ∷ [])) last
 may_end _ last = true
 
--- the last of some nodes, or else the child before them
+-- the last of some nodes, otherwise the child before them
 abbrev pub last_child : Option Child → Nodes → Option Child
 last_child before none = before
 last_child before (text bytes rest) = last_child (Some Words) rest
 last_child before (element tag attributes content rest) = last_child (Some (Inner tag)) rest
 
--- whether each node may stand behind the one before it
+-- whether each node may follow the one before it
 abbrev pub are_in_order : Tag → Option Child → Nodes → Bool
 are_in_order tag before none = true
 are_in_order tag before (text bytes rest) = may_hold tag before Words && are_in_order tag (Some Words) rest
@@ -164,7 +164,7 @@ is_meta (first ∷ second ∷ []) =
     && bytes_eq second.name (codes "content") && bytes_eq second.value (codes "width=device-width")
 is_meta _ = false
 
--- an html element has its language, a link its target; a section, a heading and a term may have an id
+-- an html element has its language, a link its target; a section, a heading or a term may have an id
 abbrev pub fits_attributes : Tag → List Attribute → Bool
 fits_attributes Html attributes = is_lone (codes "lang") is_language attributes
 fits_attributes Meta attributes = is_meta attributes
@@ -208,7 +208,7 @@ begins_with_encoding none = false
 begins_with_encoding (text bytes rest) = false
 begins_with_encoding (element tag attributes content rest) = is_tag Meta tag && is_charset attributes && lacks_encoding rest
 
--- a page: an html element, with all that is in it as its model has it, whose head says the encoding first
+-- a page: an html element whose head says the encoding first, with all that is in it as its model has it
 pub record IsPage (nodes : Nodes) : Type 0 where
   pub whole : is_whole nodes ≡ true
   pub fit : are_fit false nodes ≡ true
@@ -245,9 +245,9 @@ pub record IsFront (front language : List ℕ) (head : Nodes) : Type 0 where
   pub fit : are_fit false (element Head [] head none) ≡ true
   pub encoded : begins_with_encoding head ≡ true
 
--- A text that is the content of a body. Behind the front of a page, whatever its language and head are and however it is
+-- A text that is the content of a body. After the front of a page, whatever its language and head are and however it is
 -- written, and before the end tags of the body and of html it reads as that page, with these nodes in its body; there may
--- be white space before and behind it.
+-- be white space before and after it.
 abbrev pub ReadsInBody : List ℕ → Nodes → Type 0
 ReadsInBody bytes nodes =
     (front language : List ℕ) (head : Nodes) → IsFront front language head

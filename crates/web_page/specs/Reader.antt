@@ -1,7 +1,7 @@
 -- A reader of HTML text, for the part of the language that a page is written in. It goes over the bytes once: the
 -- tokenizer is in a mode, and each token that it finds is put into the tree at once. What is not of this part is
--- refused. Where each element holds only what its model has, HTML's own reader builds the same tree, but for the white
--- space between elements, of which it makes texts.
+-- refused. Where each element holds only what its model has, HTML's own reader builds the same tree, except for the
+-- white space between elements, which it keeps as texts.
 use Rattle.std.specs.Prelude.{ℕ, ◌%◌, Bool, true, false, not, ◌&&◌, ◌||◌, ◌==◌, nat_lt, nat_le, List, [], ◌∷◌, ◌++◌, Option, Some, None, fold, codes, if◌then◌else◌}
 use Rattle.std.specs.List.{list_any, list_all}
 use Rattle.std.specs.Str.{chars, bytes_eq, is_utf8}
@@ -70,13 +70,13 @@ pub record Draft : Type 0 where
 abbrev pub no_draft : Draft
 no_draft = record { open_elements = []; nodes = none }
 
--- nodes behind nodes
+-- nodes after nodes
 abbrev pub joined : Nodes → Nodes → Nodes
 joined none more = more
 joined (text bytes rest) more = text bytes (joined rest more)
 joined (element tag attributes content rest) more = element tag attributes content (joined rest more)
 
--- a byte of text behind nodes: it goes into a text that is last
+-- a byte of text after nodes: it goes into a text that is last
 abbrev pub with_byte : Nodes → ℕ → Nodes
 with_byte none b = text (b ∷ []) none
 with_byte (text bytes none) b = text (bytes ++ b ∷ []) none
@@ -200,29 +200,29 @@ pub data Mode : Type 0 where
   Doctype : List ℕ → Mode
   -- in content: texts, tags and references
   Content : Mode
-  -- directly behind the start tag of a pre
+  -- directly after the start tag of a pre
   BehindPre : Mode
-  -- in a style, which has no references; and there behind a `<`
+  -- in a style, which has no references; and there after a `<`
   Raw : Mode
   RawSign : Mode
-  -- behind an `&` and these bytes
+  -- after an `&` and these bytes
   Reference : List ℕ → Mode
-  -- behind a `<`
+  -- after a `<`
   Sign : Mode
-  -- behind `</` and these bytes
+  -- after `</` and these bytes
   EndName : List ℕ → Mode
   -- in the name of a start tag
   StartName : List ℕ → Mode
-  -- in a start tag behind white space
+  -- in a start tag after white space
   Inside : Opening → Mode
   -- in the name of an attribute
   Name : Opening → List ℕ → Mode
-  -- behind the `=` of an attribute of this name
+  -- after the `=` of an attribute of this name
   Equals : Opening → List ℕ → Mode
-  -- in its value; and there behind an `&` and these bytes
+  -- in its value; and there after an `&` and these bytes
   Value : Opening → Attribute → Mode
   ValueReference : Opening → Attribute → List ℕ → Mode
-  -- behind its value
+  -- after its value
   BehindValue : Opening → Mode
 
 -- where the tokenizer is, and the tree so far, unless the text is refused
@@ -236,7 +236,7 @@ reading mode draft = record { mode = mode; draft = draft }
 abbrev pub refused : Reading
 refused = reading Content None
 
--- how the text goes on behind a start tag of this name
+-- how the text goes on after a start tag of this name
 abbrev pub behind_start : List ℕ → Mode
 behind_start name =
     if bytes_eq name (codes "pre") then BehindPre
@@ -269,7 +269,7 @@ with_value_reference opening attribute draft (Some b) = with_value opening attri
 abbrev pub with_attribute : Opening → Attribute → Opening
 with_attribute opening attribute = record opening { attributes = opening.attributes ++ attribute ∷ [] }
 
--- behind a byte of the document type
+-- after a byte of the document type
 abbrev pub behind_doctype : List ℕ → Mode
 behind_doctype [] = Content
 behind_doctype (b ∷ bytes) = Doctype (b ∷ bytes)
@@ -352,12 +352,12 @@ is_whole (text bytes rest) = false
 is_whole (element Html attributes content none) = true
 is_whole (element _ attributes content rest) = false
 
--- around it there may be white space, which is nothing
+-- around it there may be white space, which is dropped
 abbrev pub whole_of : Option Nodes → Option Nodes
 whole_of None = None
 whole_of (Some nodes) = if is_whole nodes then Some nodes else None
 
--- what is read when there is no more, where no element is open
+-- the tree when the text ends, where no element is open
 abbrev pub tree_of : Mode → Option Draft → Option Nodes
 tree_of Content (Some draft) =
     elim (draft.open_elements) as (λ _. Option Nodes) [
@@ -366,8 +366,8 @@ tree_of Content (Some draft) =
     ]
 tree_of _ _ = None
 
--- The tree of a text, which is UTF-8. It is that of HTML's own rules where the tree is a page (Models): these move an
--- element that stands where it may not.
+-- The tree of a text, which is UTF-8. Where the tree is a page (Models), it is the one that HTML's own rules give:
+-- these move an element that stands where it may not.
 unfoldable pub read : List ℕ → Option Nodes
 read bytes =
     if is_text bytes then tree_of (reading_of bytes).mode (reading_of bytes).draft

@@ -1,4 +1,4 @@
--- How the code holds a page. Nobody has to believe it.
+-- How the code holds a page. Internal: no promise cites it.
 pub mod Bytes
 pub mod Open
 pub mod Pieces

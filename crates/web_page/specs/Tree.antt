@@ -12,8 +12,8 @@ pub record Attribute : Type 0 where
   pub name : List ℕ
   pub value : List ℕ
 
--- Nodes that are neighbours, in order: none; a text by its bytes, and the nodes behind it; or an element with its
--- attributes and the nodes in it, and the nodes behind it.
+-- Nodes that are neighbours, in order: none; a text by its bytes, and the nodes after it; or an element with its
+-- attributes and the nodes in it, and the nodes after it.
 pub data Nodes : Type 0 where
   none : Nodes
   text : List ℕ → Nodes → Nodes

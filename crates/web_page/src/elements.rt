@@ -14,8 +14,8 @@ pub enum Level {
     Six,
 }
 
-/// An element of the body that has content and, but for an id, no attribute. So a link is not among them, which has a
-/// target, nor is a line break, which is empty.
+/// An element of the body that has content and no attribute except an id. A link, which has a target, is not among
+/// them, nor is a line break, which is empty.
 #[derive(Clone, Copy, Debug, PartialEq, Eq)]
 pub enum Element {
     Header,
@@ -98,7 +98,7 @@ impl Element {
         }
     }
 
-    // Which kind of element it is, as a number behind those of `Tag::kind`.
+    // Which kind of element it is, as a number above those of `Tag::kind`.
     fn kind(self) -> u8
         ensures { result ≡ element_kind self }
     {

@@ -9,10 +9,10 @@ use thiserror::Error;
 /// Why a call on a page fails.
 #[derive(Clone, Copy, Debug, PartialEq, Eq, Error)]
 pub enum PageError {
-    /// The language is empty, or is more than ASCII letters, digits and `-`.
+    /// The language is empty, or has other characters than ASCII letters, digits and `-`.
     #[error("the language is no language tag")]
     Language,
-    /// The title is white space, or empty.
+    /// The title is empty or only white space.
     #[error("the title is empty")]
     Title,
     /// The style has `</` in it.
@@ -27,7 +27,7 @@ pub enum PageError {
     /// The open element does not take this there, or may not end yet, or no element is open.
     #[error("an element or a text where it may not stand, or an end where none may come")]
     Misplaced,
-    /// A paragraph, a heading or a list ends with no text in it but white space.
+    /// A paragraph, a heading or a list ends with no text in it except white space.
     #[error("a paragraph, a heading or a list that is empty")]
     NoInk,
     /// An allocation failed.

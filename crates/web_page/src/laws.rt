@@ -9,7 +9,7 @@ ghost use Rattle.web_page.specs.Tree.{Attribute, Nodes, element, none, text};
 ghost use Rattle.web_page.specs.Calls.{head_content, page_fault, with_text, with_words};
 ghost use Rattle.web_page.specs.declared.elements.Tag.{Tag};
 
-/// A text that is added in two parts is one text, and an empty one is none.
+/// A text that is added in two parts is one text, and an empty one adds nothing.
 #[tactic(auto, using(crate::proofs::TextLaws::parts))]
 pub fn texts_join()
     ensures joined { (draft : Draft) (first second : List ℕ)
@@ -17,7 +17,7 @@ pub fn texts_join()
     ensures empty { (draft : Draft) → with_text draft [] ≡ draft }
 {}
 
-/// A text is letter for letter a node of its own, at the front or behind an element, and goes on a text that is last.
+/// A text at the front or after an element is a node of its own, letter for letter, and one after a text continues it.
 #[tactic(auto, using(crate::proofs::TextLaws::at_front, crate::proofs::TextLaws::behind, crate::proofs::TextLaws::on_text))]
 pub fn texts_stay()
     ensures first { (b : ℕ) (bytes : List ℕ) → with_words none (b ∷ bytes) ≡ text (b ∷ bytes) none }
@@ -27,7 +27,7 @@ pub fn texts_stay()
     ensures behind_text { (before bytes : List ℕ) → with_words (text before none) bytes ≡ text (before ++ bytes) none }
 {}
 
-/// Each page that `Page::new` can begin has a front, behind which the content of a body reads as what it is.
+/// Each page that `Page::new` can begin has a front, after which the content of a body reads as what it is.
 #[tactic(auto, using(crate::proofs::Fronts::front_is))]
 pub fn pages_have_fronts()
     ensures { (language title style : List ℕ) → IsUtf8 title → IsUtf8 style → page_fault language title style ≡ None

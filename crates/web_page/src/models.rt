@@ -164,7 +164,7 @@ fn may_body_hold(before: Option<Child>, child: Child) -> bool
         || (is_child(&[FOOTER], child) && is_behind(&[MAIN], before))
 }
 
-/// Whether a child may stand in an element, behind this child or, at `None`, as the first one.
+/// Whether a child may stand in an element, after this child or, at `None`, as the first one.
 pub fn may_hold(tag: Tag, before: Option<Child>, child: Child) -> bool
     ensures { result ≡ may_hold tag before child }
 {
@@ -181,7 +181,7 @@ pub fn may_hold(tag: Tag, before: Option<Child>, child: Child) -> bool
     }
 }
 
-/// Whether an element may end behind this child or, at `None`, empty.
+/// Whether an element may end after this child or, at `None`, empty.
 pub fn may_end(tag: Tag, last: Option<Child>) -> bool
     ensures { result ≡ may_end tag last }
 {

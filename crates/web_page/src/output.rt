@@ -32,7 +32,7 @@ fn reference(byte: u8, in_value: bool) -> Option<&'static str>
     }
 }
 
-// What lies between two references goes in at once.
+// What lies between two references is written at once.
 fn push_escaped<A: Allocator>(
     out: &mut String<A>,
     text: &str,
@@ -60,8 +60,8 @@ fn is_no_sign(byte: u8) -> bool
     (byte != b'&') & (byte != b'<') & (byte != b'>') & (byte != b'"')
 }
 
-// Whether each byte stands for itself, whatever it is in. It looks at each, whatever came before, so that it looks at
-// many at once.
+// Whether each byte stands for itself, whatever it is in. It looks at each, whatever came before, so that many are
+// compared at once.
 fn stand_alone(bytes: &[u8]) -> bool
     ensures { result ≡ list_all is_no_sign bytes.now }
 {
@@ -100,7 +100,7 @@ fn push_piece<A: Allocator>(out: &mut String<A>, piece: Piece<'_>) -> Result<(),
     }
 }
 
-/// Writes pieces behind a text. An error comes where an allocation failed, and then the text is as before.
+/// Appends pieces to a text. An error comes where an allocation failed, and then the text is as before.
 #[inline(always)]
 pub fn write<A: Allocator>(out: &mut String<A>, pieces: &[Piece<'_>]) -> Result<(), AllocError>
     ensures ok { OnOk result (string_bytes out.new ≡ string_bytes out.old ++ pieces_text pieces.now) }
@@ -126,7 +126,7 @@ pub enum Key {
     Place,
 }
 
-// The end of a start tag. A newline directly behind that of a pre is none of its text, and so one is always there.
+// The end of a start tag. A newline directly after that of a pre is not part of its text, so one is always written.
 fn tag_end(tag: Tag) -> &'static str
     ensures { result.now ≡ tag_end tag }
 {

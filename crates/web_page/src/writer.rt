@@ -78,7 +78,7 @@ fn is_written_byte(byte: u8) -> bool
     (byte == b'\t') | (byte == b'\n') | ((b' '..=b'~').contains(&byte))
 }
 
-// Whether all bytes are such characters. It looks at each, whatever came before, so that it looks at many at once.
+// Whether all bytes are such characters. It looks at each, whatever came before, so that many are compared at once.
 fn are_written_bytes(bytes: &[u8]) -> bool
     ensures { result ≡ list_all is_written_byte bytes.now }
 {
@@ -89,7 +89,7 @@ fn are_written_bytes(bytes: &[u8]) -> bool
     written
 }
 
-// Most texts have such bytes alone, and then no character is put together.
+// Most texts have only such bytes, and then no character is decoded.
 #[tactic(auto, using(crate::proofs::Texts::written_bytes))]
 fn are_written(text: &str) -> bool
     ensures { result ≡ are_written text.now }
@@ -195,7 +195,7 @@ fn opened(here: Open, tag: Tag) -> Open
     }
 }
 
-// The same element behind a child with ink or without it.
+// The same element after a child with ink or without it.
 fn behind_child(here: Open, tag: Tag, has_ink: bool) -> Open
     ensures { result ≡ behind_child here tag has_ink }
 {
@@ -206,7 +206,7 @@ fn behind_child(here: Open, tag: Tag, has_ink: bool) -> Open
     }
 }
 
-// The same element behind a text.
+// The same element after a text.
 fn behind_text(here: Open, text: &str) -> Open
     ensures { result ≡ behind_text here text.now }
 {
@@ -238,7 +238,7 @@ fn is_empty(outer: &[Open]) -> bool
     outer.is_empty()
 }
 
-// Whether the innermost element may end behind what is last in it.
+// Whether the innermost element may end after what is last in it.
 fn may_end(here: Open) -> bool
     ensures { result ≡ ends here }
 {
@@ -292,7 +292,7 @@ fn front<'x, A: Allocator>(
 impl<A: Allocator> Page<A> {
     /// A page with this language, title and style, whose body is open and empty. The style is written as it is.
     ///
-    /// `Language`, `Title` and `Style` come where these are not what they have to be, `Character` where the title or
+    /// `Language`, `Title` and `Style` come where these are not permitted, `Character` where the title or
     /// the style has a character that is not permitted, and `Refused` where an allocation failed.
     pub fn new(alloc: A, language: &str, title: &str, style: &str) -> Result<Page<A>, PageError>
     where
@@ -343,7 +343,7 @@ impl<A: Allocator> Page<A> {
     /// Starts a section, a heading or a term with an id.
     ///
     /// `Id` comes where the element takes no id, or the id is empty or has white space, `Character` where it has a
-    /// character that is not permitted, and else the errors of `start`. After an error the page is as before.
+    /// character that is not permitted; the other errors are those of `start`. After an error the page is as before.
     pub fn start_with_id(&mut self, element: Element, id: &str) -> Result<(), PageError>
         ensures ok { OnOk result (self.new ≡ with_start self.old (Tag.Of element) (attribute (codes "id") id.now)) }
         ensures err { OnErr result (self.new ≡ self.old) }
@@ -360,8 +360,8 @@ impl<A: Allocator> Page<A> {
 
     /// Starts a link to this target.
     ///
-    /// `Character` comes where the target has a character that is not permitted, and else the errors of `start`: a
-    /// link may not stand in a link, at any depth. After an error the page is as before.
+    /// `Character` comes where the target has a character that is not permitted; the other errors are those of `start`:
+    /// a link may not stand in a link, at any depth. After an error the page is as before.
     pub fn start_link(&mut self, target: &str) -> Result<(), PageError>
         ensures ok { OnOk result (self.new ≡ with_start self.old Tag.A (attribute (codes "href") target.now)) }
         ensures err { OnErr result (self.new ≡ self.old) }
@@ -375,8 +375,8 @@ impl<A: Allocator> Page<A> {
 
     /// Starts a link to the element of this id on the page: its target is `#` and the id.
     ///
-    /// `Character` comes where the id has a character that is not permitted, and else the errors of `start`, as of
-    /// `start_link`. After an error the page is as before.
+    /// `Character` comes where the id has a character that is not permitted; the other errors are those of `start`, as
+    /// for `start_link`. After an error the page is as before.
     #[tactic(auto, using(crate::proofs::Texts::written_behind_hash))]
     pub fn start_link_to_id(&mut self, id: &str) -> Result<(), PageError>
         ensures ok { OnOk result (self.new
@@ -427,8 +427,8 @@ impl<A: Allocator> Page<A> {
 
     /// Ends the innermost open element.
     ///
-    /// `Misplaced` comes where no element of the body is open, or a list of definitions would end behind a term or
-    /// empty, `NoInk` where a heading, a paragraph or a list has no text but white space, and `Refused` where an
+    /// `Misplaced` comes where no element of the body is open, or a list of definitions would end after a term or
+    /// empty, `NoInk` where a heading, a paragraph or a list has no text except white space, and `Refused` where an
     /// allocation failed. After an error the page is as before.
     pub fn end(&mut self) -> Result<(), PageError>
         ensures ok { OnOk result (self.new ≡ with_end self.old) }
@@ -452,7 +452,7 @@ impl<A: Allocator> Page<A> {
     /// what its model has.
     ///
     /// `Misplaced` comes where an element of the body is open, or the body has no main element, and `Refused` where an
-    /// allocation failed. After an error the page is given up.
+    /// allocation failed. After an error the page is gone.
     pub fn finish(self) -> Result<String<A>, PageError>
         ensures reads { IfOk result (λ text. ReadsAs (string_bytes text) (whole_page self)) }
         ensures fails { FailsOnlyBy (finish_fault self) result }
@@ -465,11 +465,11 @@ impl<A: Allocator> Page<A> {
         Ok(text)
     }
 
-    /// The text of the content of the body alone, to be put into another page. Behind the front of any page, whatever
+    /// The text of the content of the body alone, to be put into another page. After the front of any page, whatever
     /// its language and its head are, and before the end of that page a reader of HTML reads it as what was said.
     ///
-    /// `Misplaced` comes where an element of the body is open, or the body has no main element. The page is then given
-    /// up. No memory is taken.
+    /// `Misplaced` comes where an element of the body is open, or the body has no main element. The page is then
+    /// gone. No memory is taken.
     pub fn finish_body(self) -> Result<String<A>, PageError>
         ensures reads { IfOk result (λ text. ReadsInBody (string_bytes text) self.nodes) }
         ensures fails { FailsJustBy (finish_fault self) result }

@@ -44,7 +44,7 @@ AreOpen here (outer ∷ outers) (frame ∷ frames) nodes =
     × (may_stand_in frames frame.before (Inner frame.tag) ≡ true)
     × AreOpen outer outers frames frame.before
 
--- open elements in this body, behind these nodes, in place of the outermost two
+-- open elements in this body, after these nodes, in place of the outermost two
 abbrev pub moved : Nodes → List Frame → List Frame → List Frame
 moved before body (frame ∷ outer ∷ outermost ∷ []) = record frame { before = joined before frame.before } ∷ body
 moved before body (frame ∷ outer ∷ outermost ∷ around ∷ frames) = frame ∷ moved before body (outer ∷ outermost ∷ around ∷ frames)
@@ -55,14 +55,14 @@ abbrev pub moved_nodes : Nodes → List Frame → Nodes → Nodes
 moved_nodes before (frame ∷ outer ∷ outermost ∷ frames) nodes = nodes
 moved_nodes before frames nodes = joined before nodes
 
--- what is in the body so far, behind these nodes in the body of a page with another head
+-- what is in the body so far, after these nodes in the body of a page with another head
 abbrev pub in_page : List ℕ → Nodes → Nodes → Draft → Draft
 in_page language head before draft = record {
   open_elements = moved before (empty_body language head).open_elements draft.open_elements;
   nodes = moved_nodes before draft.open_elements draft.nodes;
 }
 
--- behind so many bytes of a text stands what reads so in the body of each page
+-- what follows that many bytes of a text reads so in the body of each page
 pub record IsContent (bytes : List ℕ) (at : ℕ) (draft : Draft) : Type 0 where
   pub front : List ℕ
   pub content : List ℕ
@@ -74,7 +74,7 @@ pub record IsContent (bytes : List ℕ) (at : ℕ) (draft : Draft) : Type 0 wher
       → fold next (reading Content (Some (record (empty_body language head) { nodes = joined before none }))) content
       ≡ reading Content (Some (in_page language head before draft))
 
--- a text that reads as an open page, with the content of its body behind so many bytes
+-- a text that reads as an open page, whose body's content begins after that many bytes
 pub record IsOngoing (bytes : List ℕ) (at : ℕ) (here : Open) (outers : List Open) : Type 0 where
   pub draft : Draft
   pub reads : reading_of bytes ≡ reading Content (Some draft)
@@ -90,11 +90,11 @@ draft_of bytes = unwrap_or (reading_of bytes).draft no_draft
 abbrev pub opened : Open → Tag → Open
 opened outer tag = record { tag = tag; before = None; has_ink = false; in_link = is_tag A tag || outer.in_link }
 
--- behind an element with ink or without it
+-- after an element with ink or without it
 abbrev pub behind_child : Open → Tag → Bool → Open
 behind_child here tag ink = record here { before = Some (Inner tag); has_ink = here.has_ink || ink }
 
--- behind a text
+-- after a text
 abbrev pub behind_text : Open → List ℕ → Open
 behind_text here [] = here
 behind_text here (b ∷ bytes) = record here { before = Some Words; has_ink = here.has_ink || list_any is_ink (b ∷ bytes) }

@@ -1,5 +1,5 @@
--- How a page so far is kept as a tree of numbers, which gives it back. No promise is about this: it lets a page be seen
--- as its open elements.
+-- How a page so far is kept as a tree of numbers, and got back from it. No promise rests on this: it lets a page be
+-- seen as its open elements.
 use Rattle.std.specs.Prelude.{◌≡◌, refl, ℕ, List, [], ◌∷◌, Some, unwrap_or}
 use Rattle.std.proofs.Common.{ap, ◌∙◌, sym}
 use Rattle.std.specs.Coded.{Coded}

@@ -3,7 +3,7 @@ use Rattle.page_model.specs.View.{entry_of}
 use Rattle.console_page.specs.Entries.{widest_of}
 use Rattle.console_page.proofs.entries.widest_of.Given as goal
 
--- what is left makes of the widest so far what all make
+-- the widest of what is left and of what was seen is the widest of all
 abbrev pub invariant-loop-entry : goal.invariant-loop-entry
 invariant-loop-entry g l = record {
   widest : widest_of l.widest (map entry_of (drop l.entry-index l.entries)) ≡ widest_of l.before (map entry_of l.entries);

@@ -7,7 +7,7 @@ use Rattle.console_page.specs.Usage.{items_text, kept}
 use Rattle.console_page.specs.Steps.{left_after}
 use Rattle.console_page.proofs.usage.push_words.Given as goal
 
--- what is written, and what is left, come to all
+-- what is written, and what is left, make up the whole
 abbrev pub invariant-loop-word : goal.invariant-loop-word
 invariant-loop-word g l = record {
   utf8 : shadow (Utf8 l.rest);
