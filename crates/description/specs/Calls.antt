@@ -3,18 +3,18 @@ use Rattle.std.specs.Prelude.{ℕ, List, [], ◌∷◌, ◌++◌, true, false, S
 use Rattle.description.specs.declared.hints.ValueHint.TheVariants.{File}
 use Rattle.description.specs.Content.{NameSaid, SpellingSaid, named, syntax, OptSaid, ChoiceSaid, PositionalSaid, TopicSaid, LevelSaid, level, GroupsSaid, no_groups, groups, GroupSaid, group, CommandsSaid, no_commands, commands, CommandSaid, command}
 
--- an option of which nothing is said but how it is written
+-- an option of which nothing is said except how it is written
 abbrev pub spelled_option : SpellingSaid → OptSaid
 spelled_option spelling = record { spelling = spelling; value = None; default = None; values = None; hint = File; help = None; env = None; required = false; repeated = false; hidden = false }
 
--- a flag of which nothing but the name is said
+-- a flag of which nothing is said except the name
 abbrev pub plain_option : NameSaid → OptSaid
 plain_option name = spelled_option (named name)
 
 abbrev pub syntax_option : (text : List ℕ) → OptSaid
 syntax_option text = spelled_option (syntax text)
 
--- behind the groups of a level
+-- after the groups of a level
 abbrev pub groups_then : GroupsSaid → GroupSaid → GroupsSaid
 groups_then no_groups h = groups h no_groups
 groups_then (groups g gs) h = groups g (groups_then gs h)
@@ -74,7 +74,7 @@ group_with_positional (group t os cs ps ms) p = group t os cs (ps ++ p ∷ []) m
 abbrev pub group_with_command : GroupSaid → CommandSaid → GroupSaid
 group_with_command (group t os cs ps ms) m = group t os cs ps (commands_then ms m)
 
--- a command of which nothing but the name and the level is said
+-- a command of which nothing is said except the name and the level
 abbrev pub plain_command : (name : List ℕ) → LevelSaid → CommandSaid
 plain_command name l = command (record { name = name; initial = None; aliases = []; hidden = false }) None l
 
@@ -84,7 +84,7 @@ with_initial (command names help l) c = command (record names { initial = Some c
 abbrev pub with_command_help : CommandSaid → List ℕ → CommandSaid
 with_command_help (command names help l) text = command names (Some text) l
 
--- another name, behind those that it has
+-- another name, after those that it has
 abbrev pub with_alias : CommandSaid → List ℕ → CommandSaid
 with_alias (command names help l) name = command (record names { aliases = names.aliases ++ name ∷ [] }) help l
 

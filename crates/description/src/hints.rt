@@ -2,7 +2,7 @@
 ghost use Rattle.std.specs.Prelude.{◌≡◌};
 ghost use Rattle.description.specs.Hints.{hint_word};
 
-/// What a shell offers for a value that is none of a list.
+/// What a shell offers for a value without a list of possible values.
 #[derive(Clone, Copy, Debug, Default, PartialEq, Eq)]
 pub enum ValueHint {
     /// Files, and the folders that lead to them.

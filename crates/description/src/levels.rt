@@ -20,7 +20,7 @@ use std::alloc::{AllocError, Allocator, Global};
 pub struct Level<'a, A: Allocator = Global> {
     /// What the program or the command does.
     pub about: Option<&'a str>,
-    /// A text behind the usage, above the lists.
+    /// A text after the usage, above the lists.
     pub header: Option<&'a str>,
     /// A text at the end, under the title of the notes.
     pub footer: Option<&'a str>,
@@ -33,7 +33,7 @@ pub struct Level<'a, A: Allocator = Global> {
     pub groups: Vec<Group<'a, A>, A>,
     pub positionals: Vec<Positional<'a>, A>,
     pub commands: Vec<Command<'a, A>, A>,
-    /// Parts of the page of their own, behind the lists and above the footer.
+    /// Parts of the page of their own, after the lists and above the footer.
     pub topics: Vec<Topic<'a>, A>,
 }
 
@@ -49,7 +49,7 @@ pub struct Group<'a, A: Allocator = Global> {
     pub commands: Vec<Command<'a, A>, A>,
 }
 
-/// A command, and what can be given behind it.
+/// A command, and what can be given after it.
 #[cycle(level)]
 #[derive(Drop)]
 #[derive_where(Debug)]
@@ -94,7 +94,7 @@ impl<'a, A: Allocator> Level<'a, A> {
         self
     }
 
-    /// The level with a text behind its usage, above the lists.
+    /// The level with a text after its usage, above the lists.
     pub fn header(mut self, header: &'a str) -> Level<'a, A>
         ensures { level_said result ≡ with_header (level_said self.entry) header.now }
     {
@@ -252,7 +252,7 @@ impl<'a, A: Allocator> Group<'a, A> {
 }
 
 impl<'a, A: Allocator + Copy> Command<'a, A> {
-    /// A command with what can be given behind it.
+    /// A command with what can be given after it.
     pub fn new(name: &'static str, level: Level<'a, A>) -> Command<'a, A>
         ensures { command_said result ≡ plain_command name.now (level_said level.entry) }
     {

@@ -18,7 +18,7 @@ pub enum Name {
 /// How an option is written.
 #[derive(Clone, Copy, Debug)]
 pub enum Spelling<'a> {
-    /// By its name, and behind it the word for the value of the option, if it has one.
+    /// By its name, followed by the word for the value of the option, if it has one.
     Names(Name),
     /// All of it as one text: `--color[=WHEN]`, `-n, --line, --number`, `--[no-]edit`, `if=FILE`. A usage shows
     /// the first of the ways between commas outside brackets that is more than a name, or the first of all. Nothing of
@@ -31,13 +31,13 @@ pub enum Spelling<'a> {
 #[derive(Clone, Copy, Debug)]
 pub struct Opt<'a> {
     pub spelling: Spelling<'a>,
-    /// What the value is called, as `FILE`. Beside a syntax, which says it itself, it counts for nothing.
+    /// What the value is called, as `FILE`. Ignored beside a syntax, which says it itself.
     pub value: Option<&'static str>,
-    /// What holds where it is not given.
+    /// The value that is taken where the option is left out.
     pub default: Option<&'a str>,
     /// The values that it may have, as the help shows them: `never, auto, always`.
     pub values: Option<&'a str>,
-    /// What a shell offers for the value. Where it has `values`, which are offered, it counts for nothing.
+    /// What a shell offers for the value. Ignored where there are `values`, which are offered then.
     pub hint: ValueHint,
     pub help: Option<&'a str>,
     /// The environment variable that stands for the option: a note in its help.
@@ -100,7 +100,7 @@ impl<'a> Opt<'a> {
         }
     }
 
-    /// The option with a value, which makes an argument of it. Beside a syntax the value counts for nothing.
+    /// The option with a value, which makes it an argument. Ignored beside a syntax.
     pub fn value(mut self, value: &'static str) -> Opt<'a>
         ensures { opt_said result ≡ record (opt_said self.entry) { value = Some value.now } }
     {
@@ -108,7 +108,7 @@ impl<'a> Opt<'a> {
         self
     }
 
-    /// The option with what holds where it is not given, and as one that may be left out.
+    /// The option with a default, and as one that may be left out.
     pub fn default(mut self, default: &'a str) -> Opt<'a>
         ensures { opt_said result ≡ record (opt_said self.entry) { default = Some default.now; required = false } }
     {
@@ -174,8 +174,8 @@ impl<'a> Opt<'a> {
     }
 }
 
-/// Options of which one is given, or none unless the choice is `required`. Whether an option of it is required or
-/// repeated by itself counts for nothing.
+/// Options of which one is given, or none unless the choice is `required`. Whether one of its options is itself
+/// required or repeated is ignored.
 #[derive(Drop)]
 #[derive_where(Debug)]
 pub struct Choice<'a, A: Allocator = Global> {

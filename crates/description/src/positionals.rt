@@ -6,16 +6,16 @@ ghost use Rattle.description.specs.declared.hints.ValueHint.TheVariants.{File};
 use crate::hints::ValueHint;
 
 /// A value that is taken by its place. It has to be given if it is `required`, many of it are taken if it is
-/// `repeated`, and it stands behind `--` if it is `strict`.
+/// `repeated`, and it stands after `--` if it is `strict`.
 #[derive(Clone, Copy, Debug)]
 pub struct Positional<'a> {
     /// What the value is called, as `FILE`.
     pub value: &'static str,
-    /// What holds where it is not given.
+    /// The value that is taken where it is left out.
     pub default: Option<&'a str>,
     /// The values that it may have, as the help shows them: `never, auto, always`.
     pub values: Option<&'a str>,
-    /// What a shell offers for it. Where it has `values`, which are offered, it counts for nothing.
+    /// What a shell offers for it. Ignored where there are `values`, which are offered then.
     pub hint: ValueHint,
     pub help: Option<&'a str>,
     pub required: bool,
@@ -54,7 +54,7 @@ impl<'a> Positional<'a> {
         }
     }
 
-    /// The value with what holds where it is not given, and as one that may be left out.
+    /// The value with a default, and as one that may be left out.
     pub fn default(mut self, default: &'a str) -> Positional<'a>
         ensures { positional_said result
             ≡ record (positional_said self.entry) { default = Some default.now; required = false } }
@@ -103,7 +103,7 @@ impl<'a> Positional<'a> {
         self
     }
 
-    /// The value as one that stands behind `--`.
+    /// The value as one that stands after `--`.
     pub fn strict(mut self) -> Positional<'a>
         ensures { positional_said result ≡ record (positional_said self.entry) { strict = true } }
     {

@@ -2,7 +2,7 @@
 ghost use Rattle.std.specs.Prelude.{◌≡◌};
 ghost use Rattle.description.specs.View.{topic_said};
 
-/// A part of a page behind its lists, under a title: examples, files, the exit status, the author.
+/// A part of a page after its lists, under a title: examples, files, the exit status, the author.
 ///
 /// The text has the grammar of `about` and `help`.
 #[derive(Clone, Copy, Debug)]

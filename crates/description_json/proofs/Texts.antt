@@ -12,7 +12,7 @@ pub no_value : (text : List ℕ) (ts : List Token) → ts ≡ tokens text → No
 unfolding json_table json_value
 no_value text ts same none = rw (← same, ← none)
 
--- something stands behind the value
+-- something follows the value
 pub more_behind : (text : List ℕ) (ts : List Token) (j : json.Json) (left : List Token) (t : Token) (rest : List Token) → ts ≡ tokens text
     → Some (j, left) ≡ json.value recursion_limit ts → left ≡ t ∷ rest → None ≡ json_table text
 unfolding json_table json_value

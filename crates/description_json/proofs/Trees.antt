@@ -80,7 +80,7 @@ module _ {A : Type 0} (js : List (json_value.Value A)) (i : ℕ) (j : json_value
   items_lost all vs before none =
       sym (before ∙ ap (option_map (items_before vs)) (items_from ∙ ap (option_and_then (λ d. option_map (item d) (items_data (json_view.items_view (drop (i + 1) js))))) (sym none)))
 
--- behind the last
+-- after the last
 pub items_end : {A : Type 0} → (js : List (json_value.Value A)) (i : ℕ) (all : Option Items) (vs : List Value) → length js ≤ i
     → all ≡ option_map (items_before vs) (items_data (json_view.items_view (drop i js))) → Some (items_view vs) ≡ all
 items_end js i all vs past before =

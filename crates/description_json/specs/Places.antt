@@ -35,8 +35,8 @@ is_gap byte = is_space byte || byte == ascii.comma
 abbrev pub is_closing : ℕ → Bool
 is_closing byte = byte == ascii.close_brace || byte == ascii.close_bracket
 
--- The entry behind the front brings the path: the text before it, without the comma there and with the brackets closed
--- that are open, is a document without the path, and the text through it, closed in the same way, is one with it.
+-- The entry after the front brings the path: the text before it, without the comma there and with the open brackets
+-- closed, is a document without the path, and the text through it, closed in the same way, is one with it.
 pub record IsFront (text : List ℕ) (path : List Step) (front : List ℕ) : Type 0 where
   pub entry : List ℕ
   pub behind : List ℕ

@@ -24,7 +24,7 @@ with_member k d ms = if is_some (get_member k ms) then None else Some (put_membe
 abbrev pub number_data : List ℕ → Option Data
 number_data text = option_map (λ read. scalar_data read.0) (unquoted text)
 
--- the data of a value: all but null has some
+-- the data of a value: every value except null has some
 abbrev mutual
   pub value_data : json.Json → Option Data
   value_data json.null = None

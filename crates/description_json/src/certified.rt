@@ -1,4 +1,4 @@
-//! What is seen of an entry before its place is told.
+//! What is checked of an entry before its place is reported.
 ghost use Rattle.std.specs.Prelude.{◌≡◌, ◌++◌, ◌∷◌, [], IfOk, IfSome, IsTrue, Some, false, is_some, option_map};
 ghost use Rattle.std.specs.List.{list_all};
 ghost use Rattle.json.specs.Json.{Json, document, item, member, no_items, no_members};
@@ -49,7 +49,7 @@ pub fn front_of<'t>(
     }
 }
 
-// What stands behind this front of the text.
+// What follows this front of the text.
 fn behind<'t>(text: &'t str, front: &str) -> Option<&'t str>
     ensures { IfSome result (λ rest. text.now ≡ front.now ++ rest.now) }
 {

@@ -68,7 +68,7 @@ fn items_data(alloc: Global, items: &Vec<Json<'_>>) -> Result<Option<Array>, All
     Ok(Some(array))
 }
 
-/// The table of the members of an object, if each has data and none the key of another.
+/// The table of the members of an object, if each has data and no key stands twice.
 #[cycle(data)]
 pub fn members_data(
     alloc: Global,

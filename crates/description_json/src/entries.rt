@@ -36,7 +36,7 @@ pub fn entry_of<'t>(
     }
 }
 
-// The text before the entry that stands between these places, and the entry, without the gap behind it.
+// The text before the entry that stands between these places, and the entry, without the gap after it.
 fn between(text: &str, start: usize, end: usize) -> Option<(&str, &str)> {
     let (through, _) = text.split_at_checked(end)?;
     let (front, entry) = through.split_at_checked(start)?;
@@ -55,7 +55,7 @@ fn closing_of(alloc: Global, path: &[Step<'_>]) -> Result<String, AllocError> {
     Ok(closing)
 }
 
-// Where the entry begins that the path leads to, and where the next token stands behind it.
+// Where the entry begins that the path leads to, and where the next token after it stands.
 fn bounds(
     alloc: Global,
     text: &str,
@@ -76,7 +76,7 @@ fn bounds(
     }
 }
 
-// Goes to the value that the step leads to, and answers where its entry begins.
+// Goes to the value that the step leads to, and returns where its entry begins.
 fn enter(reader: &mut Reader<'_>, step: Step<'_>) -> Option<usize> {
     match (reader.next()?, step) {
         (Token::BeginObject, Step::Key(key)) => find_key(reader, key),

@@ -38,11 +38,11 @@ pub struct JsonFault<'t> {
 pub enum Why {
     /// The text is over, and this, which stands at the place, is still open.
     NotClosed(char),
-    /// The text is no object.
+    /// The text is not an object.
     NoObject,
     /// A key has to stand here.
     NoKey,
-    /// Behind this key has to stand a colon.
+    /// A colon has to follow this key.
     NoColon,
     /// A value has to stand here.
     NoValue,
@@ -52,21 +52,21 @@ pub enum Why {
     LastComma,
     /// The object at the top ends before this.
     Behind,
-    /// This is no escape.
+    /// This is not an escape.
     Escape,
-    /// This escape is half of a character, and the other half does not stand beside it.
+    /// This escape is half of a character, and the other half is not beside it.
     Surrogate,
     /// A string holds a control character that is not escaped.
     Control,
     /// The key stands in this object already.
     Twice,
-    /// Too many arrays and objects stand in one another.
+    /// Arrays and objects are nested too deep.
     Deep,
-    /// Null is no value of a table.
+    /// Null is not a value of a table.
     Null,
-    /// This number is past 64 bits.
+    /// This number does not fit into 64 bits.
     Number,
-    /// The text is no JSON. Where no more can be said.
+    /// The text is not JSON, where no more can be said.
     NoJson,
 }
 

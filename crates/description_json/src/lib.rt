@@ -26,9 +26,9 @@ use walk::fault_of;
 /// The table of a JSON text, an object: objects are tables, arrays are arrays, and a number is one of TOML with the same
 /// letters.
 ///
-/// `Content` tells why a text gives none: it is no JSON, no object stands at the top, a key stands twice in an object,
-/// arrays and objects stand more than 80 deep, a value is null, or a number is past 64 bits. Of several faults it tells
-/// the first. `Memory` says nothing of the text.
+/// `Content` reports why a text gives none: it is not JSON, no object stands at the top, a key stands twice in an
+/// object, arrays and objects are nested more than 80 deep, a value is null, or a number does not fit into 64 bits. Of
+/// several faults it reports the first. `Memory` says nothing of the text.
 pub fn table_from_str<'t>(alloc: Global, text: &'t str) -> Result<Table, JsonError<'t>>
     ensures ok { IfOk result (λ table. json_table text.now ≡ Some (table_view table)) }
     ensures refused { IfErr result (λ error. ¬ IsMemory error → json_table text.now ≡ None) }

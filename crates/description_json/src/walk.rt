@@ -23,7 +23,7 @@ pub fn fault_of<'t>(alloc: Global, text: &'t str) -> Result<JsonFault<'t>, Alloc
     })
 }
 
-// The text before the place; all of it where that is none of its places.
+// The text before the place; all of it where there is no such place.
 fn before(text: &str, at: usize) -> &str
     ensures { Begins text.now result.now }
 {
@@ -106,7 +106,7 @@ impl<'s> Walk<'s> {
         }
     }
 
-    // Goes over the token at this place, and answers the fault there, if there is one.
+    // Goes over the token at this place, and returns the fault there, if there is one.
     fn take(
         &mut self,
         alloc: Global,
@@ -243,7 +243,7 @@ impl<'s> Walk<'s> {
         }
     }
 
-    // What is missing behind a value.
+    // What is missing after a value.
     fn no_comma(&self) -> Why {
         match self.awaited() {
             Awaited::Key | Awaited::Value => Why::NoComma('}'),
@@ -254,7 +254,7 @@ impl<'s> Walk<'s> {
     }
 }
 
-// The last byte before the place that is no white space.
+// The last byte before the place that is not white space.
 fn last_before(text: &str, at: usize) -> Option<u8> {
     let (before, _) = text.split_at_checked(at)?;
     before.trim_end_matches(SPACE).as_bytes().last().copied()

@@ -21,7 +21,7 @@ either_false a b h2 = grind arith
 both : (a b : Bool) → (a && b) ≡ true → (a ≡ true) × (b ≡ true)
 both a b h2 = grind arith
 
--- a text behind some others
+-- a text after some others
 last_new : (text : List ℕ) (xs : List (List ℕ)) (t : List ℕ) → not (list_any (bytes_eq text) xs) ≡ true → bytes_eq t text ≡ false → not (list_any (bytes_eq text) (xs ++ t ∷ [])) ≡ true
 last_new text xs t h other = grind (arith, list_any-append, texts_equal)
 
@@ -92,7 +92,7 @@ seen_more keys more ts i d added h s e f u =
 
 -- ---- each text once
 
--- a text behind others, which do not hold it, or do
+-- a text after others, which do not hold it, or do
 once_then : (x t : List ℕ) (xs : List (List ℕ)) (b : Bool) → bytes_eq x t ≡ b → filter (λ o. not (bytes_eq x o)) (distinct xs ++ t ∷ []) ≡ filter (λ o. not (bytes_eq x o)) (distinct xs) ++ cond (not b) (t ∷ []) []
 once_then x t xs b e = filter-append (λ o. not (bytes_eq x o)) (distinct xs) (t ∷ []) ∙ ap (λ c. filter (λ o. not (bytes_eq x o)) (distinct xs) ++ cond (not c) (t ∷ []) []) e
 
@@ -111,7 +111,7 @@ distinct_old (x ∷ xs) t h = by (list_any (bytes_eq t) xs) refl (bytes_eq t x) 
       ap (λ ts. x ∷ filter (λ o. not (bytes_eq x o)) ts) (distinct_new xs t e) ∙ ap (λ ts. x ∷ ts) (once_then x t xs true (texts_equal x t ∙ f) ∙ append-nil (filter (λ o. not (bytes_eq x o)) (distinct xs)))
   by false e false f g rest = cc
 
--- the first texts, each once, behind those that stood there
+-- the first texts, each once, after those that stood there
 abbrev pub Kept : (old new : List (List ℕ)) → List (Bor (List ℕ)) → List (Bor (List ℕ)) → ℕ → Type 0
 Kept old new keys ts i = (new ≡ old ++ distinct (words_of (take i ts))) × Held keys ts i
 

@@ -1,4 +1,4 @@
--- What holds of that which a reader gives, reader by reader.
+-- What holds of whatever a reader gives, reader by reader.
 use Rattle.std.proofs.Common.{◌≡◌, ℕ, List, [], Bool, true, Option, Some, None, subst, arith}
 use Rattle.std.specs.Prelude.{if◌then◌else◌, option_map, option_and_then}
 use Rattle.toml.specs.Data.{Data, Members, Items, no_items, item, get_member, as_array, as_table, as_str}

@@ -19,7 +19,7 @@ module _ {K : Type 0} (cmp : K → K → Ordering) (same : K → K → Bool) (ti
       → (q : K) → list_any (same q) more ≡ cond (same key q) true (list_any (same q) keys)
   updated_by keys more key = subst (λ (eq : K → K → Bool). (q : K) → list_any (eq q) more ≡ cond (eq key q) true (list_any (eq q) keys)) by_order
 
--- ---- keys that are told apart by a text
+-- ---- keys that a text distinguishes
 
 module _ {K : Type 0} (text : K → List ℕ) where
   abbrev pub text_cmp : K → K → Ordering

@@ -10,7 +10,7 @@ use Rattle.description_toml.specs.Described.Values.{is_empty, only_character}
 use Rattle.description_toml.specs.Faults.{IsRefusal, Reads}
 use Rattle.description_toml.specs.declared.decode.teller.Refused.{Refused}
 
--- a first character, and one behind it
+-- a first character, and one after it
 first_alone : (cs : List ℕ) (c : ℕ) (second : Option ℕ) → second ≡ slice_get cs 0 → is_some second ≡ false → Some c ≡ only_character (c ∷ cs)
 first_alone cs c second h3 h4 = grind arith
 

@@ -105,7 +105,7 @@ module _ (text rest stretch behind : List ℕ) (is_end : IsEnd text rest) (cut :
   pub end_more : IsEnd text behind
   end_more = joined_whole ∙ ap (λ f. f ++ behind) (sym front_more)
 
--- ---- the names of one stretch, and those behind it
+-- ---- the names of one stretch, and those after it
 
 pub count_more : (p : ℕ → Bool) (xs ys : List ℕ) → count_by p (xs ++ ys) ≡ count_by p xs + count_by p ys
 count_more p xs ys = sum_by-append (λ x. cond (p x) 1 0) xs ys

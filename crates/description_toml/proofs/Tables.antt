@@ -44,7 +44,7 @@ module _ {T X : Type 0} (read : Data → Option X) (said : T → X) (vs : List V
   pub items_read : length vs ≤ i → ReadSoFar read vs (map said ts) i → each_item read (items_view vs) ≡ Some (map said ts)
   items_read h s = s ∙ ap (λ us. option_map (λ rest. map said ts ++ rest) (each_item read (items_view us))) (drop_all i vs h) ∙ ap Some (append-nil (map said ts))
 
--- ---- such a loop that reads on behind an item that is refused
+-- ---- such a loop that reads on after an item that is refused
 
 abbrev pub ListSoFar : {L T X : Type 0} → (Data → Option X) → (T → X) → (L → List T) → List Value → Result L Refused → ℕ → Type 0
 ListSoFar read said items vs (Ok list) i = ReadSoFar read vs (map said (items list)) i
@@ -128,7 +128,7 @@ group_faulty vs gs i d h s e = group_item vs gs i d h s ∙ rw e refl
 pub groups_read : (vs : List Value) (gs : List GroupSaid) (i : ℕ) → GroupsSoFar vs gs i → drop i vs ≡ [] → each_group (items_view vs) ≡ Some (groups_in gs)
 groups_read vs gs i s e = s ∙ ap (λ us. option_map (groups_before gs) (each_group (items_view us))) e ∙ ap Some (groups_all gs)
 
--- ---- loops over commands and groups that read on behind one that is refused
+-- ---- loops over commands and groups that read on after one that is refused
 
 abbrev pub CommandListSoFar : {L T : Type 0} → (T → CommandSaid) → (L → List T) → List Value → Result L Refused → ℕ → Type 0
 CommandListSoFar said items vs (Ok list) i = CommandsSoFar vs (map said (items list)) i

@@ -40,7 +40,7 @@ blanks_left text front shown f is t =
 
 -- ---- the last character
 
--- of characters behind one that passes the test or not
+-- of characters after one that passes the test or not
 abbrev pub ends_behind : (ℕ → Bool) → Bool → List ℕ → Bool
 ends_behind test before [] = before
 ends_behind test before (c ∷ cs) = ends test (c ∷ cs)

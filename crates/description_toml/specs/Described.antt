@@ -85,7 +85,7 @@ abbrev pub is_syntax : SpellingSaid → Bool
 is_syntax (named name) = false
 is_syntax (syntax text) = true
 
--- the word for the value of an option, what holds where it is not given, what it may be, and what a shell offers
+-- the word for the value of an option, its default, what it may be, and what a shell offers
 pub record ValueSaid : Type 0 where
   pub value : Option (List ℕ)
   pub default : Option (List ℕ)
@@ -101,13 +101,14 @@ unless_there other text = Some text
 abbrev pub is_flag : (is_syntax : Bool) → (value : Option (List ℕ)) → Bool
 is_flag is_syntax value = not (is_syntax || is_some value)
 
--- what a shell offers, where there is nothing of another kind; files where nothing is said
+-- what a shell offers, where there is nothing of another kind; files by default
 abbrev pub hint_unless : (other : Bool) → Option ValueHint → Option ValueHint
 hint_unless other None = Some File
 hint_unless true (Some hint) = None
 hint_unless false (Some hint) = Some hint
 
--- a word for a value stands beside no syntax, nothing is said of the value of a flag, and a hint stands beside no values
+-- a word for a value does not stand beside a syntax, nothing is said of the value of a flag, and a hint does not stand
+-- beside values
 unfoldable pub option_value : (is_syntax : Bool) → Members → Option ValueSaid
 option_value is_syntax ms =
     optional_at as_value (codes "value") ms >>= unless_there is_syntax >>= (λ value. optional_at as_default (codes "default") ms >>= unless_there (is_flag is_syntax value) >>= (λ default. optional_at as_values (codes "values") ms >>= unless_there (is_flag is_syntax value) >>= (λ values. optional_at as_hint (codes "hint") ms >>= hint_unless (is_flag is_syntax value || is_some values) >>= (λ hint.
@@ -119,7 +120,7 @@ option_texts ms =
     option_spelling ms >>= (λ spelling. option_value (is_syntax spelling) ms >>= (λ v. optional_at as_text (codes "help") ms >>= (λ help. flag_at false (codes "hidden") ms >>= (λ hidden. optional_at as_name (codes "env") ms >>= (λ env.
     Some (record { spelling = spelling; value = v.value; default = v.default; values = v.values; hint = v.hint; help = help; env = env; required = false; repeated = false; hidden = hidden }))))))
 
--- what has a default may be left out
+-- with a default it is never required
 abbrev pub required_beside : (default : Option (List ℕ)) → (left_out : Bool) → Members → Option Bool
 required_beside None left_out ms = flag_at left_out (codes "required") ms
 required_beside (Some text) left_out ms = flag_at false (codes "required") ms >>= (λ required. if required then None else Some false)
@@ -128,7 +129,7 @@ abbrev pub option_of : Members → Option OptSaid
 option_of ms = option_texts ms >>= (λ option. required_beside option.default false ms >>= (λ required. flag_at false (codes "repeated") ms >>= (λ repeated.
     Some (record option { required = required; repeated = repeated }))))
 
--- an option of a kind of table that has these keys: of another key holds what holds where nothing is said
+-- an option from a table that may have these keys alone; the others count as left out
 unfoldable pub option_from : (keys : List (List ℕ)) → Members → Option OptSaid
 option_from keys = with_only keys option_of
 
@@ -188,7 +189,7 @@ group_of inner g =
     each_table (option_from option_keys) g.lists.options >>= (λ os. each_table choice_from g.lists.choices >>= (λ cs. each_table positional_from g.lists.positionals >>= (λ ps.
     option_map (group g.title os cs ps) inner)))
 
--- the texts of a level but its topics
+-- the texts of a level except its topics
 unfoldable pub texts_from : Members → Option TextsSaid
 texts_from ms = optional_at as_text (codes "about") ms >>= (λ about. optional_at as_text (codes "header") ms >>= (λ header. optional_at as_text (codes "footer") ms >>= (λ footer. optional_at as_text (codes "usage") ms >>= (λ usage.
     Some (record { about = about; header = header; footer = footer; usage = usage; topics = [] })))))
@@ -302,7 +303,7 @@ abbrev pub language_from : Option (List ℕ) → List ℕ
 language_from None = codes "en"
 language_from (Some text) = text
 
--- the words of the title line of a manual page, behind the name
+-- the words of the title line of a manual page, after the name
 pub record TitleWords : Type 0 where
   pub section : List ℕ
   pub date : Option (List ℕ)

@@ -10,7 +10,7 @@ abbrev pub IsMemory : {A : Type 0} → DescriptionError A → Type 0
 IsMemory (Memory e) = ⊤
 IsMemory (Content faults) = ⊥
 
--- some fault is told, unless an allocation failed
+-- some fault is reported, unless an allocation failed
 abbrev pub TellsSome : {A : Type 0} → DescriptionError A → Type 0
 TellsSome (Memory e) = ⊤
 TellsSome (Content faults) = 0 < length faults.told.items
@@ -29,7 +29,7 @@ abbrev pub Sees : {T : Type 0} → Bool → Result T Refused → Type 0
 Sees holds (Ok t) = holds ≡ true
 Sees holds (Err e) = ¬ IsRefusal e → holds ≡ false
 
--- an error that tells of the table is passed on as one
+-- an error that reports the table is passed on as one
 abbrev pub Passes : {T : Type 0} → Refused → Result T Refused → Type 0
 Passes e (Ok t) = ⊥
 Passes e (Err f) = ¬ IsRefusal f → ¬ IsRefusal e

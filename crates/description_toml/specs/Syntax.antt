@@ -15,7 +15,7 @@ is_opening b = (b == 91 || b == 40) || (b == 60 || b == 123)
 abbrev pub is_closing : ℕ → Bool
 is_closing b = (b == 93 || b == 41) || (b == 62 || b == 125)
 
--- what a name may stand directly behind: a blank, a comma, a bar or an opening bracket
+-- what a name may directly follow: a blank, a comma, a bar or an opening bracket
 abbrev pub is_lead : ℕ → Bool
 is_lead b = (b == 32 || (b == 44 || b == 124)) || is_opening b
 
@@ -29,7 +29,7 @@ abbrev pub is_same : Bool → Bool → Bool
 is_same true b = b
 is_same false b = not b
 
--- a byte before stretches: it joins the first, if the test says the same of both, and else is a stretch of its own
+-- a byte before stretches: it joins the first, if the test says the same of both, otherwise it is a stretch of its own
 abbrev pub onto_stretches : (test : ℕ → Bool) → ℕ → List (List ℕ) → List (List ℕ)
 onto_stretches test b [] = (b ∷ []) ∷ []
 onto_stretches test b ([] ∷ ss) = (b ∷ []) ∷ ss
@@ -42,7 +42,7 @@ stretches test (b ∷ bs) = onto_stretches test b (stretches test bs)
 
 -- ---- names: the text is cut into runs and what separates them; `before` is all that stands before such a stretch
 
--- at the start, or directly behind a lead
+-- at the start, or directly after a lead
 abbrev pub leads : Option ℕ → Bool
 leads None = true
 leads (Some b) = is_lead b
@@ -50,7 +50,7 @@ leads (Some b) = is_lead b
 abbrev pub is_place : (before : List ℕ) → Bool
 is_place before = leads (slice_get before (length before - 1))
 
--- a byte that is no dash
+-- a byte that is not a dash
 abbrev pub has_letter : List ℕ → Bool
 has_letter = list_any (λ b. not (is_dash b))
 
@@ -64,13 +64,13 @@ is_name before run = is_place before && has_form_of_name run
 abbrev pub negation : List ℕ
 negation = codes "--[no-]"
 
--- directly behind a negation that stands where a name may
+-- directly after a negation that stands where a name may
 abbrev pub is_negated : (before run : List ℕ) → Bool
 is_negated before run = (ends_with ◌==◌ before negation && is_place (take (length before - length negation) before)) && has_letter run
 
 -- ---- brackets
 
--- behind as many closing brackets as opening ones
+-- after as many closing brackets as opening ones
 abbrev pub is_outside : (before : List ℕ) → Bool
 is_outside before = count_by is_opening before == count_by is_closing before
 
@@ -92,7 +92,7 @@ are_paired text = is_empty_text (fold with_bracket [] (filter is_bracket text))
 
 -- ---- the names that count
 
--- those outside brackets: a name, or two dashes and what stands behind a negation
+-- those outside brackets: a name, or two dashes and what follows a negation
 abbrev pub stretch_names : (before text : List ℕ) → List (List ℕ)
 stretch_names before text = if is_name before text then text ∷ [] else if is_negated before text then (codes "--" ++ text) ∷ [] else []
 
@@ -105,12 +105,12 @@ syntax_names text = names_behind [] (stretches is_separator text)
 
 -- ---- pieces
 
--- a byte is left out where the text is cut, and else it belongs to the first part
+-- a byte is left out where the text is cut, otherwise it belongs to the first part
 abbrev pub onto_parts : (is_cut : Bool) → ℕ → List (List ℕ) → List (List ℕ)
 onto_parts true b ps = [] ∷ ps
 onto_parts false b ps = onto_first b ps
 
--- what the bytes `mark` outside brackets part
+-- the parts that the bytes `mark` outside brackets separate
 abbrev pub parts_behind : (mark : ℕ) → (before : List ℕ) → List ℕ → List (List ℕ)
 parts_behind mark before [] = [] ∷ []
 parts_behind mark before (b ∷ bs) = onto_parts (b == mark && is_outside before) b (parts_behind mark (before ++ b ∷ []) bs)
@@ -118,13 +118,13 @@ parts_behind mark before (b ∷ bs) = onto_parts (b == mark && is_outside before
 abbrev pub parts : (mark : ℕ) → List ℕ → List (List ℕ)
 parts mark = parts_behind mark []
 
--- what the commas outside brackets part
+-- the parts that the commas outside brackets separate
 abbrev pub pieces : List ℕ → List (List ℕ)
 pieces = parts 44
 
 -- ---- what may stand in a TOML text
 
--- a character that is no white space
+-- a character that is not white space
 abbrev pub has_ink : List ℕ → Bool
 has_ink text = list_any (λ c. not (is_whitespace c)) (chars text)
 

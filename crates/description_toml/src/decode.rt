@@ -61,15 +61,15 @@ const DESCRIPTION_KEYS: [&str; 19] = [
     "topic",
 ];
 
-/// The description that the table of a TOML text gives (`docs/description.md`). Its texts are those of the
-/// table; its names, its words for values, the text of `values`, and those of a TOML date and of a number are kept in
-/// `names` for good, also those that were read before an error.
+/// The description that the table of a TOML text gives (`docs/description.md`). Its texts are those of the table; its
+/// names, its words for values, the text of `values`, and those of a TOML date and of a number are kept in `names` for
+/// good, also those that were read before an error.
 ///
-/// `Memory` says that an allocation failed, and nothing of the table. While memory lasts, `Content` comes
-/// exactly where the table is no description, and tells the first 20 faults, at least one, and how many more there are, in
-/// the order in which the table is read: of a table first the keys that are not known, then its keys in the order of
-/// `docs/description.md`, then the names that stand twice, then the tables inside it. Of what stands inside a table of
-/// the wrong kind it tells nothing.
+/// `Memory` says that an allocation failed, and nothing of the table. While memory lasts, `Content` comes exactly where
+/// the table gives no description, and reports the first 20 faults, at least one, and how many more there are, in the
+/// order in which the table is read: of a table first the keys that are not known, then its keys in the order of
+/// `docs/description.md`, then the names that stand twice, then the tables inside it. It reports nothing of what stands
+/// inside a table of the wrong kind.
 pub fn description_from_table<'a, A: Allocator + Copy>(
     alloc: A,
     names: &mut Names,
@@ -117,7 +117,7 @@ fn description_of<'a, A: Allocator + Copy>(
     })
 }
 
-// Reads the tables of a description whose own keys were refused, to tell of them.
+// Reads the tables of a description whose own keys were refused, to report their faults.
 fn read_tables_on<'a, A: Allocator + Copy>(
     teller: &mut Teller<'a, A>,
     names: &mut Names,

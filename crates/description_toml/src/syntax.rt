@@ -52,7 +52,7 @@ fn is_closing(byte: u8) -> bool
     byte == b']' || byte == b')' || byte == b'>' || byte == b'}'
 }
 
-// Whether a name may stand directly behind the byte.
+// Whether a name may stand directly after the byte.
 fn is_lead(byte: u8) -> bool
     ensures { result ≡ is_lead byte }
 {
@@ -73,8 +73,7 @@ fn is_same(one: bool, other: bool) -> bool
 
 // ---- stretches
 
-// The first of the longest stretches of a text whose bytes are all of a class or are none of it, and what stands
-// behind it.
+// The first of the longest stretches of a text whose bytes all are, or all are not, of a class, and what follows it.
 fn first_stretch(text: &str, class: Class) -> Option<(&str, &str)>
     ensures stretches { MatchOption result (stretches (is_in class) text.now ≡ [])
         (λ p. stretches (is_in class) text.now ≡ p.0.now ∷ stretches (is_in class) p.1.now) }
@@ -86,7 +85,7 @@ fn first_stretch(text: &str, class: Class) -> Option<(&str, &str)>
     Some(text.split_at(len))
 }
 
-// How many bytes at the front are of the class, or are none of it.
+// How many bytes at the front are all of the class, or all not of it.
 fn alike_len(bytes: &[u8], class: Class, are_in: bool) -> usize
     ensures { result ≡ prefix_len (λ byte. is_same are_in (is_in class byte)) bytes.now }
 {
@@ -123,7 +122,7 @@ fn has_form_of_name(run: &[u8]) -> bool
     }
 }
 
-// Whether a name may stand behind these bytes.
+// Whether a name may stand after these bytes.
 fn is_place(before: &[u8]) -> bool
     ensures { result ≡ is_place before.now }
 {
@@ -139,7 +138,7 @@ fn is_name(before: &[u8], run: &[u8]) -> bool
     is_place(before) && has_form_of_name(run)
 }
 
-// Whether a run stands directly behind a negation.
+// Whether a run stands directly after a negation.
 fn is_negated(before: &[u8], run: &[u8]) -> bool
     ensures { result ≡ is_negated before.now run.now }
 {
@@ -161,8 +160,8 @@ fn count(bytes: &[u8], class: Class) -> usize
     count
 }
 
-/// Puts the names of a syntax that stand outside brackets and begin with two dashes, or with one, without these
-/// dashes. After `AllocError` some may stand there.
+/// Appends the names of a syntax that stand outside brackets and begin with two dashes, or with one, without these
+/// dashes. After `AllocError` some of them may have been appended.
 pub fn put_names<'a, A: Allocator>(
     names: &mut Vec<&'a str, A>,
     text: &'a str,
@@ -208,7 +207,7 @@ fn put_name<'a, A: Allocator>(
     Ok(())
 }
 
-// The name that a stretch is, or of which it is the end, without its dashes, if it has so many.
+// The name that a stretch is or ends, without its dashes, if it has that many.
 fn name_of<'a>(before: &[u8], stretch: &'a str, are_two: bool) -> Option<&'a str>
     ensures { option_to_list (text_of result)
         ≡ flat_map (without_dashes are_two) (stretch_names before.now stretch.now) }
@@ -261,7 +260,7 @@ fn first_outside(bytes: &[u8], mark: u8) -> Option<usize>
     None
 }
 
-// What stands before and behind the first comma outside brackets.
+// What stands before and after the first comma outside brackets.
 fn split_piece(text: &str) -> Option<(&str, &str)>
     ensures parts { MatchOption result (parts 44 text.now ≡ text.now ∷ [])
         (λ p. parts 44 text.now ≡ p.0.now ∷ parts 44 p.1.now) }
@@ -282,7 +281,7 @@ pub fn are_paired<A: Allocator>(alloc: A, text: &str) -> Result<bool, AllocError
     Ok(left.is_empty())
 }
 
-// Puts the brackets that are left over, behind those that are.
+// Appends the brackets that are left over.
 fn put_brackets<A: Allocator>(left: &mut Vec<u8, A>, bytes: &[u8]) -> Result<(), AllocError>
     ensures { OnOk result (reverse left.new.items
         ≡ fold with_bracket (reverse left.old.items) (filter is_bracket bytes.now)) }

@@ -1,16 +1,15 @@
-//! Words of others: which known word is near.
+//! Words that are not known: which known word is near.
 ghost use Rattle.std.specs.Prelude.{Contains, IfOk, IfSome};
 
 pub use shown_words::{Brief, Quoted, Shown};
 use std::alloc::{AllocError, Allocator};
 use strsim::osa_distance;
 
-// A word of more bytes is near none of the known ones, whatever they are.
+// A longer word is not near any known one.
 const LONGEST: usize = 32;
 
-/// The known word, the first of some, that takes the fewest edits: at most two, and fewer than half as many as the
-/// word has letters. Two neighbours that change places are one edit. A word of over 32 bytes is near none.
-/// `AllocError` where an allocation failed.
+/// The first known word that takes the fewest edits: at most two, and fewer than half as many as the word has letters.
+/// Swapping two neighbours is one edit. A word of over 32 bytes is near none. `AllocError` where an allocation failed.
 pub fn nearest<A: Allocator + Copy>(
     alloc: A,
     word: &str,

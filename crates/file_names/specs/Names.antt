@@ -16,7 +16,7 @@ is_foreign byte = byte == 34 || byte == 42 || byte == 58 || byte == 60 || byte =
 
 -- ---- words
 
--- the same but for the case of ASCII letters
+-- the same except for the case of ASCII letters
 abbrev pub are_same_letters : List ℕ → List ℕ → Bool
 are_same_letters word other = bytes_eq (map to_ascii_lowercase word) (map to_ascii_lowercase other)
 
@@ -27,7 +27,7 @@ is_no_dot byte = not (byte == 46)
 abbrev pub stem : List ℕ → List ℕ
 stem name = take (prefix_len is_no_dot name) name
 
--- a console, a printer, a port or nothing at all: other systems open these in place of a file, whatever stands behind the dot
+-- a console, a printer, a port or nothing at all: other systems open these in place of a file, whatever follows the dot
 abbrev pub is_console : List ℕ → Bool
 is_console word = are_same_letters word (codes "con") || are_same_letters word (codes "prn") || are_same_letters word (codes "aux") || are_same_letters word (codes "nul")
 
@@ -35,7 +35,7 @@ is_console word = are_same_letters word (codes "con") || are_same_letters word (
 abbrev pub is_console_end : List ℕ → Bool
 is_console_end word = are_same_letters word (codes "conin$") || are_same_letters word (codes "conout$")
 
--- a digit, or `²`, `³` or `¹`, which are C2 with B2, B3 or B9 behind it
+-- a digit, or `²`, `³` or `¹`, which are C2 followed by B2, B3 or B9
 abbrev pub is_port_number : List ℕ → Bool
 is_port_number [] = false
 is_port_number (b ∷ []) = is_ascii_digit b
@@ -55,7 +55,7 @@ is_index name = are_same_letters name (codes "index.html")
 
 -- ---- names
 
--- not hidden by a dot, and no option of a program that it is handed to
+-- not hidden by a dot, and not an option for a program that takes it
 abbrev pub begins_well : List ℕ → Bool
 begins_well name = not (slice_index name 0 == 46) && not (slice_index name 0 == 45)
 
@@ -67,7 +67,7 @@ is_file_name name = not (list_any is_slash name) && not (list_any is_foreign nam
 abbrev pub name_key : List ℕ → List ℕ
 name_key name = encode_utf8_all (canonical_key (chars name))
 
--- the same but for case and for the form in which letters with marks are written: some folders take them for one
+-- the same except for case and for the form in which letters with marks are written: some folders take them for one
 abbrev pub are_alike : List ℕ → List ℕ → Bool
 are_alike name other = bytes_eq (name_key name) (name_key other)
 
@@ -76,7 +76,7 @@ abbrev pub are_file_names : List (List ℕ) → Bool
 are_file_names [] = true
 are_file_names (name ∷ names) = is_file_name name && not (list_any (are_alike name) names) && are_file_names names
 
--- the first is one that a file may have, and none behind it is like it
+-- the first is one that a file may have, and none after it is like it
 abbrev pub is_first_name : List (List ℕ) → Bool
 is_first_name [] = true
 is_first_name (name ∷ names) = is_file_name name && not (list_any (are_alike name) names)

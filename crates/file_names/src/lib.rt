@@ -15,7 +15,7 @@ pub use one::check_name;
 use std::alloc::{AllocError, Allocator, Global};
 use std::collections::BTreeSet;
 
-/// Why files have no names of these.
+/// Why files may not have these names.
 #[derive(Clone, Copy, Debug, PartialEq, Eq)]
 pub enum NameFault<'n> {
     /// It holds a slash.
@@ -34,15 +34,15 @@ pub enum NameFault<'n> {
     Index(&'n str),
     /// It stands twice.
     Twice(&'n str),
-    /// These two differ in the case of ASCII letters alone.
+    /// These two differ only in the case of ASCII letters.
     Alike(&'n str, &'n str),
-    /// These two differ in case, and in the form in which letters with marks are written, alone.
+    /// These two differ only in case, and in the form in which letters with marks are written.
     Same(&'n str, &'n str),
 }
 
-/// Refuses a name that no file may have, and two that some folders take for one. The first that is refused is told, with
-/// the first behind it that is like it. What the names are compared by is kept in `global`, and which of them are known
-/// in `alloc`. `AllocError` where an allocation failed.
+/// Refuses a name that no file may have, and two that some folders take for one. The first that is refused is reported,
+/// with the first after it that is like it. What the names are compared by is kept in `global`, and which of them are
+/// known in `alloc`. `AllocError` where an allocation failed.
 pub fn check_names<'n, A: Allocator + Copy>(
     alloc: A,
     global: Global,
@@ -54,8 +54,8 @@ pub fn check_names<'n, A: Allocator + Copy>(
     check_first(global, &names[first..])
 }
 
-// Where the first name stands that is refused: at the end, where there is none. It goes from the last name to the first,
-// so that it knows those behind each.
+// Where the first name stands that is refused: at the end, where there is none. It goes from the last name to the
+// first, so that it knows those after each.
 fn first_refused<A: Allocator + Copy>(
     alloc: A,
     global: Global,
@@ -85,7 +85,7 @@ fn is_refused(name: &str, is_alone: bool) -> bool
     !(check_name(name).is_ok() && is_alone)
 }
 
-// Refuses the first name: one that no file may have, or that some folders take for one behind it.
+// Refuses the first name: one that no file may have, or that some folders take for the same as one after it.
 fn check_first<'n>(
     global: Global,
     names: &[&'n str],

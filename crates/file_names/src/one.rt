@@ -138,7 +138,7 @@ fn is_port(word: &[u8]) -> bool
         && (are_same_letters(&word[..3], "com") || are_same_letters(&word[..3], "lpt"))
 }
 
-/// Whether two words are the same but for the case of ASCII letters.
+/// Whether two words are the same except for the case of ASCII letters.
 #[tactic(auto, using(crate::proofs::Names::tells_same))]
 pub(crate) fn are_same_letters(word: &[u8], other: &str) -> bool
     ensures { result ≡ are_same_letters word.now other.now }

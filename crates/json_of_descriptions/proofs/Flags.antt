@@ -1,4 +1,4 @@
--- Flags that say what holds without them, and others.
+-- Flags that say their default, and others.
 use Rattle.std.proofs.Common.{◌≡◌, ◌++◌, ◌∷◌, [], ℕ, Bool, true, false, not, List, Option, Some, None, Bor, is_some, refl, sym, subst}
 use Rattle.std.specs.Prelude.{codes}
 use Rattle.std.specs.Bool.{beq}

@@ -1,4 +1,4 @@
--- Members and values behind one another.
+-- Members and values one after another.
 use Rattle.std.proofs.Common.{◌≡◌, ℕ, ◌+◌, ◌<◌, ◌≤◌, ◌==◌, Bool, true, false, List, [], ◌∷◌, ◌++◌, length, map, take, get_or, refl, sym, ap, ◌∙◌, subst, append_assoc, append-nil, arith}
 use Rattle.std.proofs.lemmas.Bool.{false≢true}
 use Rattle.std.proofs.lemmas.List.{map-append, take_all, take_more}
@@ -100,7 +100,7 @@ object_put {a} {b} {c} {d} {fs} w v u =
 pub whole_put : {b c d : List Token} {fs : List Field} → b ≡ begin_object ∷ [] → PutsFields b c fs → d ≡ c ++ end_object ∷ [] → d ≡ json_tokens (object_with fs)
 whole_put {b} {c} {d} {fs} w v u = enclosed [] b c d fs w v u
 
--- values between the brackets of an array, behind its key
+-- values between the brackets of an array, after its key
 pub array_put : (a b c d : List Token) (k : List ℕ) (j : Json) (js : List Json) → b ≡ a ++ key k ∷ begin_array ∷ [] → PutsValues b c (j ∷ js) → d ≡ c ++ end_array ∷ [] → PutsFields a d (list_at k (j ∷ js))
 unfolding fields_tokens
 array_put a b c d k j js w v u =
@@ -128,7 +128,7 @@ module _ {X Y : Type 0} (f : Y → Json) (g : X → Y) where
   pub list_none : (a : List Token) (k : List ℕ) (xs ys : List X) → ys ≡ xs → (length ys == 0) ≡ true → PutsFields a a (list_at k (map f (map g xs)))
   list_none a k xs ys same none = subst (λ zs. PutsFields a a (list_at k (map f (map g zs)))) same (none_put a k ys none)
 
--- an object that is not empty, behind its key
+-- an object that is not empty, after its key
 pub object_at_put : (a b c d e : List Token) (k : List ℕ) (fs : List Field) → is_nothing fs ≡ false → b ≡ a ++ key k ∷ [] → c ≡ b ++ begin_object ∷ [] → PutsFields c d fs → e ≡ d ++ end_object ∷ [] → PutsFields a e (object_at k fs)
 unfolding fields_tokens
 object_at_put a b c d e k [] some w v u t = absurd (false≢true (sym some))

@@ -1,4 +1,4 @@
--- A description as a value of JSON: its keys in the order of docs/keys.md, and none that says what holds without it.
+-- A description as a value of JSON: its keys in the order of docs/keys.md, without those that say the default.
 use Rattle.std.specs.Prelude.{◌≡◌, ◌≤◌, codes, ℕ, List, [], ◌∷◌, ◌++◌, map, flat_map, Bool, true, false, not, Option, Some, None, is_some, encode_utf8}
 use Rattle.json.specs.Json.{Json, string, value}
 use Rattle.json.specs.Layout.{pretty}
@@ -139,7 +139,7 @@ abbrev mutual
 
 -- ---- the whole
 
--- a key of the fixed words, what holds where it is left out, and the word
+-- a key of the fixed words, its default, and the word
 pub record WordSaid : Type 0 where
   pub key : List ℕ
   pub usual : List ℕ

@@ -24,7 +24,7 @@ abbrev pub optional_at : (key : List ℕ) → Option (List ℕ) → List Field
 optional_at key None = []
 optional_at key (Some text) = text_at key text
 
--- a text that is not what holds where nothing is said
+-- a text that is not the default
 abbrev pub text_unless : (usual key text : List ℕ) → List Field
 text_unless usual key text = if bytes_eq text usual then [] else text_at key text
 
@@ -32,7 +32,7 @@ abbrev pub character_at : (key : List ℕ) → Option ℕ → List Field
 character_at key None = []
 character_at key (Some c) = text_at key (encode_utf8 c)
 
--- a flag that is not what holds where nothing is said
+-- a flag that is not the default
 abbrev pub flag_unless : (usual : Bool) → (key : List ℕ) → Bool → List Field
 flag_unless true key true = []
 flag_unless true key false = (key, boolean false) ∷ []

@@ -54,7 +54,7 @@ fn put_object<A: Allocator + Copy, B: Allocator>(
     Ok(out)
 }
 
-// The text of these bytes, with a newline behind it.
+// The text of these bytes, with a newline after it.
 fn finished<A: Allocator>(bytes: Vec<u8, A>) -> Result<String<A>, AllocError>
     requires { IsUtf8 bytes.items }
     ensures { IfOk result (λ text. string_bytes text ≡ bytes.items ++ codes "\n") }
@@ -65,8 +65,8 @@ fn finished<A: Allocator>(bytes: Vec<u8, A>) -> Result<String<A>, AllocError>
     Ok(text)
 }
 
-/// The description as JSON: its keys in the order of `docs/keys.md`, and none that says what holds without it. The
-/// value of the text is `json_of` of the description.
+/// The description as JSON: its keys in the order of `docs/keys.md`, without those that say the default. The value of
+/// the text is `json_of` of the description.
 pub fn json_text<A: Allocator + Copy, B: Allocator>(
     alloc: A,
     description: &Description<'_, B>,

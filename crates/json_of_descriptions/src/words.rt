@@ -11,7 +11,7 @@ use description::FixedWords;
 use json::{Pretty, Token};
 use std::alloc::{AllocError, Allocator};
 
-// A key, what holds where it is left out, and the word.
+// A key, its default, and the word.
 #[derive(Clone, Copy)]
 struct Word<'a> {
     key: &'static str,

@@ -56,8 +56,8 @@ abbrev pub names_step : Step → List ℕ → List ℕ → Bool
 names_step (key_step k) closing text = not (first closing == right_bracket) && has_part k.now (key (at_key text))
 names_step (index_step n) closing text = first closing == right_bracket || is_array_header text
 
--- The entry behind the front brings the path: the text before it, with the brackets closed that are open there, is a
--- document without the path, and the text through it, closed in the same way, is a document with it.
+-- The entry after the front brings the path: the text before it, with the open brackets closed, is a document without
+-- the path, and the text through it, closed in the same way, is a document with it.
 pub record IsFront (text : List ℕ) (path : List Step) (front : List ℕ) : Type 0 where
   pub from : List ℕ
   pub through : List ℕ

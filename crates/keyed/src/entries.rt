@@ -12,8 +12,8 @@ use std::alloc::{AllocError, Global};
 use toml_parser::text::{byte_at, first, skip, skip_blank, skip_ws};
 use toml_parser::{ErrorKind, Key, ParseError, RECURSION_LIMIT, dotted_key};
 
-/// An entry of a document: the text from it on and the text behind it, and the brackets that close those that are
-/// open where it stands.
+/// An entry of a document: the text from it on and the text after it, and the brackets that close those that are open
+/// where it stands.
 #[derive(Drop)]
 pub struct Entry<'t> {
     pub from: &'t str,
@@ -108,7 +108,7 @@ fn section_of(
     }
 }
 
-// The entry of a line that brings the path, of which so many steps lead to the table where the line stands.
+// The entry of a line that brings the path, of which that many steps lead to the table where the line stands.
 fn entry_in_line<'t>(
     alloc: Global,
     start: &'t str,
@@ -156,7 +156,7 @@ fn entry_in_pair<'t>(
     entry_in_value(alloc, value, &path[taken..], RECURSION_LIMIT)
 }
 
-// How many elements were seen of the array behind each front of the path.
+// How many elements of the array after each front of the path were seen.
 fn none_seen(alloc: Global, path: &[Step<'_>]) -> Result<Vec<usize>, AllocError> {
     let mut seen = Vec::new(alloc);
     for _ in path {
@@ -188,7 +188,7 @@ fn taken_by_header(
     behind_part(key.last.as_str(), is_array, path, at, seen)
 }
 
-// Where the path goes on behind a part of a header: behind the element that is the last one by now, where the part
+// Where the path continues after a part of a header: after the element that is the last one by now, where the part
 // names an array of tables. None where the part is not on the path, or the path goes to another element.
 fn behind_part(
     part: &str,

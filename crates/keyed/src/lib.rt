@@ -24,8 +24,8 @@ use toml_parser::ParseError;
 /// The text before the entry of a TOML document that brings the path into it: a header, a pair, of which a dotted key
 /// is the front, or an element of an array. The length of that text is the place of the path.
 ///
-/// None where the text is no document, the document has nothing at the path, or the path is empty. An error comes where an allocation
-/// failed, and says nothing of the text.
+/// None where the text is not a document, the document has nothing at the path, or the path is empty. An error comes
+/// where an allocation failed, and says nothing of the text.
 pub fn text_before<'t>(
     alloc: Global,
     text: &'t str,

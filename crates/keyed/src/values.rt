@@ -1,4 +1,4 @@
-//! Values of which only the end is sought.
+//! Values of which only the end is needed.
 ghost use Rattle.std.specs.Prelude.{◌≡◌, ◌<◌, ◌≤◌, length, IfOk, ℕ};
 ghost use Rattle.toml_parser.specs.Reading.{Gives, Reads, Shortens, key_view};
 ghost use Rattle.toml.specs.Parse as spec;

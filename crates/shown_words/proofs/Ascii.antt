@@ -1,4 +1,4 @@
--- ASCII characters are no unseen ones.
+-- ASCII characters are not unseen.
 use Rattle.std.specs.Prelude.{◌≡◌, ℕ, ◌<◌, true, false, not, refl}
 use Rattle.std.proofs.Common.{arith}
 use Rattle.std.proofs.lemmas.Bool.Decides.{nat_tests}

@@ -25,8 +25,8 @@ impl Display for Shown<'_> {
     }
 }
 
-/// A word as `Shown` has it: of a long one its front, with `..` behind it, and of none two quotes. A word is long that has
-/// more than 60 characters, or is shown by more than 200 bytes.
+/// A word as `Shown` has it: the front of a long one, followed by `..`, and two quotes for an empty one. A word is long
+/// if it has more than 60 characters, or takes more than 200 bytes to show.
 #[derive(Clone, Copy)]
 pub struct Brief<'w>(pub &'w str);
 
@@ -43,7 +43,7 @@ impl Display for Brief<'_> {
     }
 }
 
-/// A word in double quotes and with escapes: of a long one its front, with `..` behind it.
+/// A word in double quotes and with escapes: the front of a long one, followed by `..`.
 #[derive(Clone, Copy)]
 pub struct Quoted<'w>(pub &'w str);
 
@@ -60,7 +60,7 @@ impl Display for Quoted<'_> {
     }
 }
 
-// So many characters of a word, and bytes of what shows it, are shown where it is to be brief.
+// How many characters of a word, and bytes of what shows it, are shown where it is to be brief.
 const BRIEF: usize = 60;
 
 const BRIEF_BYTES: usize = 200;
@@ -77,7 +77,7 @@ fn front(word: &str) -> Option<&str> {
     None
 }
 
-// How many bytes show a character at most.
+// How many bytes at most show a character.
 fn shown_len(character: char) -> usize {
     if is_unseen(character) {
         character.escape_unicode().count()

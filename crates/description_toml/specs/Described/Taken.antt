@@ -56,7 +56,7 @@ abbrev pub are_distinct : List (List ℕ) → Bool
 are_distinct [] = true
 are_distinct (text ∷ texts) = not (list_any (bytes_eq text) texts) && are_distinct texts
 
--- a name without its dashes, if it begins with two of them, or if it begins with one alone
+-- a name without its dashes, where it begins with two of them, or where it begins with exactly one
 abbrev pub behind_dashes : (dashes name : List ℕ) → List (List ℕ)
 behind_dashes dashes name = if starts_with ◌==◌ name dashes then drop (length dashes) name ∷ [] else []
 
@@ -64,7 +64,8 @@ abbrev pub without_dashes : (two : Bool) → (name : List ℕ) → List (List �
 without_dashes true name = behind_dashes (codes "--") name
 without_dashes false name = if starts_with ◌==◌ name (codes "--") then [] else behind_dashes (codes "-") name
 
--- the names of an option that have so many dashes, without these: its short name or its long one, and those of its syntax, where one may stand twice
+-- the names of an option that have that many dashes, without these: its short name or its long one, and those of its
+-- syntax, where one may stand twice
 abbrev pub own_names : (two : Bool) → Members → List (List ℕ)
 own_names two ms = option_to_list (text_under (if two then codes "long" else codes "short") ms) ++ flat_map (λ text. flat_map (without_dashes two) (syntax_names text)) (option_to_list (text_under (codes "syntax") ms))
 

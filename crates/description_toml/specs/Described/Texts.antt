@@ -23,11 +23,12 @@ is_line_character c = not (is_control c) && not (is_noncharacter c)
 abbrev pub is_text_character : ℕ → Bool
 is_text_character c = (c == 10 || c == 9) || is_line_character c
 
--- what joins letters of some scripts or parts them, tells the direction of a letter beside it, U+200C to U+200F, or tells which form of a sign is meant, as of an emoji
+-- what joins letters of some scripts or separates them, gives the direction of a letter beside it, U+200C to U+200F, or
+-- says which form of a sign is meant, as of an emoji
 abbrev pub is_joiner : ℕ → Bool
 is_joiner c = is_in_range 0x200C 0x200F c || is_variation_selector c
 
--- any other of which nothing is seen where it stands
+-- any other character of which nothing is seen where it stands
 abbrev pub is_hidden : ℕ → Bool
 is_hidden c = is_unseen c && not (is_joiner c)
 
@@ -39,7 +40,7 @@ is_word_character c = not (is_hidden c) && is_line_character c
 abbrev pub is_name_character : ℕ → Bool
 is_name_character c = not (is_whitespace c || c == 61) && (not (is_joiner c) && is_word_character c)
 
--- a short name is no `-`
+-- a short name is not `-`
 abbrev pub is_short : ℕ → Bool
 is_short c = not (c == 45) && is_name_character c
 
@@ -62,7 +63,7 @@ ends test (b ∷ c ∷ bs) = ends test (c ∷ bs)
 abbrev pub is_dash : ℕ → Bool
 is_dash b = b == 45
 
--- a byte that a macro of roff may read a second time: no backslash and no double quote
+-- a byte that a macro of roff may safely read a second time: no backslash and no double quote
 abbrev pub is_read_once : ℕ → Bool
 is_read_once b = not (b == 92 || b == 34)
 
@@ -117,7 +118,7 @@ is_title text = list_all is_word_character (chars text) && list_all is_read_once
 abbrev pub is_heading : List ℕ → Bool
 is_heading text = is_title text && (not (has_blank_end text) && not (is_empty_text (without_colon text)))
 
--- a section of the manual: a digit, `n` or `l`, with ASCII letters and digits behind it
+-- a section of the manual: a digit, `n` or `l`, followed by ASCII letters and digits
 abbrev pub is_section : List ℕ → Bool
 is_section text = list_all is_line_character (chars text) && (list_all is_ascii_alphanumeric text && begins begins_a_section text)
 
@@ -125,7 +126,7 @@ is_section text = list_all is_line_character (chars text) && (list_all is_ascii_
 abbrev pub is_language_tag : List ℕ → Bool
 is_language_tag text = list_all is_line_character (chars text) && (not (is_empty_text text) && list_all is_language_byte text)
 
--- there is something of it, and no more than 200 bytes
+-- not empty, and no more than 200 bytes
 abbrev pub has_name_size : List ℕ → Bool
 has_name_size text = not (is_empty_text text) && nat_le (length text) 200
 

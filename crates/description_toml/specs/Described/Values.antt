@@ -13,7 +13,7 @@ use Rattle.toml.specs.Data.{Data, string, integer, datetime, Items, no_items, it
 use Rattle.description_toml.specs.Syntax.{is_well_formed}
 use Rattle.description_toml.specs.Described.Texts.{as_value, if_passes, is_line, is_section, is_short, is_title, is_value}
 
--- what holds where a value is not given: a text on one line, or a whole number in decimal
+-- the default of a value: a text on one line, or a whole number in decimal
 abbrev pub default_text : Data → Option (List ℕ)
 default_text (string text) = Some text
 default_text (integer z) = Some (signed_decimal z)
@@ -126,7 +126,7 @@ words_at read = at_key (Some []) (as_texts read)
 abbrev pub listed_texts : List (List ℕ) → List ℕ
 listed_texts = join_by (λ text. text) (codes ", ")
 
--- the values that there may be, as one text on one line
+-- the possible values, as one text on one line
 abbrev pub as_values : Data → Option (List ℕ)
 as_values d = option_and_then (λ values. if_passes is_value (listed_texts values)) (as_texts as_value d)
 

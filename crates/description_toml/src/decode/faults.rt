@@ -1,4 +1,4 @@
-//! Why a table is no description, and where.
+//! Why a table does not give a description, and where.
 ghost use Rattle.description_toml.specs.Faults.{IsMemory};
 
 use keyed::Step;
@@ -14,7 +14,7 @@ pub enum DescriptionError<'a, A: Allocator = Global> {
     /// An allocation failed, which says nothing of the table.
     #[error("no memory")]
     Memory(AllocError),
-    /// The table is no description: what is wrong in it.
+    /// The table does not give a description: what is wrong in it.
     #[error("{0}")]
     Content(Faults<'a, A>),
 }
@@ -31,12 +31,12 @@ impl<A: Allocator> From<AllocError> for DescriptionError<'_, A> {
 #[derive(Drop)]
 #[derive_where(Debug)]
 pub struct Fault<'a, A: Allocator = Global> {
-    /// The way from the top to the key of which it is told, or, where a key is missing, to the table that lacks it.
-    /// It is empty where that is the top.
+    /// The path from the top to the key that the fault is about, or, where a key is missing, to the table that lacks
+    /// it. It is empty where that is the top.
     pub path: Vec<Step<'a>, A>,
-    /// Where a name stands twice, the way to the key where it stood first. Empty elsewhere.
+    /// Where a name stands twice, the path to the key where it stood first. Empty elsewhere.
     pub earlier: Vec<Step<'a>, A>,
-    /// The way to the table in words, and what is wrong, on one line.
+    /// The path to the table in words, and what is wrong, on one line.
     pub words: String<A>,
 }
 
@@ -44,7 +44,7 @@ pub struct Fault<'a, A: Allocator = Global> {
 #[derive(Drop)]
 #[derive_where(Debug)]
 pub struct Faults<'a, A: Allocator = Global> {
-    /// The first ones, at most 20.
+    /// The first faults, at most 20.
     pub told: Vec<Fault<'a, A>, A>,
     /// How many more there are.
     pub more: usize,

@@ -15,8 +15,8 @@ use toml::{Table, Value};
 /// What is wrong with what is said of the value of a flag.
 pub const BESIDE_NONE: &str = " stands beside no value and no syntax";
 
-/// What a shell offers for a value, at the key `hint`: files where nothing is said. It stands beside no list of values,
-/// and not on a flag.
+/// What a shell offers for a value, at the key `hint`; files by default. It may not stand beside a list of values, nor
+/// on a flag.
 pub fn hint_beside<'a, A: Allocator + Copy>(
     teller: &mut Teller<'a, A>,
     table: &'a Table,
@@ -88,7 +88,7 @@ fn hint_named(word: &str) -> Option<ValueHint>
     }
 }
 
-/// Whether the values that there may be are said, be it wrongly.
+/// Whether there are possible values, even wrong ones.
 pub fn has_values(values: Result<Option<&str>, Refused>) -> bool
     ensures { IfOk values.entry (λ values. result ≡ is_some (text_of values)) }
 {

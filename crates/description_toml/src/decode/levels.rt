@@ -45,7 +45,7 @@ const COMMAND_KEYS: [&str; 16] = [
     "topic",
 ];
 
-/// The texts of a level but its topics.
+/// The texts of a level except its topics.
 #[derive(Clone, Copy)]
 pub struct Texts<'a> {
     about: Option<&'a str>,
@@ -138,7 +138,7 @@ fn lists_from<'a, A: Allocator + Copy>(
     })
 }
 
-// The arrays of tables of a level that was refused, to tell of what is inside.
+// The arrays of tables of a level that was refused, to report what is inside.
 fn lists_there(table: &Table) -> Lists<'_>
     ensures { lists_depth (lists_seen result) ≤ members_depth (table_view table.now) }
 {
@@ -239,7 +239,7 @@ pub fn level_of<'a, A: Allocator + Copy>(
     })
 }
 
-// Reads the tables in a table that was refused, to tell of them.
+// Reads the tables in a table that was refused, to report their faults.
 #[cycle(decode)]
 fn read_on<'a, A: Allocator + Copy>(
     teller: &mut Teller<'a, A>,
@@ -254,7 +254,7 @@ fn read_on<'a, A: Allocator + Copy>(
     drop(topics_in(teller, lists.topics));
 }
 
-/// Reads the tables in the table of a level that was refused, to tell of them.
+/// Reads the tables in the table of a level that was refused, to report their faults.
 pub fn read_level_on<'a, A: Allocator + Copy>(
     teller: &mut Teller<'a, A>,
     names: &mut Names,

@@ -88,7 +88,7 @@ fn is_syntax(spelling: Spelling<'_>) -> bool
     }
 }
 
-// Whether an option has a syntax. Of one that is spelled wrong it is whether the key is there.
+// Whether an option has a syntax: of one that is spelled wrong, whether the key is there.
 fn has_syntax(spelling: Result<Spelling<'_>, Refused>, table: &Table) -> bool
     ensures { IfOk spelling.entry (λ spelling. result ≡ is_syntax (spelling_said spelling)) }
 {
@@ -107,7 +107,7 @@ struct ValueTexts<'a> {
     hint: ValueHint,
 }
 
-// The word for a value, which stands beside no syntax.
+// The word for a value, which may not stand beside a syntax.
 fn value_beside<'a, A: Allocator + Copy>(
     teller: &mut Teller<'a, A>,
     names: &mut Names,
@@ -202,7 +202,7 @@ fn unless_there<'a, 't, A: Allocator + Copy>(
     }
 }
 
-// All of an option but whether it is required and repeated.
+// All of an option except whether it is required and repeated.
 fn option_texts<'a, A: Allocator + Copy>(
     teller: &mut Teller<'a, A>,
     names: &mut Names,
@@ -346,7 +346,7 @@ pub fn help_options_in<'a, A: Allocator + Copy>(
     options_with(teller, names, items, "help_option", &HELP_OPTION_KEYS)
 }
 
-// The tables of the options of a choice, of which there is one.
+// The tables of the options of a choice, at least one.
 fn alternatives_at<'a, A: Allocator + Copy>(
     teller: &mut Teller<'a, A>,
     table: &'a Table,
@@ -417,7 +417,7 @@ fn positional_from<'a, A: Allocator + Copy>(
     positional
 }
 
-// All of a positional value but whether it is required, repeated and strict.
+// All of a positional value except whether it is required, repeated and strict.
 fn positional_texts<'a, A: Allocator + Copy>(
     teller: &mut Teller<'a, A>,
     names: &mut Names,

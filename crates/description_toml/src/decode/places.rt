@@ -99,7 +99,7 @@ fn write_option_name<W: fmt::Write>(f: &mut fmt::Formatter<W>, item: &Value) -> 
     }
 }
 
-// Nothing is written of a blank text, and no dashes before one that has some.
+// Writes nothing for a blank text, and no dashes before one that has some.
 fn write_text<W: fmt::Write>(
     f: &mut fmt::Formatter<W>,
     dashes: &str,
@@ -118,7 +118,7 @@ fn text_in<'v>(item: &'v Value, key: &str) -> Option<&'v str> {
     item.get(key).and_then(|value| value.as_str())
 }
 
-/// The way to the table at the end of the places, in words. Nothing for the top.
+/// The path to the table at the end of the places, in words. Nothing for the top.
 #[derive(Clone, Copy)]
 pub struct Way<'p, 'a>(pub &'p [Place<'a>]);
 

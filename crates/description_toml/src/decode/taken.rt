@@ -19,8 +19,8 @@ use std::alloc::{AllocError, Allocator};
 use std::collections::BTreeSet;
 use toml::{Table, Value};
 
-/// Refuses a level on which two options share a name, which may stand in a syntax, or two commands a name, a short
-/// name or another one. It looks at the names alone, since what stands inside the tables is read later.
+/// Refuses a level on which two options share a name, which may stand in a syntax, or two commands a name, a short name
+/// or another name. It looks at the names alone, since what stands inside the tables is read later.
 pub fn check_names<'a, A: Allocator + Copy>(
     teller: &mut Teller<'a, A>,
     table: &'a Table,
@@ -88,7 +88,7 @@ fn distinct_in<'a, A: Allocator + Copy>(alloc: A, table: &'a Table) -> Result<Di
     })
 }
 
-// A word of a command may be another word of its own, but none of another command.
+// A word of a command may be another word of its own, but not one of another command.
 fn are_commands_distinct<'a, A: Allocator + Copy>(
     alloc: A,
     table: &'a Table,
@@ -102,7 +102,7 @@ fn are_commands_distinct<'a, A: Allocator + Copy>(
     are_distinct(alloc, &words)
 }
 
-// Of the names of options those that begin with two dashes, or those that begin with one.
+// The names of options that begin with two dashes, or those that begin with one.
 fn are_options_distinct<'a, A: Allocator + Copy>(
     alloc: A,
     options: &[&'a Table],

@@ -1,4 +1,4 @@
-//! What is told of a table while it is read.
+//! What is reported of a table while it is read.
 ghost use Rattle.std.specs.Prelude.{IfErr};
 ghost use Rattle.description_toml.specs.Faults.{IsMemory, IsRefusal, Joins, TellsSome};
 
@@ -16,11 +16,11 @@ use toml::Value;
 pub enum Refused {
     /// An allocation failed, which says nothing of the table.
     Memory,
-    /// What is wrong was told, or will be told of a table inside.
+    /// What is wrong was reported, or will be reported of a table inside.
     Told,
 }
 
-// How many faults are told.
+// How many faults are reported.
 const MOST: usize = 20;
 
 // What is wrong.
@@ -42,7 +42,7 @@ enum Wrong<'a> {
     NoHint(&'a str),
 }
 
-/// Tells what is wrong, and knows where. Each failed allocation goes through it, so that it knows of one at the end.
+/// Reports what is wrong, and where. Each failed allocation goes through it, so that it knows of one at the end.
 #[derive(Drop)]
 pub struct Teller<'a, A: Allocator> {
     alloc: A,
@@ -115,8 +115,8 @@ impl<'a, A: Allocator + Copy> Teller<'a, A> {
         self.places.pop();
     }
 
-    /// The list with one more, where both were read. It is the one of the table where this stands, and the next one
-    /// follows.
+    /// The list with one more, where both were read. The new one is that of the table where this stands; it then goes
+    /// to the next table.
     pub fn joined<T: Drop>(
         &mut self,
         list: Result<Vec<T, A>, Refused>,
@@ -133,32 +133,32 @@ impl<'a, A: Allocator + Copy> Teller<'a, A> {
         }
     }
 
-    /// Tells what is wrong with a key.
+    /// Reports what is wrong with a key.
     pub fn tell(&mut self, key: &'static str, after: &'static str) -> Refused {
         self.say(Wrong::At { key, after })
     }
 
-    /// Tells that a key is missing.
+    /// Reports that a key is missing.
     pub fn tell_missing(&mut self, key: &'static str) -> Refused {
         self.say(Wrong::Missing(key))
     }
 
-    /// Tells that no array of tables stands at a key, but one table or something else.
+    /// Reports that there is no array of tables at a key, but one table or something else.
     pub fn tell_no_tables(&mut self, key: &'static str, is_one: bool) -> Refused {
         self.say(Wrong::NoTables { key, is_one })
     }
 
-    /// Tells of a key that is none of the known ones.
+    /// Reports a key that is not known.
     pub fn tell_unknown(&mut self, key: &'a str, known: &'static [&'static str]) -> Refused {
         self.say(Wrong::Unknown { key, known })
     }
 
-    /// Tells of a word that is none of those of `hint`.
+    /// Reports a word that is not one of those of `hint`.
     pub fn tell_no_hint(&mut self, word: &'a str) -> Refused {
         self.say(Wrong::NoHint(word))
     }
 
-    /// Tells of a name that stood before, at the end of this path.
+    /// Reports a name that stood before, at the end of this path.
     pub fn tell_twice(&mut self, named: Named<'a>, earlier: &[Step<'a>]) -> Refused {
         if self.is_full() {
             return Refused::Told;
@@ -258,13 +258,13 @@ impl<'a, A: Allocator + Copy> Teller<'a, A> {
         }
     }
 
-    // Of a key one fault is told, beside those of names that stand twice.
+    // One fault is reported for a key, besides those of names that stand twice.
     fn is_told(&self, path: &[Step<'a>]) -> bool {
         let leads_to_a_key = matches!(path.last(), Some(Step::Key(_)));
         leads_to_a_key && self.told.iter().any(|fault| is_of(fault, path))
     }
 
-    // That something is told of each table that is refused is only tested. Else it is told that there is something.
+    // Only tests show that some fault of each refused table is reported. Where none was, this one is.
     fn tell_the_whole(&mut self) {
         match String::from_str(self.alloc, "the table is no description") {
             Ok(words) => self.put(Fault {
@@ -276,7 +276,7 @@ impl<'a, A: Allocator + Copy> Teller<'a, A> {
         };
     }
 
-    /// The error that tells all, where the whole could not be read.
+    /// The error that reports all, where the whole could not be read.
     pub fn error(self, refused: Refused) -> DescriptionError<'a, A>
         ensures memory { ¬ IsMemory result → ¬ IsRefusal refused }
         ensures told { TellsSome result }

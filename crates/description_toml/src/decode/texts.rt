@@ -1,4 +1,4 @@
-//! The kinds of texts, and why one is none of its kind.
+//! The kinds of texts, and why a text is not of its kind.
 ghost use Rattle.std.specs.Prelude.{◌≡◌, ◌&&◌, chars, is_none, length, nat_le, not};
 ghost use Rattle.std.specs.Char.{is_ascii_alphanumeric, is_whitespace};
 ghost use Rattle.std.specs.Int.{is_in_range};
@@ -45,7 +45,7 @@ pub enum Kind {
     Command,
 }
 
-/// Why a character or a text is refused, as it is said behind the key; nothing where it is not refused.
+/// Why a character or a text is refused, in the words that follow the key; None where it is not refused.
 pub type Refusal = Option<&'static str>;
 
 fn is_noncharacter(character: char) -> bool
@@ -125,7 +125,7 @@ fn refused_in_a_name(character: char) -> Refusal
     }
 }
 
-/// Why a character is no short name.
+/// Why a character is not a short name.
 pub fn refused_as_short(character: char) -> Refusal
     ensures { is_none result ≡ is_short character }
 {
@@ -177,7 +177,7 @@ fn refused_without_blocks(text: &str) -> Refusal
 
 const WITHOUT_DASHES: &str = " begins with -; write it without dashes";
 
-/// Why a text that is not one character is no short name.
+/// Why a text that is not one character is not a short name.
 pub fn refused_as_character(text: &str) -> &'static str {
     if text.as_bytes().first() == Some(&b'-') {
         WITHOUT_DASHES
@@ -378,7 +378,7 @@ impl Kind {
         None
     }
 
-    /// Why a text is none of this kind.
+    /// Why a text is not of this kind.
     pub fn refuses_text(self, text: &str) -> Refusal
         ensures { is_none result ≡ is_of self text.now }
     {

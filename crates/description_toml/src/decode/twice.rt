@@ -1,4 +1,4 @@
-//! Which names of a level stand twice, and where. It is looked for once it is seen that one does.
+//! Which names of a level stand twice, and where. This is looked for once it is known that one does.
 use super::taken::{put_names_of, put_words_of, text_under};
 use super::teller::{Refused, Teller};
 use super::texts::{Kind, refused_as_short};
@@ -9,10 +9,10 @@ use std::alloc::{AllocError, Allocator};
 use std::collections::BTreeMap;
 use toml::{Table, Value};
 
-// The way to the key where each name stood first.
+// The path to the key where each name stood first.
 type Seen<'a, A> = BTreeMap<&'a str, Vec<Step<'a>, A>, A>;
 
-/// A name of an option, which stands behind dashes, or of a command.
+/// A name of an option, which stands after dashes, or of a command.
 #[derive(Clone, Copy)]
 pub struct Named<'a> {
     pub dashes: &'static str,
@@ -21,7 +21,7 @@ pub struct Named<'a> {
     pub key: &'static str,
 }
 
-/// Tells which names of options stand twice on the level of a table: those behind two dashes, or behind one.
+/// Reports which names of options stand twice on the level of a table: those after two dashes, or after one.
 pub fn tell_options<'a, A: Allocator + Copy>(
     teller: &mut Teller<'a, A>,
     table: &'a Table,
@@ -108,7 +108,7 @@ fn option_named<'a>(option: &'a Table, text: &'a str, are_two: bool) -> Named<'a
     }
 }
 
-/// Tells which names of commands stand twice on the level of a table.
+/// Reports which names of commands stand twice on the level of a table.
 pub fn tell_commands<'a, A: Allocator + Copy>(
     teller: &mut Teller<'a, A>,
     table: &'a Table,
@@ -174,8 +174,8 @@ fn command_named<'a>(command: &'a Table, text: &'a str) -> Named<'a> {
     }
 }
 
-// Tells of a name that stood before, and keeps the place of one that did not. A name that is refused counts for
-// nothing, since that is told where its table is read.
+// Reports a name that stood before, and keeps the place of one that did not. A name that is refused is skipped, since
+// it is reported where its table is read.
 fn look_at<'a, A: Allocator + Copy>(
     teller: &mut Teller<'a, A>,
     seen: &mut Seen<'a, A>,

@@ -4,7 +4,7 @@ use std::alloc::{AllocError, Allocator};
 use std::fmt;
 use std::fmt::Display;
 
-// Keys that others have for what a key here says, and the keys that say it, of which the first counts that a table has.
+// Keys that other formats have for what a key here says, and the keys that say it; the first that a table has counts.
 const OTHER_KEYS: [(&str, &[&str]); 18] = [
     ("alias", &["aliases"]),
     ("arg", &["positional", "value"]),
@@ -39,7 +39,7 @@ const OTHER_HINTS: [(&str, &str); 6] = [
     ("username", "user"),
 ];
 
-// The keys of the top that are no tables, but the title, which is more likely meant for the table, as for a group.
+// The keys of the top that are not tables, except the title, which is more likely meant for the table, as for a group.
 const TOP_KEYS: [&str; 10] = [
     "name",
     "section",
@@ -58,7 +58,7 @@ const TOP_KEYS: [&str; 10] = [
 enum Meant {
     /// One that says this.
     Other(&'static str),
-    /// One that is written much alike.
+    /// One with a similar spelling.
     Near(&'static str),
     /// One of the top.
     Top,
@@ -149,7 +149,7 @@ impl<'k> Unknown<'k> {
         })
     }
 
-    /// A word that is none of those of the key `hint`. `AllocError` where an allocation failed.
+    /// A word that is not one of those of the key `hint`. `AllocError` where an allocation failed.
     pub fn hint<A: Allocator + Copy>(alloc: A, word: &'k str) -> Result<Unknown<'k>, AllocError> {
         let meant = hint_meant(alloc, word)?;
         Ok(Unknown {

@@ -52,7 +52,7 @@ fn table_in<'a, A: Allocator + Copy>(
     }
 }
 
-/// Refuses a table that has a key which is none of these, and tells of each.
+/// Refuses a table that has a key which is not one of these, and reports each.
 #[tactic(auto, using(crate::proofs::Reading::unknown_seen))]
 pub fn check_keys<'a, A: Allocator + Copy>(
     teller: &mut Teller<'a, A>,
@@ -221,8 +221,7 @@ fn word_in<'a, A: Allocator + Copy>(
     }
 }
 
-/// What holds where a value is not given, at the key `default`, as a text or as a whole number. The text of a number
-/// lasts.
+/// The default of a value, at the key `default`, as a text or as a whole number. The text of a number lasts.
 pub fn default_at<'a, A: Allocator + Copy>(
     teller: &mut Teller<'a, A>,
     names: &mut Names,
@@ -279,7 +278,7 @@ pub fn lasting<'a, A: Allocator + Copy>(
     }
 }
 
-/// The values that there may be, at the key `values`, as one text that lasts.
+/// The possible values, at the key `values`, as one text that lasts.
 pub fn values_at<'a, A: Allocator + Copy>(
     teller: &mut Teller<'a, A>,
     names: &mut Names,
@@ -362,7 +361,7 @@ fn well_formed<'a, A: Allocator + Copy>(
     Ok(text)
 }
 
-// Why a syntax is refused of which a piece has no ink.
+// Why a syntax with a piece without ink is refused.
 fn refused_without_ink(text: &str) -> &'static str {
     if has_ink(text) {
         " holds an empty piece"
@@ -519,7 +518,7 @@ pub fn tables_there<'a>(table: &'a Table, key: &str) -> &'a [Value]
     }
 }
 
-/// The table at a key, and none where none is there.
+/// The table at a key; None where there is no table.
 pub fn table_there<'a>(table: &'a Table, key: &str) -> Option<&'a Table> {
     match value_at(table, key) {
         Some(Value::Table(inner)) => Some(inner),
@@ -538,7 +537,7 @@ fn are_tables(items: &[Value]) -> bool
     true
 }
 
-/// Whether there is none.
+/// Whether there are none.
 #[tactic(auto, using(crate::proofs::Reading::no_items_there))]
 pub fn is_empty(items: &[Value]) -> bool
     ensures { result ≡ is_empty (items_view items.now) }
@@ -546,7 +545,7 @@ pub fn is_empty(items: &[Value]) -> bool
     items.is_empty()
 }
 
-/// Puts one more last.
+/// Appends one more.
 pub fn push<'a, T: Drop, A: Allocator + Copy>(
     teller: &mut Teller<'a, A>,
     list: &mut Vec<T, A>,
