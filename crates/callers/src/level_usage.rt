@@ -12,7 +12,7 @@ use description::{FixedWords, Level};
 use description_usage::usage_forms;
 use std::alloc::Global;
 
-/// The usage of a level, behind the names that lead there, in 80 columns.
+/// The usage of a level, after the names that lead there, in 80 columns.
 pub fn level_usage<'p, 'a: 'p>(
     arena: &'p Bump,
     words: &FixedWords<'p>,

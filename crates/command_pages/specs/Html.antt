@@ -31,7 +31,7 @@ frame_said d given = record {
   foot = foot_of d given;
 }
 
--- a reader of HTML reads the bytes, whole, as what stands around the levels and they themselves
+-- a reader of HTML reads the bytes, whole, as the levels and what stands around them
 abbrev pub IsHtmlOf : DescriptionSaid → Extent → TitleGiven → SubjectSaid → List ℕ → Type 0
 IsHtmlOf d extent given s output = IsHtml extent (frame_said d given) (chapter_from d.words s) output
 

@@ -36,7 +36,7 @@ pub record TitleGiven : Type 0 where
 
 -- ---- faults
 
--- a call fails with the fault of its page, or since an allocation failed
+-- a call fails with the fault of its page, or because an allocation failed
 abbrev pub FailsBy : {T : Type 0} → Option PageFault → Result T PageFault → Type 0
 FailsBy fault result = IfErr result (λ error. (error ≡ Refused alloc_error) ⊎ (fault ≡ Some error))
 
@@ -74,7 +74,7 @@ title_line d given s = record {
   title = unwrap_or d.title [];
 }
 
--- the level itself, and where the page is deep, each level below it behind it
+-- the level itself, and where the page is deep, each level below it after it
 abbrev pub manual_parts : Depth → WordsSaid → SubjectSaid → List PartSaid
 manual_parts Alone fixed s = manual_of fixed s
 manual_parts Deep fixed s = manual_of fixed s ++ flat_map (manual_below fixed) (subjects_behind s)

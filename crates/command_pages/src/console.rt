@@ -15,7 +15,7 @@ use description_pages::levels::LevelSubject;
 use page_model::PageFault;
 use std::alloc::{Allocator, Global};
 
-/// The page of a level on a console of so many columns. `Character` comes where a text may not stand in a page, and
+/// The page of a level on a console of that many columns. `Character` comes where a text may not stand in a page, and
 /// `Refused` where an allocation failed.
 #[tactic(auto, using(crate::proofs::Failing::failing, crate::proofs::Failing::permitted))]
 pub fn console_page_of<'p, 'a: 'p, A: Allocator + Copy>(

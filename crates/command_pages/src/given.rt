@@ -26,7 +26,7 @@ pub struct TitleGiven<'a> {
     pub vendor: Option<&'a str>,
 }
 
-/// What is given, or else what is said; nothing is the empty text.
+/// What is given, otherwise what is said; nothing is the empty text.
 pub(crate) fn word_of<'p, 'a: 'p>(
     arena: &'p Bump,
     given: Option<&str>,

@@ -72,7 +72,7 @@ fn frame<'p, 'a: 'p>(
 
 /// The page of a level with all levels below it, in HTML: a complete page, or what stands in its body.
 ///
-/// An error comes where an allocation failed, and else only where a text may not stand on a page in HTML.
+/// An error comes where an allocation failed, and otherwise only where a text may not stand on a page in HTML.
 #[tactic(auto, using(crate::proofs::Failing::failing_html, crate::proofs::Failing::permitted_html))]
 pub fn html_page_of<'p, 'a: 'p, A: Allocator + Copy>(
     alloc: A,

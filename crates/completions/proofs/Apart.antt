@@ -1,4 +1,4 @@
--- What two programs' scripts leave behind has two names.
+-- What the scripts of two programs define has two names.
 use Rattle.std.proofs.Common.{◌≡◌, ℕ, ◌/◌, ◌%◌, ◌<◌, Bool, true, false, cond, ◌⊎◌, All, List, [], ◌∷◌, ◌++◌, drop, refl, sym, ap, ◌∙◌, arith, inl, inr}
 use Rattle.std.specs.Char.{digit_char, is_ascii_alphanumeric}
 use Rattle.std.proofs.lemmas.Bool.{false≢true}
@@ -22,7 +22,7 @@ kinds : (t : Bool) → (t ≡ true) ⊎ (t ≡ false)
 kinds true = inl refl
 kinds false = inr refl
 
--- ---- the tag of a name that begins with a byte, and what stands behind it
+-- ---- the tag of a name that begins with a byte, and what follows it
 
 abbrev digits : (b : ℕ) → List ℕ → List ℕ
 digits b rest = 95 ∷ digit_char (b / 16) ∷ digit_char (b % 16) ∷ rest
@@ -52,7 +52,7 @@ no_suffix b bs v w small (inr more) e = elim (kinds (is_ascii_alphanumeric b)) [
 
 -- ---- names with one tag
 
--- what two tags are of two bytes and what stands behind them
+-- two tags with what follows them are the same only where their first bytes are
 first_same : (x y : ℕ) (xs ys v w : List ℕ) → IsByte x → IsByte y → tag (x ∷ xs) ++ v ≡ tag (y ∷ ys) ++ w → (x ≡ y) × (tag xs ++ v ≡ tag ys ++ w)
 first_same x y xs ys v w small short e = elim (kinds (is_ascii_alphanumeric x)) [
   | inl h ↦ elim (kinds (is_ascii_alphanumeric y)) [

@@ -16,7 +16,7 @@ use Rattle.completions.specs.Written.{Writes, data_text}
 use Rattle.completions.specs.declared.shells.Shell.{Shell}
 use Rattle.completions.proofs.Writing.{put_next, put_none, writes_as, writes_none, writes_then}
 
--- ---- options, choices and positional values, and commands behind them
+-- ---- options, choices and positional values, and commands after them
 
 abbrev option_rows : List Opt → List EntrySaid
 option_rows os = options_entries (map opt_said os)
@@ -27,7 +27,7 @@ choice_rows cs = choices_entries (map choice_said cs)
 abbrev place_rows : List Positional → List EntrySaid
 place_rows ps = places_entries (map positional_said ps)
 
--- behind what stands in front
+-- after what stands in front
 put_members : {A : Type 0} (sh : Shell) (front : List EntrySaid) (os us : List Opt) (cs ds : List (Choice A)) (ps qs : List Positional) (more : List EntrySaid) (s0 s1 s2 s3 s4 s5 : List ℕ) → os ≡ us → cs ≡ ds → ps ≡ qs
     → Writes sh s0 s1 front → Writes sh s1 s2 (option_rows os) → Writes sh s2 s3 (choice_rows cs) → Writes sh s3 s4 (place_rows ps) → Writes sh s4 s5 more → Writes sh s0 s5 (front ++ option_rows us ++ choice_rows ds ++ place_rows qs ++ more)
 put_members sh front os us cs ds ps qs more s0 s1 s2 s3 s4 s5 io ic ip h1 h2 h3 h4 h5 =
@@ -90,7 +90,7 @@ table_put sh name helps inside program top end s0 s1 s2 s3 s4 s5 is1 is2 is3 h1 
     let w4 = writes_then sh s2 s3 s4 (mark (codes "level") ∷ []) inside (writes_as sh s2 s3 top (mark (codes "level")) is2 h3) h4 in
     writes_then sh s0 s4 s5 ((first ∷ helps) ++ (mark (codes "level") ∷ inside)) (mark (codes "end") ∷ []) (writes_then sh s0 s2 s4 (first ∷ helps) (mark (codes "level") ∷ inside) w2 w4) (writes_as sh s4 s5 end (mark (codes "end")) is3 h5)
 
--- ---- one of a list behind those before it
+-- ---- one of a list after those before it
 
 module _ {A : Type 0} (sh : Shell) (items : List (Group A)) (i : ℕ) where
   abbrev in_groups : List (Group A) → List EntrySaid

@@ -79,7 +79,7 @@ word_read sh words word rest =
     ∙ ap (λ r. steps sh r (codes "'")) (letters_read sh words [] word)
     ∙ closed sh words word)
 
--- a word and the blank behind it
+-- a word and the blank after it
 next_read : (sh : Shell) (words : List (List ℕ)) (word rest : List ℕ) → steps sh (between words) (quoted sh word ++ (codes " " ++ rest)) ≡ steps sh (between (words ++ word ∷ [])) rest
 next_read sh words word rest = word_read sh words word (codes " " ++ rest) ∙ ap (λ r. steps sh r rest) (parted sh words word)
 

@@ -18,7 +18,7 @@ pub words_read_of :
     × (read shell.Fish (codes "'it\\'s \\\\ \\n' \\\n''") ≡ Some (codes "it's \\ \\n" ∷ [] ∷ []))
 words_read_of = (refl, refl, refl)
 
--- a word without quotes, one that has no end, a command that ends, and a quote behind a backslash between two words
+-- a word without quotes, one that has no end, a command that ends, and a quote after a backslash between two words
 pub nothing_read_of :
     (read shell.Bash (codes "'a' $b") ≡ None)
     × (read shell.Zsh (codes "'a' 'b") ≡ None)

@@ -1,4 +1,4 @@
--- Entries behind one another.
+-- Entries one after another.
 use Rattle.std.proofs.Common.{◌≡◌, ℕ, cond, List, [], ◌∷◌, ◌++◌, Result, Ok, Err, OnOk, sym, ap, ◌∙◌, append_assoc, append-nil}
 use Rattle.std.proofs.lemmas.List.Concat.{flat_map-append}
 use Rattle.completions.specs.Content.{EntrySaid}
@@ -34,11 +34,11 @@ put_next sh out new whole all one rest parts w so_far =
 pub put_none : (sh : Shell) (out whole : List ℕ) (all : List EntrySaid) → all ≡ [] → out ++ data_text sh all ≡ whole → out ≡ whole
 put_none sh out whole all none so_far = sym (append-nil out) ∙ ap (λ es. out ++ data_text sh es) (sym none) ∙ so_far
 
--- a text behind others
+-- a text after others
 pub behind_this : (r s t y x : List ℕ) → s ≡ r ++ y → t ≡ s ++ x → t ≡ r ++ (y ++ x)
 behind_this r s t y x h1 h2 = h2 ∙ ap (λ u. u ++ x) h1 ∙ append_assoc r y x
 
--- the words of an entry, one behind another
+-- the words of an entry, one after another
 pub entry_put : (sh : Shell) (e : EntrySaid) (s0 s1 s2 s3 s4 s5 s6 s7 s8 s9 : List ℕ) → s1 ≡ s0 ++ codes "    " → s2 ≡ s1 ++ quoted sh e.what → s3 ≡ s2 ++ codes " " → s4 ≡ s3 ++ quoted sh e.text
     → s5 ≡ s4 ++ codes " " → s6 ≡ s5 ++ quoted sh e.hint → s7 ≡ s6 ++ codes " " → s8 ≡ s7 ++ quoted sh e.help → s9 ≡ s8 ++ line_end sh → Writes sh s0 s9 (e ∷ [])
 entry_put sh e s0 s1 s2 s3 s4 s5 s6 s7 s8 s9 h1 h2 h3 h4 h5 h6 h7 h8 h9 =

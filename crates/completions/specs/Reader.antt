@@ -1,4 +1,4 @@
--- What a shell reads of quoted words, by its manual. All else than quoted words is nothing that this reads.
+-- What a shell reads of quoted words, by its manual. Nothing but quoted words is read.
 use Rattle.std.specs.Prelude.{ℕ, Bool, List, [], ◌∷◌, ◌++◌, ◌==◌, ◌||◌, Option, Some, None, if◌then◌else◌}
 use Rattle.completions.specs.declared.shells.Shell.{Shell}
 use Rattle.completions.specs.declared.shells.Shell.TheVariants as shell
@@ -7,9 +7,9 @@ use Rattle.completions.specs.declared.shells.Shell.TheVariants as shell
 pub data Reading : Type 0 where
   between : (words : List (List ℕ)) → Reading
   quoted : (words : List (List ℕ)) → (word : List ℕ) → Reading
-  -- behind a quote that ended
+  -- after a quote that ended
   ended : (words : List (List ℕ)) → (word : List ℕ) → Reading
-  -- behind a backslash: within a word, and between two
+  -- after a backslash: within a word, and between two
   slashed : (words : List (List ℕ)) → (word : List ℕ) → Reading
   continued : (words : List (List ℕ)) → Reading
   failed : Reading
@@ -26,7 +26,7 @@ is_blank b = b == 32
 abbrev pub is_newline : ℕ → Bool
 is_newline b = b == 10
 
--- bash and zsh, within the brackets of an array: between quotes each character is itself; a word goes on behind `\'`,
+-- bash and zsh, within the brackets of an array: between quotes each character is itself; a word goes on after `\'`,
 -- which is a quote, and blanks and newlines end it
 abbrev pub array_step : Reading → ℕ → Reading
 array_step (between words) b =

@@ -1,4 +1,4 @@
--- A script: the program of its shell, which is the same for each description but for a name, and the table as data
+-- A script: the program of its shell, which is the same for each description except for a name, and the table as data
 -- within it.
 use Rattle.std.specs.Prelude.{ℕ, ◌/◌, ◌%◌, ◌<◌, ◌⊎◌, All, List, [], ◌∷◌, ◌++◌, ◌≡◌, ◌==◌, ◌||◌, codes, flat_map, Bool, Some, if◌then◌else◌}
 use Rattle.std.specs.Char.{digit_char, is_ascii_alphanumeric}
@@ -10,9 +10,9 @@ use Rattle.completions.specs.declared.programs.TheConstants.{BASH_HEAD, BASH_TAI
 use Rattle.completions.specs.declared.shells.Shell.{Shell}
 use Rattle.completions.specs.declared.shells.Shell.TheVariants as shell
 
--- ---- the name of what a script leaves behind
+-- ---- the name of what a script defines
 
--- of each byte of the program's name that is no ASCII letter or digit the two hex digits behind `_`
+-- a byte of the program's name that is not an ASCII letter or digit becomes `_` and two hex digits
 abbrev pub tag_byte : ℕ → List ℕ
 tag_byte b = if is_ascii_alphanumeric b then b ∷ [] else 95 ∷ digit_char (b / 16) ∷ digit_char (b % 16) ∷ []
 
@@ -48,7 +48,7 @@ tail shell.Bash = BASH_TAIL.now
 tail shell.Zsh = ZSH_TAIL.now
 tail shell.Fish = FISH_TAIL.now
 
--- what stands before the data, and behind it
+-- what stands before and after the data
 abbrev pub before_data : Shell → (name : List ℕ) → List ℕ
 before_data sh name = first_line sh name ++ tagged (tag name) (head sh)
 
@@ -63,7 +63,7 @@ pub record IsScript (sh : Shell) (d : DescriptionSaid) (script : List ℕ) : Typ
 
 -- ---- two scripts
 
--- a script leaves behind what is called so, with nothing behind the tag, or `__` and a word
+-- what a script defines is called so, with nothing after the tag, or with `__` and a word
 abbrev pub IsSuffix : List ℕ → Type 0
 IsSuffix suffix = (suffix ≡ []) ⊎ ((word : List ℕ) × (suffix ≡ codes "__" ++ word))
 
@@ -73,7 +73,7 @@ left_behind name suffix = codes "_clidoc_" ++ (tag name ++ suffix)
 abbrev pub IsByte : ℕ → Type 0
 IsByte b = b < 256
 
--- those of two programs leave nothing behind that has one name
+-- the scripts of two programs define nothing under one name
 abbrev pub ScriptsDoNotMeet : Type 0
 ScriptsDoNotMeet =
     (a b v w : List ℕ) → All IsByte a → All IsByte b → IsSuffix v → IsSuffix w → left_behind a v ≡ left_behind b w → a ≡ b

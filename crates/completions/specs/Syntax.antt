@@ -1,5 +1,5 @@
 -- The syntax of an option: what of it are names, and how the value is given. Its words are what blanks, commas and bars
--- outside brackets part.
+-- outside brackets separate.
 use Rattle.std.specs.Prelude.{codes, ℕ, suc, ◌-◌, List, [], ◌∷◌, ◌++◌, ◌==◌, drop, take, Bool, true, false, not, ◌&&◌, ◌||◌, if◌then◌else◌, Option, Some, None}
 use Rattle.std.specs.List.{list_any, onto_first, prefix_len, starts_with}
 use Rattle.completions.specs.declared.syntax.How.{How}
@@ -28,11 +28,11 @@ is_dash b = b == 45
 
 -- ---- words
 
--- how deep in brackets a place is behind a byte. A closing one without an opening one counts for nothing
+-- how deep in brackets a place is after a byte. A closing one without an opening one is ignored
 abbrev pub depth_behind : (depth : ℕ) → ℕ → ℕ
 depth_behind depth b = if is_opening b then suc depth else if is_closing b then depth - 1 else depth
 
--- a byte is left out where the text is cut, and else it belongs to the first word
+-- a byte is left out where the text is cut, otherwise it belongs to the first word
 abbrev pub onto_words : (is_cut : Bool) → ℕ → List (List ℕ) → List (List ℕ)
 onto_words true b ws = [] ∷ ws
 onto_words false b ws = onto_first b ws
@@ -44,7 +44,7 @@ words_in depth (b ∷ bs) = onto_words (is_gap b && depth == 0) b (words_in (dep
 abbrev pub syntax_words : List ℕ → List (List ℕ)
 syntax_words text = words_in 0 text
 
--- ---- a word: a name and what stands behind it
+-- ---- a word: a name and what follows it
 
 abbrev pub is_of_name : ℕ → Bool
 is_of_name b = not (ends_name b)
@@ -55,7 +55,7 @@ front word = take (prefix_len is_of_name word) word
 abbrev pub behind : List ℕ → List ℕ
 behind word = drop (prefix_len is_of_name word) word
 
--- a byte that is no dash
+-- a byte that is not a dash
 abbrev pub has_letter : List ℕ → Bool
 has_letter = list_any (λ b. not (is_dash b))
 
@@ -67,7 +67,7 @@ has_form_of_name (b ∷ run) = is_dash b && has_letter (b ∷ run)
 abbrev pub named : List ℕ → Option (List ℕ × List ℕ)
 named word = if has_form_of_name (front word) then Some (front word, behind word) else None
 
--- what stands behind `--[no-]`, where it is a name with and without `no-`
+-- what follows `--[no-]`, where it is a name with and without `no-`
 abbrev pub negation : List ℕ
 negation = codes "--[no-]"
 
@@ -88,7 +88,7 @@ names_or (Some word) others = word.0 ∷ []
 abbrev pub word_names : List ℕ → List (List ℕ)
 word_names word = names_or (named word) (negated_names (negated word))
 
--- what stands behind the name; all of a word without one
+-- what follows the name; all of a word without one
 abbrev pub tail_or : Option (List ℕ × List ℕ) → List ℕ → List ℕ
 tail_or None other = other
 tail_or (Some word) other = word.1
@@ -98,7 +98,7 @@ word_tail word = tail_or (named word) (tail_or (negated word) word)
 
 -- ---- how the value is given
 
--- in brackets it may be left out, and then stands behind `=` alone; else behind `=`, or as a word of its own
+-- in brackets it may be left out, and then only follows `=`; otherwise it follows `=`, or is a word of its own
 abbrev pub tail_how : List ℕ → How
 tail_how [] = how.Flag
 tail_how (b ∷ tail) = if b == 91 then how.Optional else if b == 61 then how.Value else how.Word

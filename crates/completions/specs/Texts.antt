@@ -29,6 +29,6 @@ paragraph_in (Some text) = option_map paragraph_text (first_paragraph (text_bloc
 abbrev pub help_text : Option (List ℕ) → List ℕ
 help_text help = unwrap_or (paragraph_in help) []
 
--- of a command: that of its help, or else of what is said about it
+-- of a command: that of its help, otherwise of what is said about it
 abbrev pub command_help : (help about : Option (List ℕ)) → List ℕ
 command_help help about = unwrap_or (paragraph_in help) (help_text about)

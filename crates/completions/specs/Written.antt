@@ -4,11 +4,11 @@ use Rattle.completions.specs.Content.{EntrySaid}
 use Rattle.completions.specs.declared.shells.Shell.{Shell}
 use Rattle.completions.specs.declared.shells.Shell.TheVariants as shell
 
--- a quote ends in an array, and goes on behind one that stands alone
+-- in an array, a quote is written as the end of the quotes, a quote after a backslash, and a new beginning
 abbrev pub array_letter : ℕ → List ℕ
 array_letter b = if b == 39 then codes "'\\''" else b ∷ []
 
--- a quote and a backslash stand behind a backslash
+-- a quote and a backslash are written after a backslash
 abbrev pub command_letter : ℕ → List ℕ
 command_letter b = if b == 39 then codes "\\'" else if b == 92 then codes "\\\\" else b ∷ []
 
@@ -36,6 +36,6 @@ entry_text sh e =
 abbrev pub data_text : Shell → List EntrySaid → List ℕ
 data_text sh entries = flat_map (entry_text sh) entries
 
--- a text with these entries behind what was there
+-- a text with these entries after what was there
 abbrev pub Writes : Shell → (old new : List ℕ) → List EntrySaid → Type 0
 Writes sh old new entries = new ≡ old ++ data_text sh entries

@@ -68,7 +68,7 @@ fn push_quoted<A: Allocator>(
     out.push_str("'")
 }
 
-/// Puts an entry behind what is written. After `AllocError` some of it may stand there.
+/// Appends an entry. After `AllocError` some of it may be there.
 pub fn push_entry<A: Allocator>(
     out: &mut String<A>,
     shell: Shell,

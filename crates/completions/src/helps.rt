@@ -95,7 +95,7 @@ pub fn help_text<'p>(arena: &'p Bump, help: Option<&'p str>) -> Result<String<&'
     }
 }
 
-/// That of the help of a command, or else of what is said about it. An error comes only where an allocation failed.
+/// That of the help of a command, else of what is said about it. An error comes only where an allocation failed.
 pub fn command_help<'p>(
     arena: &'p Bump,
     help: Option<&'p str>,

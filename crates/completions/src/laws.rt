@@ -1,7 +1,7 @@
 //! Laws of the definitions that the contract cites: nothing to call, but statements that the check proves.
 ghost use Rattle.completions.specs.Scripts.{ScriptsDoNotMeet};
 
-/// The scripts of two programs leave nothing behind that has one name.
+/// The scripts of two programs define nothing under one name.
 pub fn scripts_do_not_meet()
     ensures { ScriptsDoNotMeet }
 {}

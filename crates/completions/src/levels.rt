@@ -207,7 +207,7 @@ fn push_command<'p, 'a: 'p, C: Allocator>(
     push_entry(out, shell, Entry::mark("end"))
 }
 
-/// Puts the whole table of a description. After `AllocError` some of it may stand there.
+/// Appends the whole table of a description. After `AllocError` some of it may be there.
 pub fn push_table<'p, 'a: 'p, C: Allocator>(
     arena: &'p Bump,
     out: &mut Script<'p>,

@@ -153,7 +153,7 @@ fn times(is_repeated: bool) -> &'static str
     if is_repeated { "many" } else { "once" }
 }
 
-/// Puts options. After `AllocError` some may stand there.
+/// Appends options. After `AllocError` some of them may be there.
 pub fn push_options<'p>(
     arena: &'p Bump,
     out: &mut Script<'p>,
@@ -194,7 +194,7 @@ fn push_members<'p>(
     Ok(())
 }
 
-/// Puts the options of choices. After `AllocError` some may stand there.
+/// Appends the options of choices. After `AllocError` some of them may be there.
 pub fn push_choices<'p, 'a: 'p, C: Allocator>(
     arena: &'p Bump,
     out: &mut Script<'p>,
@@ -242,7 +242,7 @@ fn push_place<A: Allocator>(
     push_values(out, shell, positional.values)
 }
 
-/// Puts positional values. After `AllocError` some may stand there.
+/// Appends positional values. After `AllocError` some of them may be there.
 pub fn push_places<A: Allocator>(
     out: &mut String<A>,
     shell: Shell,
@@ -257,7 +257,7 @@ pub fn push_places<A: Allocator>(
     Ok(())
 }
 
-/// Puts files, as of a positional value that may be given many times. After `AllocError` some of it may stand there.
+/// Appends files, as of a positional value that may be given many times. After `AllocError` some of it may be there.
 pub fn push_files<A: Allocator>(out: &mut String<A>, shell: Shell) -> Result<(), AllocError>
     ensures { OnOk result (Writes shell (string_bytes out.old) (string_bytes out.new) (files ∷ [])) }
 {

@@ -1,4 +1,4 @@
-//! The fixed programs of the shells, in which a backquote stands for the name of what a script leaves behind.
+//! The fixed programs of the shells, in which a backquote stands for the name of what a script defines.
 //!
 //! None of them has its shell read a word of the data a second time: there is no `eval`, no `compgen -W`, and no text
 //! of the data in the `-a` of a `complete`.
@@ -314,7 +314,7 @@ _clidoc_`() {
 _clidoc_`__table=(
 "##;
 
-/// What stands behind it.
+/// What stands after it.
 pub const BASH_TAIL: &str = r##")
 
 complete -F _clidoc_` -- "${_clidoc_`__table[1]}"
@@ -570,7 +570,7 @@ typeset -ga _clidoc_`__table
 _clidoc_`__table=(
 "##;
 
-/// What stands behind it.
+/// What stands after it.
 pub const ZSH_TAIL: &str = r##")
 
 if [[ $funcstack[1] == _* ]]; then
@@ -894,7 +894,7 @@ end
 set -g _clidoc_`__table \
 "##;
 
-/// What stands behind it.
+/// What stands after it.
 pub const FISH_TAIL: &str = r##"
 complete -c (string escape -- $_clidoc_`__table[2]) -e
 complete -c (string escape -- $_clidoc_`__table[2]) -f -a '(_clidoc_`__offer)'

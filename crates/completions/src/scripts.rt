@@ -12,7 +12,7 @@ use bumpalo::Bump;
 use description::Description;
 use std::alloc::{AllocError, Allocator};
 
-// ---- the name of what a script leaves behind
+// ---- the name of what a script defines
 
 fn hex_digit(value: u8) -> char
     requires { value < 16 }
@@ -87,7 +87,7 @@ fn push_piece<A: Allocator>(out: &mut String<A>, piece: &str, tag: &str) -> Resu
     out.push_str(tag)
 }
 
-// Puts a text in which a backquote stands for the tag.
+// Appends a text in which a backquote stands for the tag.
 fn push_tagged<A: Allocator>(out: &mut String<A>, tag: &str, text: &str) -> Result<(), AllocError>
     ensures { OnOk result (string_bytes out.new ≡ string_bytes out.old ++ tagged tag.now text.now) }
 {
@@ -121,7 +121,7 @@ fn push_tail<A: Allocator>(out: &mut String<A>, shell: Shell, tag: &str) -> Resu
 }
 
 /// The script that completes the command line of a description in a shell. What the shell reads of the data in it is,
-/// word by word, the table of the description's completions; all else is the same for every description, but for a
+/// word by word, the table of the description's completions; all else is the same for every description, except for a
 /// name made of the program's. An error comes only where an allocation failed.
 pub fn completion_script<'p, 'a: 'p, C: Allocator>(
     arena: &'p Bump,

@@ -26,7 +26,7 @@ impl Shell {
         }
     }
 
-    /// What stands behind it.
+    /// What stands after it.
     pub fn tail(self) -> &'static str
         ensures { result.now ≡ tail self }
     {

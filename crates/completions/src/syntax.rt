@@ -13,7 +13,7 @@ use crate::entries::{Entry, push_entry};
 use crate::shells::Shell;
 use std::alloc::{AllocError, Allocator};
 
-/// How the value of an option is given: not at all, behind `=` or a blank, behind a blank, or behind `=` alone.
+/// How the value of an option is given: not at all, after `=` or a blank, after a blank, or only after `=`.
 #[derive(Clone, Copy)]
 pub enum How {
     Flag,
@@ -100,7 +100,7 @@ fn first_gap(bytes: &[u8]) -> Option<usize>
     None
 }
 
-// The first word, where others are behind it, and what stands there.
+// The first word, where others follow it, and what follows.
 fn split_word(text: &str) -> Option<(&str, &str)>
     ensures words { MatchOption result (syntax_words text.now ≡ text.now ∷ [])
         (λ p. syntax_words text.now ≡ p.0.now ∷ syntax_words p.1.now) }
@@ -123,7 +123,7 @@ fn front_len(bytes: &[u8]) -> usize
     bytes.len()
 }
 
-// What of a word may be a name, and what stands behind it.
+// What of a word may be a name, and what follows it.
 fn split_front(word: &str) -> (&str, &str)
     ensures front { result.0.now ≡ front word.now }
     ensures behind { result.1.now ≡ behind word.now }
@@ -146,7 +146,7 @@ fn has_form_of_name(run: &[u8]) -> bool
     }
 }
 
-// The name that a word begins with, and what stands behind it.
+// The name that a word begins with, and what follows it.
 fn named(word: &str) -> Option<(&str, &str)>
     ensures { MatchOption result (named word.now ≡ None) (λ p. named word.now ≡ Some (p.0.now, p.1.now)) }
 {
@@ -198,7 +198,7 @@ fn push_word<A: Allocator>(out: &mut String<A>, shell: Shell, word: &str) -> Res
     }
 }
 
-/// Puts the names of a syntax. After `AllocError` some may stand there.
+/// Appends the names of a syntax. After `AllocError` some of them may be there.
 pub fn push_syntax<A: Allocator>(
     out: &mut String<A>,
     shell: Shell,

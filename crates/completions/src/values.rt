@@ -1,4 +1,4 @@
-//! The values that there may be.
+//! The possible values.
 ghost use Rattle.std.specs.Prelude.{◌≡◌, codes, map, OnOk, string_bytes};
 ghost use Rattle.description.specs.Values.{listed_values};
 ghost use Rattle.description.specs.View.{text_of};
@@ -26,7 +26,7 @@ fn push_listed<A: Allocator>(
     push_entry(out, shell, Entry::lone("among", rest))
 }
 
-/// Puts the values that there may be. After `AllocError` some may stand there.
+/// Appends the possible values. After `AllocError` some of them may be there.
 pub fn push_values<A: Allocator>(
     out: &mut String<A>,
     shell: Shell,

@@ -1,4 +1,4 @@
--- A level that stands behind another on its page.
+-- A level that follows another on its page.
 use Rattle.std.proofs.Common.{◌≡◌, List, [], ◌∷◌, ◌++◌, ap, ◌∙◌, append_assoc}
 use Rattle.page_model.specs.Content.{PartSaid, heading}
 use Rattle.page_model.specs.declared.parts.Rank.TheVariants.{Page}

@@ -67,7 +67,7 @@ each_level_has_its_chapter fixed s = ap (λ x. at fixed s ∷ x) (on_level fixed
 
 -- ---- a chapter that is pushed
 
--- behind another
+-- after another
 abbrev behind : WordsSaid → SubjectSaid → ChapterSaid
 behind fixed s = chapter_with fixed s (chapters_on fixed s s.level)
 

@@ -1,4 +1,4 @@
--- The lists of a level, of what is pushed one behind the other.
+-- The lists of a level, of what is pushed one after another.
 use Rattle.std.proofs.Common.{◌≡◌, ℕ, List, [], ◌++◌, map, append_assoc, ap, ◌∙◌, sym, arith}
 use Rattle.description.specs.Content.{OptSaid}
 use Rattle.description.specs.View.{choice_said, commands_said, group_said, groups_said, level_said, opt_said, positional_said}

@@ -1,4 +1,4 @@
--- Blocks that are put one behind the other.
+-- Blocks that are put one after another.
 use Rattle.std.proofs.Common.{◌≡◌, List, [], ◌∷◌, ◌++◌, map, refl, sym, ap, ◌∙◌}
 use Rattle.std.proofs.lemmas.List.{map-append}
 use Rattle.page_model.specs.Content.{BlockSaid}

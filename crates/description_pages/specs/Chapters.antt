@@ -14,7 +14,7 @@ use Rattle.description_pages.specs.declared.sections.Detail.TheVariants.{Full}
 abbrev pub last_name : List (List ℕ) → List ℕ
 last_name names = get_or names (length names - 1) []
 
--- what stands behind `about`; there are no pages beside this one, and so no references to them
+-- what follows `about`; there are no pages beside this one, and so no references to them
 abbrev pub parts_behind : WordsSaid → PageSaid → List PartSaid
 parts_behind fixed said = in_order Section fixed (record said { about = [] })
 
@@ -51,7 +51,7 @@ abbrev mutual
 abbrev pub chapter_from : WordsSaid → SubjectSaid → ChapterSaid
 chapter_from fixed s = chapter_with fixed s (chapters_on fixed (in_short s) s.level)
 
--- what stands behind `about`
+-- what follows `about`
 abbrev pub parts_of : ChapterSaid → List PartSaid
 parts_of (chapter title name about parts lower) = parts
 

@@ -14,6 +14,6 @@ use Rattle.description.specs.Words.{WordsSaid}
 abbrev pub console_of : WordsSaid → Detail → SubjectSaid → List PartSaid
 console_of fixed detail subject = in_order Section fixed (page_of fixed detail Alone subject)
 
--- the names that lead there, with a blank between two, and what stands behind them
+-- the names that lead there, with a blank between two, and what follows them
 abbrev pub usage_of : WordsSaid → SubjectSaid → List FormSaid
 usage_of fixed subject = usage_forms fixed (joined_names (codes " ") subject.names) subject.level

@@ -1,4 +1,4 @@
--- What tells an entry apart in a list.
+-- What identifies an entry in a list.
 use Rattle.std.specs.Prelude.{ℕ, List, map, ◌==◌, bytes_eq, Bool, true, false, ◌&&◌, Option, Some, None}
 use Rattle.std.specs.Option.{option_map}
 use Rattle.page_model.specs.Content.{EntrySaid}

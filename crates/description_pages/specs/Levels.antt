@@ -47,7 +47,7 @@ commands_of (level texts required options choices below values subcommands) = su
 abbrev pub lower_pages : (names : List (List ℕ)) → LevelSaid → List (List ℕ)
 lower_pages names l = grouped_below names (groups_of l) ++ pages_below names (commands_of l)
 
--- the page above and those below, but where what is below stands on the page itself
+-- the page above and those below, unless what is below stands on the page itself
 abbrev pub neighbours : Depth → (names : List (List ℕ)) → LevelSaid → List (List ℕ)
 neighbours Alone names l = page_above names ++ lower_pages names l
 neighbours Deep names l = page_above names

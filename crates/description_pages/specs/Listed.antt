@@ -24,7 +24,7 @@ abbrev pub are_new : (before : List RowSaid) → List RowSaid → Bool
 are_new before [] = true
 are_new before (row ∷ rows) = not (has_key row.key before) && are_new (before ++ row ∷ []) rows
 
--- of rows with one key one is shown
+-- exactly one of the rows with one key is shown
 pub record AreShownOnce (rows shown : List RowSaid) : Type 0 where
   -- no two of those that are shown have one key
   pub distinct : are_new [] shown ≡ true
@@ -77,7 +77,8 @@ pub record EachKeyIsListedOnce : Type 0 where
       (level_rows fixed detail depth subject.names subject.help_options subject.level)
   pub once : (rows : List RowSaid) → AreShownOnce rows (each_once same_row rows)
 
--- each option that asks for help and is not hidden is shown among the options of each level, or one with its key before it
+-- each option that asks for help and is not hidden is shown among the options of each level, or one with its key is
+-- shown before it
 abbrev pub HelpOptionsAreListed : Type 0
 HelpOptionsAreListed =
     (fixed : WordsSaid) (detail : Detail) (subject : SubjectSaid) (before after : List OptSaid) (option : OptSaid)

@@ -26,7 +26,7 @@ name_parts fixed subject =
     heading_in Capitals Section fixed.name
     ∷ block (paragraph (name_line (page_name subject.names) (summary_of subject) ∷ [])) ∷ []
 
--- what NAME says is not said once more
+-- what NAME says is not said again
 abbrev pub without_summary : Line → PageSaid → PageSaid
 without_summary line said = record said { about = if is_summary line said.about then [] else said.about }
 
@@ -45,8 +45,8 @@ manual_of fixed subject =
     name_parts fixed subject
     ++ manual_order Section fixed (without_summary (summary_of subject) (with_references (page_of fixed Full Alone subject)))
 
--- A level that stands behind another on its page: its names, and all else one rank lower, without NAME and references. Of
--- SEE ALSO stay the topics that have its title.
+-- A level that follows another on its page: its names, and all else one rank lower, without NAME and references. Of SEE
+-- ALSO the topics stay that have its title.
 abbrev pub manual_below : WordsSaid → SubjectSaid → List PartSaid
 manual_below fixed subject =
     heading Page (page_of fixed Full Alone subject).title ∷ manual_order Subsection fixed (page_of fixed Full Alone subject)

@@ -13,7 +13,7 @@ use Rattle.description.specs.Words.{WordsSaid}
 abbrev pub markdown_of : WordsSaid → Depth → SubjectSaid → List PartSaid
 markdown_of fixed depth subject = in_order Section fixed (with_references (page_of fixed Full depth subject))
 
--- A level that stands behind another on its page: its names, and all else one rank lower, without references.
+-- A level that follows another on its page: its names, and all else one rank lower, without references.
 abbrev pub markdown_below : WordsSaid → SubjectSaid → List PartSaid
 markdown_below fixed subject =
     heading Page (page_of fixed Full Deep subject).title ∷ in_order Subsection fixed (page_of fixed Full Deep subject)

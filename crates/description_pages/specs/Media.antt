@@ -37,7 +37,7 @@ lists_of said = flat_map (λ section. list_of section.body) said.sections
 
 -- ---- law
 
--- Each medium shows the lists of a level, and no others, in their order: alone, behind another level, and in a chapter.
+-- Each medium shows the lists of a level, and no others, in their order: alone, after another level, and in a chapter.
 -- Where entries lead is not compared.
 abbrev pub MediaListTheSame : Type 0
 MediaListTheSame =

@@ -1,8 +1,8 @@
--- Of items with one key the first.
+-- The first of the items with one key.
 use Rattle.std.specs.Prelude.{◌≡◌, List, [], ◌∷◌, ◌++◌, Bool, if◌then◌else◌}
 use Rattle.std.specs.List.{list_any}
 
--- an item behind some others, if it is the same as none of these
+-- an item after some others, if it is not the same as any of these
 abbrev pub if_new : {X : Type 0} → (same : X → X → Bool) → (before : List X) → X → List X
 if_new same before x = if list_any (same x) before then [] else x ∷ []
 

@@ -85,11 +85,11 @@ all_from s = s ∷ subjects_below s
 abbrev pub name_only : OptSaid → OptSaid
 name_only o = record o { help = None; default = None; values = None; env = None }
 
--- a level whose page does not say once more what the options that ask for help do
+-- a level whose page does not say again what the options that ask for help do
 abbrev pub in_short : SubjectSaid → SubjectSaid
 in_short s = record s { help_options = map name_only s.help_options }
 
--- the levels below one as they stand behind it on its page, which says at the first what these options do
+-- the levels below one as they follow it on its page, which says at the first what these options do
 abbrev pub subjects_behind : SubjectSaid → List SubjectSaid
 subjects_behind s = subjects_below (in_short s)
 

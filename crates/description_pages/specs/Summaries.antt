@@ -32,7 +32,8 @@ one_line lines = without_stop (gathered (joined (codes " ") lines))
 abbrev pub summary : (help about : List BlockSaid) → Line
 summary help about = one_line (unwrap_or (first_paragraph (help ++ about)) [])
 
--- that of the help of a command, or else of what is said about it; of the application, which has no help, of the latter
+-- that of the help of a command, otherwise of what is said about it; of the application, which has no help, of the
+-- latter
 abbrev pub summary_of : SubjectSaid → Line
 summary_of subject = summary (given_blocks Full subject.help) (given_blocks Full (texts_of subject.level).about)
 

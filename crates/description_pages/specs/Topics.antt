@@ -11,9 +11,9 @@ use Rattle.description_pages.specs.declared.sections.Detail.{Detail}
 use Rattle.description_pages.specs.declared.topics.Place.{Place}
 use Rattle.description_pages.specs.declared.topics.Place.TheVariants.{Own, Notes, References}
 
--- ---- blocks behind one another
+-- ---- blocks after one another
 
--- a list goes on with a list
+-- a list after a list continues it
 abbrev pub together : BlockSaid → BlockSaid → List BlockSaid
 together (bullets items) (bullets more) = bullets (items ++ more) ∷ []
 together (bullets items) (paragraph lines) = bullets items ∷ paragraph lines ∷ []
@@ -32,7 +32,7 @@ merged blocks = fold and_block [] blocks
 
 -- ---- where a topic stands
 
--- two titles that are the same but for case
+-- two titles that are the same except for case
 abbrev pub same_title : List ℕ → List ℕ → Bool
 same_title title other = bytes_eq (str_to_uppercase (without_colon title)) (str_to_uppercase (without_colon other))
 

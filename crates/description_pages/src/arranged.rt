@@ -46,7 +46,7 @@ fn title_in<'p>(titles: Titles<'p>, title: &'p str) -> Result<&'p str, AllocErro
     }
 }
 
-/// Puts a title.
+/// Appends a title.
 pub fn push_heading<'p>(
     titles: Titles<'p>,
     parts: &mut ArenaParts<'p>,
@@ -72,7 +72,7 @@ fn push_blocks_as_parts<'p>(
     Ok(())
 }
 
-/// Puts blocks under a title, unless there are none.
+/// Appends blocks under a title, unless there are none.
 pub fn push_titled<'p>(
     titles: Titles<'p>,
     parts: &mut ArenaParts<'p>,
@@ -103,7 +103,7 @@ fn push_usage<'p>(
     Ok(())
 }
 
-/// Puts a usage under a title, unless it has no form.
+/// Appends a usage under a title, unless it has no form.
 pub fn push_titled_usage<'p>(
     titles: Titles<'p>,
     parts: &mut ArenaParts<'p>,
@@ -159,7 +159,7 @@ fn push_sections<'p>(
     Ok(())
 }
 
-/// Puts the lists, the topics and the notes, and what stands with the references.
+/// Appends the lists, the topics and the notes, and what stands with the references.
 pub fn push_titled_parts<'p>(
     titles: Titles<'p>,
     words: &FixedWords<'p>,
@@ -175,7 +175,7 @@ pub fn push_titled_parts<'p>(
     push_titled(titles, parts, words.see_also, see_also)
 }
 
-/// Puts a page in its own order, the usage without a title.
+/// Appends a page in its own order, the usage without a title.
 pub fn push_in_order<'p>(
     arena: &'p Bump,
     words: &FixedWords<'p>,

@@ -154,10 +154,9 @@ fn push_command<'p, 'a: 'p, C: Allocator>(
     Ok(())
 }
 
-/// The level with all levels below it that are not hidden, in the order of `all_from`, as a tree. Each has what is
-/// said about it, and behind that its usage, its header, lists, topics and notes; entries of commands lead to headings.
-/// Of the options that ask for help those below have the names alone.
-/// An error comes only where an allocation failed.
+/// The level with all levels below it that are not hidden, in the order of `all_from`, as a tree. Each has what is said
+/// about it, and after that its usage, its header, lists, topics and notes; entries of commands lead to headings. Of
+/// the options that ask for help the levels below have the names alone. An error comes only where an allocation failed.
 pub fn chapter<'p, 'a: 'p, C: Allocator>(
     arena: &'p Bump,
     words: &'p FixedWords<'p>,

@@ -1,4 +1,4 @@
-//! What tells an entry apart in a list, and each entry once.
+//! What identifies an entry in a list, and each entry once.
 ghost use Rattle.std.specs.Prelude.{◌≡◌, IfOk, map};
 ghost use Rattle.page_model.specs.View.{entry_of};
 ghost use Rattle.description.specs.View.{command_said, opt_said, positional_said};
@@ -11,7 +11,7 @@ use description::{Command, Name, Opt, Positional, Spelling};
 use description_usage::ArenaEntry;
 use std::alloc::{AllocError, Allocator};
 
-/// What tells an entry apart in a list.
+/// What identifies an entry in a list.
 #[derive(Clone, Copy, Debug, PartialEq, Eq, PartialOrd, Ord)]
 pub enum EntryKey<'a> {
     /// The names of an option, and the word for its value.
@@ -51,7 +51,7 @@ pub fn command_key<A: Allocator>(command: &Command<'_, A>) -> EntryKey<'static>
     EntryKey::Command(command.name)
 }
 
-/// Of entries with one key the first, in order.
+/// The first of the entries with one key, in order.
 pub fn entries_once<'p, A: Allocator>(
     arena: &'p Bump<A>,
     rows: Vec<Row<'p, A>, &'p Bump<A>>,

@@ -4,26 +4,26 @@ ghost use Rattle.description_pages.specs.Listed.{EachKeyIsListedOnce, HelpOption
 ghost use Rattle.description_pages.specs.Media.{MediaListTheSame};
 ghost use Rattle.description_pages.specs.Subjects.{EachCommandIsThere};
 
-/// Of the levels below one, none is missing: where there is one, each command on it stands there too, and what is below
-/// that, if no page has to hide it.
+/// Of the levels below one, none is missing: with each level, each command on it is there too, and what is below that,
+/// unless it is hidden.
 pub fn each_command_is_there()
     ensures { EachCommandIsThere }
 {}
 
-/// Each level from one on that no page has to hide has its chapter, in the order of `all_from`, and there is no other. What
-/// the options do that ask for help is said in the first alone.
+/// Each level from one on that is not hidden has its chapter, in the order of `all_from`, and there is no other. What
+/// the options that ask for help do is said in the first alone.
 pub fn each_level_has_its_chapter()
     ensures { EachLevelHasItsChapter }
 {}
 
-/// A level shows the same lists of entries in all media, and no others, in one order, on a page of its own, behind
+/// A level shows the same lists of entries in all media, and no others, in one order, on a page of its own, after
 /// another level and as a chapter.
 pub fn media_list_the_same()
     ensures { MediaListTheSame }
 {}
 
-/// Each list of a page has the entries of the rows of its level, in order: of those with one key one, and none of any other
-/// key. There is no other list.
+/// Each list of a page has the entries of the rows of its level, in order: one of those with one key, and none with any
+/// other key. There is no other list.
 pub fn each_key_is_listed_once()
     ensures { EachKeyIsListedOnce }
 {}

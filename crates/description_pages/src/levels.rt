@@ -15,7 +15,7 @@ use description_usage::usage_forms;
 use page_model::{Block, Form};
 use std::alloc::{AllocError, Allocator};
 
-/// What stands on the page of a level: it alone, or behind it the levels below, too.
+/// What stands on the page of a level: it alone, or after it also the levels below.
 #[derive(Clone, Copy, Debug, PartialEq, Eq)]
 pub enum Depth {
     Alone,
@@ -84,8 +84,8 @@ fn push_notes<'p, 'a: 'p, C: Allocator>(
 }
 
 /// The page of a level, made in an arena: each text in full, or its first block. Where the levels below stand on the
-/// same page, entries of commands lead to their headings, and no page below is named; else they lead to their pages.
-/// An error comes only where an allocation failed.
+/// same page, entries of commands lead to their headings, and no page below is named; otherwise they lead to their
+/// pages. An error comes only where an allocation failed.
 pub fn level_page<'p, 'a: 'p, C: Allocator>(
     arena: &'p Bump,
     words: &'p FixedWords<'p>,

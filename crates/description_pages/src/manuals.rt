@@ -59,7 +59,7 @@ fn push_name<'p>(
     Ok(())
 }
 
-// What NAME says is not said once more.
+// What NAME says is not said again.
 fn without_summary<'p>(
     arena: &'p Bump,
     summary: &[Inline<'p>],
@@ -88,7 +88,7 @@ fn capitals<'p>(arena: &'p Bump, rank: Rank) -> Titles<'p>
     }
 }
 
-// Blocks behind others, with one list for those that follow one another.
+// Blocks after others, with one list for lists that follow one another.
 fn merged<'p>(
     arena: &'p Bump,
     blocks: ArenaBlocks<'p, Global>,
@@ -103,7 +103,7 @@ fn merged<'p>(
     Ok(whole)
 }
 
-// Puts SYNOPSIS, DESCRIPTION, the sections and SEE ALSO.
+// Appends SYNOPSIS, DESCRIPTION, the sections and SEE ALSO.
 fn push_manual_order<'p>(
     arena: &'p Bump,
     words: &FixedWords<'p>,
@@ -123,9 +123,9 @@ fn push_manual_order<'p>(
 
 // ---- the pages
 
-/// The manual page of a level, but for its title line: NAME with the names, joined by `-`, and the summary of the help
-/// of the command, or else of what is said about the level; SYNOPSIS, DESCRIPTION, lists, topics and notes; and the
-/// pages above and below. An error comes only where an allocation failed.
+/// The manual page of a level, except its title line: NAME with the names, joined by `-`, and the summary of the help
+/// of the command, or otherwise of what is said about the level; SYNOPSIS, DESCRIPTION, lists, topics and notes; and
+/// the pages above and below. An error comes only where an allocation failed.
 pub fn manual<'p, 'a: 'p, C: Allocator>(
     arena: &'p Bump,
     words: &'p FixedWords<'p>,
@@ -146,9 +146,9 @@ pub fn manual<'p, 'a: 'p, C: Allocator>(
     Ok(parts)
 }
 
-/// Puts the page of a level that stands behind another: its names as a title, with a blank between two, and the rest
-/// one rank lower, without NAME and references. An error comes only where an allocation failed, and then some of it was
-/// put.
+/// Appends the page of a level that follows another: its names as a title, with a blank between two, and the rest one
+/// rank lower, without NAME and references. An error comes only where an allocation failed, and then some of it may
+/// have been appended.
 pub fn push_manual_below<'p, 'a: 'p, C: Allocator>(
     arena: &'p Bump,
     words: &'p FixedWords<'p>,

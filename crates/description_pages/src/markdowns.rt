@@ -14,9 +14,9 @@ use description::FixedWords;
 use page_model::{Part, Rank};
 use std::alloc::{AllocError, Allocator};
 
-/// The page of a level for markdown, but for its title: what is said about the level, its usage and its header; lists,
+/// The page of a level for markdown, except its title: what is said about the level, its usage and its header; lists,
 /// topics and notes; and the pages above and below. Entries of commands lead to their headings, where the levels below
-/// are to stand behind it, and else to their pages. An error comes only where an allocation failed.
+/// are to follow on the same page, otherwise to their pages. An error comes only where an allocation failed.
 pub fn markdown<'p, 'a: 'p, C: Allocator>(
     arena: &'p Bump,
     words: &'p FixedWords<'p>,
@@ -33,9 +33,9 @@ pub fn markdown<'p, 'a: 'p, C: Allocator>(
     Ok(parts)
 }
 
-/// Puts the page of a level that stands behind another: its names as a title, with a blank between two, and the rest
-/// one rank lower, without references. Entries of commands lead to headings. An error comes only where an allocation
-/// failed, and then some of it was put.
+/// Appends the page of a level that follows another: its names as a title, with a blank between two, and the rest one
+/// rank lower, without references. Entries of commands lead to headings. An error comes only where an allocation
+/// failed, and then some of it may have been appended.
 pub fn push_markdown_below<'p, 'a: 'p, C: Allocator>(
     arena: &'p Bump,
     words: &'p FixedWords<'p>,

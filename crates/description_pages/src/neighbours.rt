@@ -127,8 +127,8 @@ fn push_below<'p, A: Allocator, C: Allocator>(
     push_commands(arena, pages, names, level.commands.as_slice())
 }
 
-/// The names of the pages directly above and below the level that these names lead to. Those of its groups stand
-/// first. Where those below stand on the page of the level, the page above alone.
+/// The names of the pages directly above and below the level that these names lead to. Those of its groups come first.
+/// Where the levels below stand on the page of the level, only the page above.
 pub fn neighbours<'p, A: Allocator, C: Allocator>(
     arena: &'p Bump<A>,
     depth: Depth,

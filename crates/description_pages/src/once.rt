@@ -1,4 +1,4 @@
-//! Of items with one key the first.
+//! The first of the items with one key.
 ghost use Rattle.std.specs.Prelude.{◌≡◌, ◌++◌, ◌∷◌, [], if◌then◌else◌, IfOk, List, OnOk, map, not};
 ghost use Rattle.std.specs.List.{list_any};
 ghost use Rattle.description_pages.specs.Once.{each_once, HasSeen};
@@ -7,14 +7,14 @@ ghost use Rattle.description_pages.specs.declared.once.Keyed.{Keyed};
 use std::alloc::{AllocError, Allocator};
 use std::collections::BTreeSet;
 
-/// An item, and what tells it apart in a list.
+/// An item, and what identifies it in a list.
 #[derive(Drop)]
 pub struct Keyed<K, T> {
     pub key: K,
     pub item: T,
 }
 
-// Whether a key was not seen before. It is seen then.
+// Whether a key was not seen before. From then on it is.
 fn is_new<K: Ord + Drop, A: Allocator + Copy>(
     seen: &mut BTreeSet<K, A>,
     key: K,
@@ -38,7 +38,7 @@ fn push_if<T: Drop, A: Allocator>(
     Ok(())
 }
 
-/// Of items with one key the first, in order. Keys are compared about as often as a sort of them does.
+/// The first of the items with one key, in order. Keys are compared about as often as a sort of them does.
 pub fn each_once<K: Ord + Drop, T: Drop, A: Allocator + Copy>(
     alloc: A,
     rows: Vec<Keyed<K, T>, A>,

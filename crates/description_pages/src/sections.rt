@@ -87,7 +87,7 @@ pub fn without_colon(title: &str) -> &str
     without_last(title, ':').trim_end()
 }
 
-/// The blocks of a text that are shown, and none of no text.
+/// The blocks of a text that are shown; none where there is no text.
 pub fn given_blocks<'p>(
     arena: &'p Bump,
     detail: Detail,
@@ -247,7 +247,7 @@ fn push_commands<'p, 'a: 'p, C: Allocator>(
     Ok(())
 }
 
-// Puts a list under its title, unless it has no entries. Of entries with one key the first is shown.
+// Appends a list under its title, unless it has no entries. The first of the entries with one key is shown.
 fn push_list<'p>(
     arena: &'p Bump,
     sections: &mut ArenaSections<'p>,
@@ -313,7 +313,7 @@ fn push_arguments<'p, 'a: 'p, C: Allocator>(
     push_list(making.arena, sections, making.words.arguments, rows)
 }
 
-// The options that are in no group, and behind them those that ask for help.
+// The options that are in no group, and after them those that ask for help.
 fn push_own_options<'p, 'a: 'p, C: Allocator>(
     making: Making<'p>,
     sections: &mut ArenaSections<'p>,
@@ -345,7 +345,7 @@ fn push_own_commands<'p, 'a: 'p, C: Allocator>(
     push_list(making.arena, sections, making.words.commands, rows)
 }
 
-/// Puts the lists of a level: arguments, its groups, options and those that ask for help, and commands.
+/// Appends the lists of a level: arguments, its groups, options and those that ask for help, and commands.
 pub fn push_lists<'p, 'a: 'p, C: Allocator>(
     making: Making<'p>,
     sections: &mut ArenaSections<'p>,

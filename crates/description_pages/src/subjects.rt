@@ -38,9 +38,9 @@ pub fn title<'p>(arena: &'p Bump, names: &[&str]) -> Result<&'p str, AllocError>
 
 // ---- the command that a word names
 
-/// The level that a word leads to from another: that of the first command that it is the name, the short name or another
-/// name of, where those of groups come before the others, and hidden ones are found too. None where no command has
-/// the name. An error comes only where an allocation failed.
+/// The level that a word leads to from another: that of the first command that has it as its name, short name or
+/// another name. The commands of groups come before the others, and hidden ones are found too. None where no command
+/// has the name. An error comes only where an allocation failed.
 pub fn enter<'p, 'a: 'p, C: Allocator>(
     arena: &'p Bump,
     subject: LevelSubject<'p, 'a, C>,
@@ -187,7 +187,7 @@ fn all_below<'p, 'a: 'p, C: Allocator>(
     Ok(lower)
 }
 
-/// The levels below one as they stand behind it on its page: of the options that ask for help they have the names alone,
+/// The levels below one as they follow it on its page: of the options that ask for help they have the names alone,
 /// since the page says at the first level what these do. An error comes only where an allocation failed.
 pub fn all_behind<'p, 'a: 'p, C: Allocator>(
     arena: &'p Bump,
@@ -198,7 +198,8 @@ pub fn all_behind<'p, 'a: 'p, C: Allocator>(
     all_below(arena, in_short(arena, subject)?)
 }
 
-/// A level whose page does not say what the options do that ask for help. An error comes only where an allocation failed.
+/// A level whose page does not say what the options that ask for help do. An error comes only where an allocation
+/// failed.
 pub(crate) fn in_short<'p, 'a: 'p, C: Allocator>(
     arena: &'p Bump,
     subject: LevelSubject<'p, 'a, C>,

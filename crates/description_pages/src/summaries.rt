@@ -12,7 +12,7 @@ use description_usage::joined;
 use page_model::{Block, Inline, Line};
 use std::alloc::{AllocError, Allocator};
 
-// Stops that follow one another stay: `and so on...`.
+// A run of stops stays: `and so on...`.
 fn without_full_stop(text: &str) -> &str
     ensures { result.now ≡ without_full_stop text.now }
 {
@@ -23,7 +23,7 @@ fn without_full_stop(text: &str) -> &str
     }
 }
 
-// Puts the last piece of a line.
+// Appends the last piece of a line.
 fn push_last<'a, A: Allocator>(line: &mut Line<'a, A>, last: Inline<'a>) -> Result<(), AllocError>
     ensures { OnOk result (line_of line.new.items
         ≡ line_of line.old.items ++ without_stop (piece_of last.entry ∷ [])) }
@@ -67,7 +67,7 @@ fn first_of<'b, 'a, A: Allocator>(
     }
 }
 
-/// The summary of the help, where it has one, and else of what is said about the level; empty where neither has one.
+/// The summary of the help, where it has one, otherwise of what is said about the level; empty where neither has one.
 pub fn summary<'a>(
     arena: &'a Bump,
     help: &[Block<'a, &'a Bump>],

@@ -23,7 +23,7 @@ pub enum Place {
     References,
 }
 
-// ---- blocks behind one another
+// ---- blocks after one another
 
 fn push_items<'a, A: Allocator>(
     blocks: &mut Vec<Block<'a, A>, A>,
@@ -64,7 +64,7 @@ fn push_together<'a, A: Allocator>(
     }
 }
 
-// Puts a block behind others. A list goes on with a list.
+// Appends a block to others. A list after a list continues it.
 fn push_block<'a, A: Allocator>(
     blocks: &mut Vec<Block<'a, A>, A>,
     block: Block<'a, A>,
@@ -81,7 +81,7 @@ fn push_block<'a, A: Allocator>(
     }
 }
 
-/// Puts blocks behind others, with one list for those that follow one another.
+/// Appends blocks to others, with one list for lists that follow one another.
 pub fn push_blocks<'a, A: Allocator>(
     blocks: &mut Vec<Block<'a, A>, A>,
     more: Vec<Block<'a, A>, A>,
@@ -119,7 +119,7 @@ fn place_of(making: Making<'_>, topic: &Topic<'_>) -> Result<Place, AllocError>
 
 // ---- sections
 
-/// Puts blocks under a title, unless there are none.
+/// Appends blocks under a title, unless there are none.
 pub fn push_text_section<'p>(
     sections: &mut ArenaSections<'p>,
     title: &'p str,
@@ -153,7 +153,7 @@ fn push_topic<'p>(
     push_text_section(sections, without_colon(topic.title), blocks)
 }
 
-/// Puts the topics that stand under titles of their own.
+/// Appends the topics that stand under titles of their own.
 pub fn push_topics<'p>(
     making: Making<'p>,
     sections: &mut ArenaSections<'p>,
@@ -186,7 +186,7 @@ fn push_placed<'p>(
     )
 }
 
-/// The blocks of the topics of a place, with one list for those that follow one another.
+/// The blocks of the topics of a place, with one list for lists that follow one another.
 pub fn placed_blocks<'p>(
     making: Making<'p>,
     place: Place,

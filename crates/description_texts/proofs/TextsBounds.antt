@@ -44,7 +44,7 @@ marker_blank (a ∷ b ∷ text) h = sym (byte_is 32 b (and_parts (32 == b) true 
 inside : (text : List ℕ) (n : ℕ) → get_or text n 0 ≡ 32 → n < length text
 inside text n h = grind (arith, get_or_past)
 
--- behind `- `
+-- after `- `
 pub behind_marker : (text : List ℕ) → IsUtf8 text → starts_with ◌==◌ text (codes "- ") ≡ true → IsCharBoundary text 2
 behind_marker text u h =
     let blank : get_or text 1 0 ≡ 32 = marker_blank text h in

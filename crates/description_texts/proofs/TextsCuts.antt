@@ -67,7 +67,7 @@ module _ {X Y : Type 0} (more : X → List X → ℕ) (said : X → List X → L
     pub at_most : (n m : ℕ) → n ≡ m → m ≤ length (drop (at + 1) zs) → at + (n + 1) ≤ length zs
     at_most n m e h = omega (arith, length-drop (at + 1) zs)
 
--- a first element with so many behind it
+-- a first element with that many after it
 pub own_part : {Z : Type 0} (zs : List Z) (at n : ℕ) (d : Z) → at < length zs → take (at + 1 + n - at) (drop at zs) ≡ get_or zs at d ∷ take n (drop (at + 1) zs)
 own_part zs at n d h =
     let some : at + 1 + n - at ≡ suc n = omega arith in

@@ -13,7 +13,7 @@ use Rattle.description_texts.specs.Texts.{begins_fence, code_more, code_more_if,
 use Rattle.description_texts.specs.declared.texts.lines.Kind.{Kind}
 use Rattle.description_texts.specs.declared.texts.lines.Kind.TheVariants.{Blank, Fence, Code, Item, Plain}
 
--- ---- a line and what stands behind its newline
+-- ---- a line and what follows its newline
 
 no_newline : (b : ℕ) → ¬ (b ≡ 10) → is_newline b ≡ false
 no_newline b h = elim (eqb_tells b 10) [ inl p ↦ absurd (h p.1) | inr p ↦ p.0 ]
@@ -58,7 +58,7 @@ module _ {X : Type 0} (now : X → List ℕ) (before after : List X) (x : X) (pu
 
 -- ---- code
 
--- so many lines, where `rest` of those behind the place belong to the block
+-- how many lines, where `rest` of those after the place belong to the block
 abbrev pub code_total : (len at rest : ℕ) → ℕ
 code_total len at zero = len
 code_total len at (suc rest) = at + suc rest

@@ -21,7 +21,7 @@ onto_new : (text : List ℕ) (parts : List (List ℕ)) → onto_front text ([] �
 onto_new [] parts = refl
 onto_new (x ∷ text) parts = ap (onto_first x) (onto_new text parts)
 
--- a backquote behind one that stands alone is none
+-- a text that does not begin with a backquote is split the same after one
 fresh : (text : List ℕ) → begins_quote text ≡ false → lone_split true text ≡ lone_parts text
 fresh [] h = refl
 fresh (b ∷ text) h =
@@ -92,7 +92,7 @@ turns_onto : (before inner rest : List ℕ) (b : ℕ) (parts : List (List ℕ)) 
 turns_onto before inner rest b [] = refl
 turns_onto before inner rest b (part ∷ parts) = refl
 
--- only the first byte behind a literal counts
+-- only the first byte after a literal counts
 turns_first : (before inner behind : List ℕ) → begins_quote behind ≡ false → by_turns (before ∷ inner ∷ lone_parts behind) ≡ links before ++ (quoted before inner behind ++ by_turns (lone_parts behind))
 turns_first before inner [] h = refl
 turns_first before inner (b ∷ behind) h =

@@ -30,7 +30,7 @@ link_put draft d1 d2 text before address behind found one two =
 pub words_put : (draft d1 whole : Draft) (text : List ℕ) → links text ≡ map word text → with_pieces draft (links text) ≡ whole → d1 ≡ with_words draft text → d1 ≡ whole
 words_put draft d1 whole text none all one = one ∙ sym (words_by_byte draft text) ∙ ap (with_pieces draft) (sym none) ∙ all
 
--- ---- words and literals by turns
+-- ---- words and literals, alternately
 
 pub pair_put : (draft d1 d2 : Draft) (text before inner behind : List ℕ) → by_turns (lone_parts text) ≡ links before ++ (quoted before inner behind ++ by_turns (lone_parts behind))
     → d1 ≡ with_pieces draft (links before) → d2 ≡ with_pieces d1 (quoted before inner behind)

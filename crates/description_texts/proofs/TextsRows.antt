@@ -33,11 +33,11 @@ pub codes_read :
     IsRead (codes "    a\n \n      b\n\n") (code ((codes "a") ∷ [] ∷ (codes "  b") ∷ []) ∷ [])
     -- four tabs, or three blanks and a tab
     × IsRead (codes "\t\t\t\ta\n   \tb") (code ((codes "a") ∷ (codes "b") ∷ []) ∷ [])
-    -- blank lines behind it are none of it
+    -- blank lines after it do not belong to it
     × IsRead (codes "    a\n\n\nb") (code ((codes "a") ∷ []) ∷ paragraph ((words (codes "b") ∷ []) ∷ []) ∷ [])
     -- it ends a paragraph, and is ended by one
     × IsRead (codes "a\n    b\nc") (paragraph ((words (codes "a") ∷ []) ∷ []) ∷ code ((codes "b") ∷ []) ∷ paragraph ((words (codes "c") ∷ []) ∷ []) ∷ [])
-    -- it is no fence and no item
+    -- it begins neither a fence nor an item
     × IsRead (codes "    ```\n    - a") (code ((codes "```") ∷ (codes "- a") ∷ []) ∷ [])
     -- three blanks are too few
     × IsRead (codes "   a") (paragraph ((words (codes "a") ∷ []) ∷ []) ∷ [])
@@ -52,15 +52,15 @@ pub lists :
     × IsRead (codes "- a\n- b\n\n \n- c") (bullets (((words (codes "a") ∷ []) ∷ []) ∷ ((words (codes "b") ∷ []) ∷ []) ∷ ((words (codes "c") ∷ []) ∷ []) ∷ []) ∷ [])
     -- the lines directly below an item belong to it, without blanks at their front
     × IsRead (codes "- a\n  b\nc") (bullets (((words (codes "a b c") ∷ []) ∷ []) ∷ []) ∷ [])
-    -- but no line behind a blank one
+    -- but no line after a blank one
     × IsRead (codes "- a\n\nb") (bullets (((words (codes "a") ∷ []) ∷ []) ∷ []) ∷ paragraph ((words (codes "b") ∷ []) ∷ []) ∷ [])
     -- but neither code nor a fence
     × IsRead (codes "- a\n    b\n- c\n```\nd\n```") (bullets (((words (codes "a") ∷ []) ∷ []) ∷ []) ∷ code ((codes "b") ∷ []) ∷ bullets (((words (codes "c") ∷ []) ∷ []) ∷ []) ∷ code ((codes "d") ∷ []) ∷ [])
-    -- up to three blanks before it, any white space behind it
+    -- up to three blanks before it, any white space after it
     × IsRead (codes "   - a\n - \t b") (bullets (((words (codes "a") ∷ []) ∷ []) ∷ ((words (codes "b") ∷ []) ∷ []) ∷ []) ∷ [])
-    -- no item: without a blank, with a tab, or with nothing behind it
+    -- not an item: without a blank, with a tab, or with nothing after it
     × IsRead (codes "-a\n\n-\ta\n\n- \t") (paragraph ((words (codes "-a") ∷ []) ∷ []) ∷ paragraph ((words (codes "- a") ∷ []) ∷ []) ∷ paragraph ((words (codes "-") ∷ []) ∷ []) ∷ [])
-    -- a fence between two items, even an empty one, parts two lists
+    -- a fence between two items, even an empty one, separates two lists
     × IsRead (codes "- a\n```\n```\n- b") (bullets (((words (codes "a") ∷ []) ∷ []) ∷ []) ∷ bullets (((words (codes "b") ∷ []) ∷ []) ∷ []) ∷ [])
     -- an item ends a paragraph
     × IsRead (codes "a\n- b") (paragraph ((words (codes "a") ∷ []) ∷ []) ∷ bullets (((words (codes "b") ∷ []) ∷ []) ∷ []) ∷ [])
@@ -77,9 +77,9 @@ pub paragraphs :
     × IsRead (codes " \n\t\n\n") []
     -- lines are joined by a blank
     × IsRead (codes "a\nb\nc") (paragraph ((words (codes "a b c") ∷ []) ∷ []) ∷ [])
-    -- a blank line parts two
+    -- a blank line separates two
     × IsRead (codes "a\n \nb") (paragraph ((words (codes "a") ∷ []) ∷ []) ∷ paragraph ((words (codes "b") ∷ []) ∷ []) ∷ [])
-    -- a further line that begins with a blank begins on a new line, be it a tab
+    -- a further line that begins with a blank or a tab begins on a new line
     × IsRead (codes "a\n b\n\tc\nd") (paragraph ((words (codes "a") ∷ []) ∷ (words (codes "b") ∷ []) ∷ (words (codes "c d") ∷ []) ∷ []) ∷ [])
     -- but not the first
     × IsRead (codes "  a\nb") (paragraph ((words (codes "a b") ∷ []) ∷ []) ∷ [])
@@ -127,17 +127,17 @@ literals = (refl, refl, refl, refl, refl, refl, refl, refl, refl, refl, refl, re
 pub addresses :
     -- a link, and one with more letters
     IsRead (codes "<http://a> x <https://b.c/d?e=f&g#h~>") (paragraph ((link (codes "http://a") ∷ words (codes " x ") ∷ link (codes "https://b.c/d?e=f&g#h~") ∷ []) ∷ []) ∷ [])
-    -- without an address behind the slashes it is none
+    -- without an address after the slashes it is not a link
     × IsRead (codes "<http://><https://>") (paragraph ((words (codes "<http://><https://>") ∷ []) ∷ []) ∷ [])
-    -- of another kind it is none
+    -- of another kind it is not a link
     × IsRead (codes "<ftp://a> <HTTP://a> <a@b.c>") (paragraph ((words (codes "<ftp://a> <HTTP://a> <a@b.c>") ∷ []) ∷ []) ∷ [])
-    -- with a blank, a letter beyond ASCII or no end it is none
+    -- with a blank, a letter beyond ASCII or no end it is not a link
     × IsRead (codes "<http://a b> <http://" ++ ((195 ∷ 169 ∷ []) ++ codes "> <http://a")) (paragraph ((words (codes "<http://a b> <http://" ++ ((195 ∷ 169 ∷ []) ++ codes "> <http://a")) ∷ []) ∷ []) ∷ [])
     -- one in another's text
     × IsRead (codes "<http://a<http://b>>") (paragraph ((words (codes "<http://a") ∷ link (codes "http://b") ∷ words (codes ">") ∷ []) ∷ []) ∷ [])
     -- two that are neighbours
     × IsRead (codes "<http://a><http://b>") (paragraph ((link (codes "http://a") ∷ link (codes "http://b") ∷ []) ∷ []) ∷ [])
-    -- in a literal it is none
+    -- in a literal it is not a link
     × IsRead (codes "`<http://a>` <http://b`c`>") (paragraph ((literal (codes "<http://a>") ∷ words (codes " <http://b") ∷ literal (codes "c") ∷ words (codes ">") ∷ []) ∷ []) ∷ [])
     -- beside a literal, whose blank stays
     × IsRead (codes "`a `<http://b>") (paragraph ((literal (codes "a ") ∷ link (codes "http://b") ∷ []) ∷ []) ∷ [])

@@ -18,7 +18,7 @@ front_byte b h g = grind (arith, nat_tests)
 abbrev pub has_tab : List ℕ → Bool
 has_tab text = list_any (λ b. b == 9) text
 
--- what is so of a front of so many bytes
+-- what holds of a front of that many bytes
 abbrev pub IsBlankFront : List ℕ → ℕ → Type 0
 IsBlankFront line n = has_tab (take n line) ≡ false → replicate n 32 ++ drop n line ≡ line
 
@@ -41,7 +41,7 @@ blank_front (b ∷ line) = subst (IsBlankFront (b ∷ line)) (sym (front_len (is
 
 -- ---- what stands for white space
 
--- the next byte of what lies behind a place
+-- the next byte of what follows a place
 run_more : (text : List ℕ) (start at : ℕ) → start ≤ at → at < length text → take (at + 1 - start) (drop start text) ≡ take (at - start) (drop start text) ++ get_or text at 0 ∷ []
 run_more text start at le h = grind (arith, length-drop start text, take_more (drop start text) (at - start) 0, get_or-drop start text (at - start) 0)
 
@@ -58,7 +58,7 @@ plain_next line out start at le h e w =
     ∙ ap (λ xs. out ++ xs) (append_assoc run (get_or line at 0 ∷ []) rest ∙ ap (λ xs. run ++ (xs ++ rest)) (sym e) ∙ ap (λ xs. run ++ xs) (sym (squeezed_at line at h)))
     ∙ w
 
--- a step over one that something else stands for
+-- a step over one that is replaced
 pub named_next : (line out more new text : List ℕ) (start at : ℕ) → at < length line → squeezed_byte (get_or line at 0) (drop (at + 1) line) ≡ text → more ≡ out ++ take (at - start) (drop start line) → new ≡ more ++ text
     → out ++ (take (at - start) (drop start line) ++ squeezed (drop at line)) ≡ squeezed line → new ++ (take (at + 1 - (at + 1)) (drop (at + 1) line) ++ squeezed (drop (at + 1) line)) ≡ squeezed line
 named_next line out more new text start at h e m n w =

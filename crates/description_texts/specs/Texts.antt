@@ -27,7 +27,7 @@ begins_fence line = nat_le 3 (prefix_len is_quote line)
 abbrev pub is_fence : List ℕ → Bool
 is_fence line = begins_fence line && not (list_any is_quote (drop (prefix_len is_quote line) line))
 
--- an item has behind the blanks at its front `- ` and something
+-- an item has `- ` and something more after the blanks at its front
 abbrev pub has_marker : List ℕ → Bool
 has_marker text = starts_with ◌==◌ text (codes "- ") && not (list_all is_white (drop 2 text))
 

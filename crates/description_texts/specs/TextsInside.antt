@@ -20,7 +20,7 @@ abbrev pub is_edge_front : List ℕ → Bool
 is_edge_front [] = true
 is_edge_front (b ∷ text) = is_white b
 
--- of white space that follows one another the last stays, as a blank; none stays at the end
+-- of a run of white space the last byte stays, as a blank; none stays at the end
 abbrev pub squeezed_byte : ℕ → List ℕ → List ℕ
 squeezed_byte b text = if is_white b then (if is_edge_front text then [] else 32 ∷ []) else b ∷ []
 
@@ -28,7 +28,7 @@ abbrev pub squeezed : List ℕ → List ℕ
 squeezed [] = []
 squeezed (b ∷ text) = squeezed_byte b text ++ squeezed text
 
--- blanks and tabs that follow one another are one blank, and none stands at the ends
+-- each run of blanks and tabs is one blank, and none stands at the ends
 abbrev pub spaced : List ℕ → List ℕ
 spaced line = squeezed (without_white_front line)
 
@@ -45,7 +45,7 @@ begins_quote (b ∷ text) = is_quote b
 abbrev pub is_lone : (behind_quote : Bool) → ℕ → List ℕ → Bool
 is_lone behind_quote b text = is_quote b && not behind_quote && not (begins_quote text)
 
--- the parts between such backquotes, of a text that stands behind a backquote or not
+-- the parts between such backquotes, of a text after a backquote or not
 abbrev pub lone_split : (behind_quote : Bool) → List ℕ → List (List ℕ)
 lone_split behind_quote [] = [] ∷ []
 lone_split behind_quote (b ∷ text) =
@@ -66,7 +66,7 @@ is_edge_back text = length text == 0 || is_white (last_byte text)
 abbrev pub front_kept : (before inner : List ℕ) → List ℕ
 front_kept before inner = if is_edge_back before then without_white_front inner else inner
 
--- behind a letter no more than one blank stands
+-- after a letter at most one blank stands
 abbrev pub without_white_end : List ℕ → List ℕ
 without_white_end text = if is_white (last_byte text) then take (length text - 1) text else text
 
@@ -88,20 +88,20 @@ is_link_front b = b == 60
 abbrev pub is_link_byte : ℕ → Bool
 is_link_byte b = nat_lt 32 b && nat_lt b 127 && not (b == 60 || b == 62 || b == 96)
 
--- `http://` or `https://` with something behind it
+-- `http://` or `https://` followed by something
 abbrev pub is_address : List ℕ → Bool
 is_address text =
     (starts_with ◌==◌ text (codes "http://") && nat_lt 7 (length text))
     || (starts_with ◌==◌ text (codes "https://") && nat_lt 8 (length text))
 
--- how long the address is that stands behind `<`, up to `>`; 0 where there is none
+-- the length of the address after `<`, up to `>`; 0 where there is none
 abbrev pub address_if : ℕ → List ℕ → ℕ
 address_if n text = if is_address (take n text) && slice_index text n == 62 then n else 0
 
 abbrev pub address_len : List ℕ → ℕ
 address_len text = address_if (prefix_len is_link_byte text) text
 
--- the same of a byte and what stands behind it
+-- the same of a byte and what follows it
 abbrev pub link_len : ℕ → List ℕ → ℕ
 link_len b text = if is_link_front b then address_len text else 0
 
@@ -109,14 +109,14 @@ abbrev pub with_end : ℕ → ℕ
 with_end zero = 0
 with_end (suc len) = suc (suc len)
 
--- a link has the byte behind its address, too
+-- a link also has the byte after its address
 abbrev pub link_more : ℕ → List ℕ → ℕ
 link_more b text = with_end (link_len b text)
 
 abbrev pub word : ℕ → Piece
 word b = words (b ∷ [])
 
--- what is no link is words, byte by byte
+-- what is not a link is words, byte by byte
 abbrev pub link_said : ℕ → List ℕ → Line
 link_said b [] = word b ∷ []
 link_said b (c ∷ more) = link (take (length more) (c ∷ more)) ∷ []
@@ -126,20 +126,20 @@ links text = cut link_more link_said text
 
 -- ---- the pieces of a line
 
--- words and literals by turns; a last backquote that nothing closes is one of the words
+-- words and literals, alternately; a last backquote that nothing closes is one of the words
 abbrev pub by_turns : List (List ℕ) → Line
 by_turns [] = []
 by_turns (text ∷ []) = links text
 by_turns (text ∷ inner ∷ []) = links (text ++ 96 ∷ inner)
 by_turns (text ∷ inner ∷ behind ∷ parts) = links text ++ (quoted text inner behind ++ by_turns (behind ∷ parts))
 
--- White space parts no two backquotes otherwise than a blank does: so it is made one blank first.
+-- White space separates two backquotes just as a blank does, so it is made one blank first.
 unfoldable pub line_pieces : List ℕ → Line
 line_pieces line = by_turns (lone_parts (spaced line))
 
 -- ---- neighbours
 
--- pieces, and the words behind them, which go on
+-- pieces, and the words after them, which may go on
 pub record Draft : Type 0 where
   pub pieces : Line
   pub words : List ℕ
@@ -171,13 +171,13 @@ with_pieces draft (piece ∷ pieces) = with_pieces (with_piece draft piece) piec
 abbrev pub nothing : Draft
 nothing = record { pieces = []; words = [] }
 
--- words that are neighbours are one piece, and empty ones are none
+-- words that are neighbours are one piece, and empty ones are nothing
 abbrev pub gathered : Line → Line
 gathered pieces = whole (with_pieces nothing pieces)
 
 -- ---- lines that are shown as one
 
--- a line behind another one
+-- a line after another one
 abbrev pub further_pieces : List ℕ → Line
 further_pieces line = words (32 ∷ []) ∷ line_pieces line
 

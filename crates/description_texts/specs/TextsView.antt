@@ -7,7 +7,7 @@ use Rattle.description_texts.specs.Texts.{begins_fence, block_said, is_fence}
 use Rattle.description_texts.specs.TextsInside.{Draft, begins_quote, is_link_front, is_quote, is_white, lone_parts}
 use Rattle.description_texts.specs.declared.texts.pieces.Pieces.{Pieces}
 
--- pieces that are gathered, and the words behind them
+-- pieces that are gathered, and the words after them
 abbrev pub draft_of : {A : Type 0} → Pieces A → Draft
 draft_of gathering = record {
   pieces = line_of gathering.pieces.items;
@@ -26,7 +26,7 @@ pub record IsLinkAt (text : List ℕ) (at len : ℕ) : Type 0 where
   pub closes : slice_index text (at + 1 + len) ≡ 62
   pub within : at + 1 + len < length text
 
--- whether a byte stays as it is where it stands, behind white space or the start of the line or not
+-- whether a byte stays as it is where it stands, after white space or the start of the line or not
 abbrev pub stays_here : ℕ → (behind_white : Bool) → Bool
 stays_here b behind_white = if is_white b then b == 32 && not behind_white else not (is_quote b || is_link_front b)
 
@@ -40,7 +40,7 @@ abbrev pub own_said : List (List ℕ) → List BlockSaid
 own_said [] = []
 own_said (first ∷ more) = block_said first more
 
--- whether a line belongs to no block, in a fence above which there are no lines or not
+-- whether a line belongs to no block, in a fence that has no lines so far or not
 abbrev pub says_nothing : (in_fence : Bool) → List ℕ → Bool
 says_nothing in_fence line = if in_fence then begins_fence line else (list_all is_white line || is_fence line)
 

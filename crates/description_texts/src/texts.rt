@@ -74,7 +74,7 @@ fn unbroken_len(lines: &[&str]) -> usize
     lines.iter().take_while(|line| !begins_blank(line)).count()
 }
 
-// How many lines behind a line of code belong to it.
+// How many lines after a line of code belong to it.
 fn code_len(lines: &[&str]) -> usize
     ensures { result ≡ code_more (map (λ line. line.now) lines.now) }
 {
@@ -105,7 +105,7 @@ fn is_blank_kind(kind: Kind) -> bool
     matches!(kind, Kind::Blank)
 }
 
-// How many lines behind the first of a list belong to it.
+// How many lines after the first of a list belong to it.
 fn list_len(lines: &[&str]) -> usize
     ensures { result ≡ list_more false (map (λ line. line.now) lines.now) }
 {
@@ -185,7 +185,7 @@ fn paragraph<'a>(arena: &'a Bump, lines: &[&'a str]) -> Result<Lines<'a>, AllocE
     Ok(found)
 }
 
-// Puts an item behind others, with the lines below that belong to it. A blank line is none.
+// Appends an item, with the lines below that belong to it. A blank line is nothing.
 fn push_item<'a>(
     arena: &'a Bump,
     found: &mut Items<'a>,
@@ -265,8 +265,8 @@ fn push_block<'a>(
     Ok(())
 }
 
-/// The blocks of a text, in the arena. Texts are borrowed, but where white space that is made one blank, lines that are
-/// joined or tabs at the front of a line of code want a copy. An error comes only where an allocation failed.
+/// The blocks of a text, in the arena. Texts are borrowed, except where white space that is made one blank, lines that
+/// are joined or tabs at the front of a line of code need a copy. An error comes only where an allocation failed.
 pub fn blocks<'a>(
     arena: &'a Bump,
     text: &'a str,
@@ -285,7 +285,7 @@ pub fn blocks<'a>(
     Ok(found)
 }
 
-// Whether a line belongs to no block, in a fence above which there are no lines or not.
+// Whether a line belongs to no block, in a fence that has no lines so far or not.
 fn says_nothing(in_fence: bool, line: &str) -> bool
     ensures { result ≡ says_nothing in_fence line.now }
 {
@@ -296,7 +296,7 @@ fn says_nothing(in_fence: bool, line: &str) -> bool
     }
 }
 
-// Whether the line behind a line stands in such a fence.
+// Whether the line after a line stands in such a fence.
 fn opens(in_fence: bool, line: &str) -> bool
     ensures { result ≡ opens in_fence line.now }
 {

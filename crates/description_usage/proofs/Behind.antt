@@ -1,4 +1,4 @@
--- What stands behind lines.
+-- What follows lines.
 use Rattle.std.proofs.Common.{◌≡◌, ℕ, false, List, [], ◌∷◌, ◌++◌, map, length, refl, sym, ap, ◌∙◌, append_assoc, arith, ◌==◌}
 use Rattle.std.specs.Prelude.{codes}
 use Rattle.std.proofs.lemmas.List.{map-append}
@@ -8,7 +8,7 @@ use Rattle.page_model.specs.declared.parts.Inline.{Inline}
 use Rattle.description_usage.specs.Entries.{behind_lines, alias_notes, note}
 use Rattle.description_usage.specs.Lines.{joined}
 
--- notes behind the last of some lines
+-- notes after the last of some lines
 pub behind_last : (notes : Line) (lines : List Line) (last : Line) → behind_lines notes (lines ++ last ∷ []) ≡ lines ++ (last ++ words (codes " ") ∷ notes) ∷ []
 behind_last notes [] last = refl
 behind_last notes (line ∷ []) last = refl
@@ -19,7 +19,7 @@ pub aliases_there : {X : Type 0} (word : List ℕ) (see : X → List ℕ) (names
 aliases_there word see [] h = absurd (grind arith)
 aliases_there word see (name ∷ names) h = refl
 
--- a line with a piece and more pieces behind it
+-- a line with a piece and more pieces after it
 pub line_more : (last pushed whole notes : List Inline) (between : Inline) → pushed ≡ last ++ between ∷ [] → whole ≡ pushed ++ notes → line_of whole ≡ line_of last ++ piece_of between ∷ line_of notes
 line_more last pushed whole notes between e h =
     ap line_of h ∙ map-append piece_of pushed notes ∙ ap (λ ps. line_of ps ++ line_of notes) e ∙ ap (λ ps. ps ++ line_of notes) (map-append piece_of last (between ∷ [])) ∙ append_assoc (line_of last) (piece_of between ∷ []) (line_of notes)

@@ -29,7 +29,7 @@ pub onto_new : (xs : List ℕ) (ps : List (List ℕ)) → onto_front xs ([] ∷ 
 onto_new [] ps = refl
 onto_new (x ∷ xs) ps = ap (onto_first x) (onto_new xs ps)
 
--- ---- behind a place outside brackets it counts for nothing what stands before
+-- ---- after a place outside brackets, what stands before it does not matter
 
 same_sums : (k a b : ℕ) → (k + a == k + b) ≡ (a == b)
 same_sums k a b = grind (arith, eqb_tells)
@@ -53,7 +53,7 @@ either_false a b h2 = grind (arith, true≢false)
 none_counted : (p : ℕ → Bool) (b : ℕ) → p b ≡ false → count_by p (b ∷ []) ≡ 0
 none_counted p b h = count_by_more_no p (b ∷ []) 0 0 (omega arith) h
 
--- a byte that is no bracket leaves a place outside brackets
+-- a byte that is not a bracket leaves a place outside brackets
 outside_still : (xs : List ℕ) (b : ℕ) → is_bracket b ≡ false → is_outside xs ≡ true → is_outside (xs ++ b ∷ []) ≡ true
 outside_still xs b n h = grind (arith, either_false, outside_behind, none_counted)
 

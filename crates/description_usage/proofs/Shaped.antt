@@ -7,7 +7,7 @@ use Rattle.description_usage.specs.Forms.{depths, is_lone, open_behind, shaped, 
 use Rattle.description_usage.specs.Depths.{is_lone_at, shaped_byte}
 use Rattle.description_usage.specs.Syntax.{is_closing, is_opening}
 
--- the brackets that are open behind so many bytes
+-- the brackets that are open after that many bytes
 abbrev pub opened_at : ℕ → (opened : List ℕ) → List ℕ → List ℕ
 opened_at zero opened bs = opened
 opened_at (suc i) opened [] = opened

@@ -104,7 +104,7 @@ module _ (text rest stretch behind : List ℕ) (is_end : IsEnd text rest) (cut :
   pub end_more : IsEnd text behind
   end_more = joined_whole ∙ ap (λ f. f ++ behind) (sym front_more)
 
--- ---- one stretch put behind a line, and the rest behind it
+-- ---- one stretch appended to a line, and the rest after it
 
 pub stretch_put : (line more whole : Line) (before after stretch : List ℕ) (ss ts : List (List ℕ)) → ss ≡ stretch ∷ ts → after ≡ before ++ stretch → more ≡ line ++ stretch_pieces before stretch → line ++ pieces_behind before ss ≡ whole
     → more ++ pieces_behind after ts ≡ whole

@@ -3,7 +3,7 @@ use Rattle.std.specs.Prelude.{ℕ, ◌==◌, nat_lt, Bool, ◌&&◌, if◌then�
 use Rattle.description_usage.specs.Forms.{stand_in}
 use Rattle.description_usage.specs.Syntax.{is_closing, is_opening}
 
--- how many are open before a byte and behind it, and the fewest behind a later one
+-- how many are open before a byte and after it, and the fewest after a later one
 abbrev pub is_lone_at : ℕ → (before behind lowest : ℕ) → Bool
 is_lone_at b before behind lowest = if is_opening b then nat_lt before lowest else is_closing b && behind == before
 

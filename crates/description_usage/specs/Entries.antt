@@ -9,7 +9,7 @@ use Rattle.description.specs.Words.{WordsSaid}
 
 -- ---- terms
 
--- each name, and the word for the value behind the last
+-- each name, and the word for the value after the last
 abbrev pub named_terms : NameSaid → (value : Option (List ℕ)) → List Line
 named_terms (short c) value = short_line c value ∷ []
 named_terms (long name) value = long_line name value ∷ []
@@ -59,13 +59,13 @@ command_notes fixed names = alias_notes fixed.aliases names.aliases
 
 -- ---- bodies
 
--- notes behind the last line of a paragraph, with a blank before
+-- notes after the last line of a paragraph, with a blank before
 abbrev pub behind_lines : (notes : Line) → List Line → List Line
 behind_lines notes [] = notes ∷ []
 behind_lines notes (line ∷ []) = (line ++ words (codes " ") ∷ notes) ∷ []
 behind_lines notes (line ∷ more ∷ lines) = line ∷ behind_lines notes (more ∷ lines)
 
--- behind a help that is one paragraph, else as a paragraph behind it
+-- after a help that is one paragraph; after any other help, as a paragraph of their own
 abbrev pub noted_body : (notes : Line) → List BlockSaid → List BlockSaid
 noted_body notes (paragraph lines ∷ []) = paragraph (behind_lines notes lines) ∷ []
 noted_body notes help = help ++ paragraph (notes ∷ []) ∷ []
@@ -93,7 +93,7 @@ option_word (syntax text) = syntax_word text
 abbrev pub option_entry : WordsSaid → OptSaid → (help : List BlockSaid) → EntrySaid
 option_entry fixed o help = record { word = option_word o.spelling; target = None; terms = option_terms o; body = body (option_notes fixed o) help }
 
--- A positional value of which nothing is said is no entry. It is called as it is shown.
+-- A positional value of which nothing is said has no entry. Its entry is called as it is shown.
 abbrev pub entry_if_said : (word : List ℕ) → (terms : List Line) → (body : List BlockSaid) → Option EntrySaid
 entry_if_said word terms [] = None
 entry_if_said word terms (first ∷ others) = Some (record { word = word; target = None; terms = terms; body = first ∷ others })
@@ -101,7 +101,7 @@ entry_if_said word terms (first ∷ others) = Some (record { word = word; target
 abbrev pub positional_entry : WordsSaid → PositionalSaid → (help : List BlockSaid) → Option EntrySaid
 positional_entry fixed p help = entry_if_said (shown_value p.value) (positional_terms p) (body (positional_notes fixed p) help)
 
--- with where the command is shown
+-- and where the command is shown
 abbrev pub named_entry : WordsSaid → TargetSaid → CommandNames → (help : List BlockSaid) → EntrySaid
 named_entry fixed target names help = record { word = names.name; target = Some target; terms = command_terms names; body = body (command_notes fixed names) help }
 

@@ -1,4 +1,4 @@
--- The forms of a text that stands in place of a usage, one a line.
+-- The forms of a text that stands in place of a usage, one per line.
 use Rattle.std.specs.Prelude.{ℕ, List, [], ◌∷◌, ◌==◌, codes, drop, filter, flat_map, length, map, take, nat_lt, Bool, not, ◌&&◌, ◌||◌, if◌then◌else◌, bytes_eq, unwrap_or, Option, Some, None, option_and_then}
 use Rattle.std.specs.List.{list_all, slice_split}
 use Rattle.page_model.specs.Content.{Piece, words, literal, value, link, page, Line, FormSaid}
@@ -14,12 +14,13 @@ use Rattle.description.specs.Words.{WordsSaid}
 abbrev pub closes : (opening closing : ℕ) → Bool
 closes o c = ((o == 91 && c == 93) || (o == 40 && c == 41)) || ((o == 60 && c == 62) || (o == 123 && c == 125))
 
--- the brackets that are open behind a byte, the innermost first: a closing one closes the innermost, if that is of its kind
+-- the brackets that are open after a byte, the innermost first: a closing one closes the innermost, if that is of its
+-- kind
 abbrev pub open_behind : (opened : List ℕ) → ℕ → List ℕ
 open_behind [] b = if is_opening b then b ∷ [] else []
 open_behind (o ∷ os) b = if is_opening b then b ∷ o ∷ os else if closes o b then os else o ∷ os
 
--- how many are open behind each byte
+-- how many are open after each byte
 abbrev pub depths : (opened : List ℕ) → List ℕ → List ℕ
 depths opened [] = []
 depths opened (b ∷ bs) = length (open_behind opened b) ∷ depths (open_behind opened b) bs
@@ -62,7 +63,7 @@ restored_piece (page name) = page (restored name)
 abbrev pub is_empty : List ℕ → Bool
 is_empty text = length text == 0
 
--- what blanks outside brackets part
+-- the parts that blanks outside brackets separate
 abbrev pub line_parts : List ℕ → List (List ℕ)
 line_parts line = filter (λ part. not (is_empty part)) (parts 32 line)
 
@@ -85,7 +86,7 @@ blank_for_tab b = if b == 9 then 32 else b
 abbrev pub untabbed : List ℕ → List ℕ
 untabbed text = map blank_for_tab text
 
--- behind a colon, where a blank or nothing stands behind it: the text without these blanks
+-- after a colon, where a blank or nothing follows it: the text without these blanks
 abbrev pub behind_colon : List ℕ → Option (List ℕ)
 behind_colon [] = None
 behind_colon (b ∷ bs) = if b == 58 && (is_empty bs || begins (λ c. c == 32) bs) then Some (without_front bs) else None

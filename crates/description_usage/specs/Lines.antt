@@ -1,4 +1,4 @@
--- Lines behind one another.
+-- Lines one after another.
 use Rattle.std.specs.Prelude.{ℕ, List, [], ◌∷◌, ◌++◌, flat_map}
 use Rattle.page_model.specs.Content.{words, Line}
 

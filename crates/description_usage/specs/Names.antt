@@ -16,7 +16,7 @@ is_bare_byte b = ((nat_le 65 b && nat_le b 90) || (nat_le 48 b && nat_le b 57)) 
 abbrev pub is_bare : List ℕ → Bool
 is_bare word = list_all is_bare_character (chars word)
 
--- a word for a value stands bare where all its characters may, and else between `<` and `>`
+-- a word for a value stands bare where all its characters may, otherwise between `<` and `>`
 abbrev pub shown_value : List ℕ → List ℕ
 shown_value word = if is_bare word then word else codes "<" ++ (word ++ codes ">")
 
@@ -29,12 +29,12 @@ short_piece c = literal (codes "-" ++ encode_utf8 c)
 abbrev pub long_piece : List ℕ → Piece
 long_piece name = literal (codes "--" ++ name)
 
--- the word for the value of an option, behind its name, if it has one
+-- the word for the value of an option, after its name, if it has one
 abbrev pub value_behind : (between : List ℕ) → Option (List ℕ) → Line
 value_behind between None = []
 value_behind between (Some word) = words between ∷ value_piece word ∷ []
 
--- a blank stands behind a short name, and `=` behind a long one
+-- a blank stands after a short name, and `=` after a long one
 abbrev pub short_line : ℕ → (value : Option (List ℕ)) → Line
 short_line c word = short_piece c ∷ value_behind (codes " ") word
 

@@ -19,7 +19,7 @@ is_closing b = (b == 93 || b == 41) || (b == 62 || b == 125)
 abbrev pub is_bracket : ℕ → Bool
 is_bracket b = is_opening b || is_closing b
 
--- what a name may stand directly behind: a blank, a comma, a bar or an opening bracket
+-- what a name may directly follow: a blank, a comma, a bar or an opening bracket
 abbrev pub is_lead : ℕ → Bool
 is_lead b = (b == 32 || (b == 44 || b == 124)) || is_opening b
 
@@ -45,7 +45,7 @@ abbrev pub is_same : Bool → Bool → Bool
 is_same true b = b
 is_same false b = not b
 
--- a byte before stretches: it joins the first, if the test says the same of both, and else is a stretch of its own
+-- a byte before stretches: it joins the first, if the test says the same of both, otherwise it is a stretch of its own
 abbrev pub onto_stretches : (test : ℕ → Bool) → ℕ → List (List ℕ) → List (List ℕ)
 onto_stretches test b [] = (b ∷ []) ∷ []
 onto_stretches test b ([] ∷ ss) = (b ∷ []) ∷ ss
@@ -58,7 +58,7 @@ stretches test (b ∷ bs) = onto_stretches test b (stretches test bs)
 
 -- ---- names: the text is cut into runs and what separates them; `before` is all that stands before such a stretch
 
--- at the start, or directly behind a lead
+-- at the start, or directly after a lead
 abbrev pub leads : Option ℕ → Bool
 leads None = true
 leads (Some b) = is_lead b
@@ -66,7 +66,7 @@ leads (Some b) = is_lead b
 abbrev pub is_place : (before : List ℕ) → Bool
 is_place before = leads (slice_get before (length before - 1))
 
--- a byte that is no dash
+-- a byte that is not a dash
 abbrev pub has_letter : List ℕ → Bool
 has_letter = list_any (λ b. not (is_dash b))
 
@@ -80,7 +80,7 @@ is_name before run = is_place before && has_form_of_name run
 abbrev pub negation : List ℕ
 negation = codes "--[no-]"
 
--- directly behind a negation that stands where a name may
+-- directly after a negation that stands where a name may
 abbrev pub is_negated : (before run : List ℕ) → Bool
 is_negated before run = (ends_with ◌==◌ before negation && is_place (take (length before - length negation) before)) && has_letter run
 
@@ -107,18 +107,18 @@ pieces_behind before (text ∷ texts) = stretch_pieces before text ++ pieces_beh
 abbrev pub syntax_line : List ℕ → Line
 syntax_line text = pieces_behind [] (stretches is_separator text)
 
--- ---- what commas part
+-- ---- the parts that commas separate
 
--- behind as many closing brackets as opening ones
+-- after as many closing brackets as opening ones
 abbrev pub is_outside : (before : List ℕ) → Bool
 is_outside before = count_by is_opening before == count_by is_closing before
 
--- a byte is left out where the text is cut, and else it belongs to the first part
+-- a byte is left out where the text is cut, otherwise it belongs to the first part
 abbrev pub onto_parts : (is_cut : Bool) → ℕ → List (List ℕ) → List (List ℕ)
 onto_parts true b ps = [] ∷ ps
 onto_parts false b ps = onto_first b ps
 
--- what the bytes `mark` outside brackets part
+-- the parts that the bytes `mark` outside brackets separate
 abbrev pub parts_behind : (mark : ℕ) → (before : List ℕ) → List ℕ → List (List ℕ)
 parts_behind mark before [] = [] ∷ []
 parts_behind mark before (b ∷ bs) = onto_parts (b == mark && is_outside before) b (parts_behind mark (before ++ b ∷ []) bs)
@@ -126,7 +126,8 @@ parts_behind mark before (b ∷ bs) = onto_parts (b == mark && is_outside before
 abbrev pub parts : (mark : ℕ) → List ℕ → List (List ℕ)
 parts mark = parts_behind mark []
 
--- what the commas outside brackets part, without the blanks at its ends, and the newlines, which no description gives
+-- the parts that the commas outside brackets separate, without the blanks at their ends, and without newlines, which no
+-- description gives
 abbrev pub ways : List ℕ → List (List ℕ)
 ways text = map without_margins (parts 44 text)
 

@@ -1,4 +1,4 @@
--- The usage of a level: items that are not to be broken, behind the names that lead there.
+-- The usage of a level: items that are not to be broken, after the names that lead there.
 use Rattle.std.specs.Prelude.{ℕ, List, [], ◌∷◌, ◌++◌, codes, filter, flat_map, map, Bool, true, false, not, ◌&&◌, ◌||◌, if◌then◌else◌, Option}
 use Rattle.std.specs.List.{list_any}
 use Rattle.page_model.specs.Content.{words, literal, value, Line}
@@ -58,7 +58,7 @@ option_items o = if o.hidden then [] else option_item o.required o.repeated o �
 abbrev pub shown_options : List OptSaid → List OptSaid
 shown_options = filter (λ o. not o.hidden)
 
--- one member is that option, and none is nothing
+-- one member is that option, and no member is nothing
 abbrev pub member_items : (required : Bool) → List OptSaid → List Line
 member_items required [] = []
 member_items required (o ∷ []) = option_item required false o ∷ []

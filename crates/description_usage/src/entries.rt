@@ -203,7 +203,7 @@ fn push_aliases<'a, A: Allocator + Copy>(
 
 // ---- bodies
 
-// Notes behind the last line of a paragraph.
+// Notes after the last line of a paragraph.
 fn push_behind<'a, A: Allocator + Copy>(
     lines: &mut Vec<Line<'a, A>, A>,
     notes: Line<'a, A>,
@@ -330,8 +330,8 @@ pub fn option_entry<'p, A: Allocator>(
     })
 }
 
-/// The entry of a positional value, with the blocks of its help. None where nothing is said of it. An error comes only
-/// where an allocation failed.
+/// The entry of a positional value, with the blocks of its help. None where there is nothing to say of it. An error
+/// comes only where an allocation failed.
 pub fn positional_entry<'p, A: Allocator>(
     arena: &'p Bump<A>,
     words: &FixedWords<'p>,

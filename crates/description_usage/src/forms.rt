@@ -1,4 +1,4 @@
-//! The forms of a text that stands in place of a usage, one a line.
+//! The forms of a text that stands in place of a usage, one per line.
 ghost use Rattle.std.specs.Prelude.{◌≡◌, ◌++◌, ◌∷◌, ◌==◌, [], filter, map, not, option_to_list, IfOk, OnOk};
 ghost use Rattle.std.specs.List.{list_any, slice_split};
 ghost use Rattle.std.specs.Option.{option_map};
@@ -138,7 +138,7 @@ fn push_part<'a, A: Allocator>(parts: &mut Vec<&'a str, A>, part: &'a str) -> Re
     Ok(())
 }
 
-// What blanks outside brackets part.
+// The parts that blanks outside brackets separate.
 fn line_parts<'a, A: Allocator>(alloc: A, line: &'a str) -> Result<Vec<&'a str, A>, AllocError>
     ensures { IfOk result (λ parts. map (λ part. part.now) parts.items ≡ line_parts line.now) }
 {
@@ -218,7 +218,7 @@ fn behind_word<'a>(line: &'a str, word: &str) -> Option<&'a str>
     line.strip_prefix(word)
 }
 
-// A line without a word at its front that a colon follows, and a blank or nothing behind it.
+// A line without a word at its front that a colon follows, with a blank or nothing after it.
 fn without_lead<'a>(line: &'a str, word: &str) -> &'a str
     ensures { result.now ≡ without_lead word.now line.now }
 {
@@ -254,8 +254,8 @@ fn push_form<'p, A: Allocator>(
     Ok(())
 }
 
-/// The forms of a text that stands in place of a usage, one a line, but where nothing stands on it. The first part of
-/// a line stands for the names. An error comes only where an allocation failed.
+/// The forms of a text that stands in place of a usage, one for each line that is not blank. The first part of a line
+/// stands for the names. An error comes only where an allocation failed.
 pub fn text_forms<'p, A: Allocator>(
     arena: &'p Bump<A>,
     words: &FixedWords<'_>,

@@ -1,4 +1,4 @@
-//! Lines that are put behind one another.
+//! Lines that are put one after another.
 ghost use Rattle.std.specs.Prelude.{◌≡◌, ◌++◌, ◌∷◌, [], map, flat_map, IfOk, OnOk};
 ghost use Rattle.page_model.specs.Content.{words};
 ghost use Rattle.page_model.specs.View.{line_of};

@@ -41,7 +41,7 @@ fn step<A: Allocator>(opened: &mut Vec<u8, A>, byte: u8) -> Result<(), AllocErro
     Ok(())
 }
 
-// How many brackets are open before the first byte, and behind each.
+// How many brackets are open before the first byte, and after each.
 fn levels<A: Allocator + Copy>(alloc: A, bytes: &[u8]) -> Result<Vec<usize, A>, AllocError>
     ensures { IfOk result (λ levels. levels.items ≡ 0 ∷ depths [] bytes.now) }
 {
@@ -55,7 +55,7 @@ fn levels<A: Allocator + Copy>(alloc: A, bytes: &[u8]) -> Result<Vec<usize, A>, 
     Ok(levels)
 }
 
-// What stands for a byte, where so many brackets are open before it and behind it, and the fewest behind a later one.
+// What stands for a byte, where that many brackets are open before it and after it, and the fewest after a later one.
 fn shaped_byte(byte: u8, before: usize, behind: usize, lowest: usize) -> u8
     ensures { result ≡ shaped_byte byte before behind lowest }
 {

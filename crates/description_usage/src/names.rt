@@ -35,7 +35,7 @@ fn are_bare_bytes(word: &str) -> bool
     word.as_bytes().iter().all(|byte| is_bare_byte(*byte))
 }
 
-// Most words that stand bare are of ASCII, and then no table of Unicode is asked.
+// Most words that stand bare are ASCII, and then no table of Unicode is asked.
 #[tactic(auto, using(crate::proofs::Bare::bare_bytes))]
 fn is_bare(word: &str) -> bool
     ensures { result ≡ is_bare word.now }
@@ -87,7 +87,7 @@ fn long_piece<'p, A: Allocator>(arena: &'p Bump<A>, long: &str) -> Result<Inline
 }
 
 /// The word for a value as it is shown: as it is, where all its characters are Uppercase ones, ASCII digits, `-` and
-/// `_`, and else between `<` and `>`.
+/// `_`, otherwise between `<` and `>`.
 pub fn shown_value<'p, A: Allocator>(
     arena: &'p Bump<A>,
     word: &'p str,
@@ -128,7 +128,7 @@ fn push_value<'p, A: Allocator>(
     Ok(())
 }
 
-/// The short name of an option, and the word for its value behind a blank, if it has one.
+/// The short name of an option, and after a blank the word for its value, if it has one.
 pub fn short_line<'p, A: Allocator>(
     arena: &'p Bump<A>,
     short: char,
@@ -142,7 +142,7 @@ pub fn short_line<'p, A: Allocator>(
     Ok(line)
 }
 
-/// The long name of an option, and the word for its value behind `=`, if it has one.
+/// The long name of an option, and after `=` the word for its value, if it has one.
 pub fn long_line<'p, A: Allocator>(
     arena: &'p Bump<A>,
     long: &str,

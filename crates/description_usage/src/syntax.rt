@@ -59,7 +59,7 @@ pub fn is_closing(byte: u8) -> bool
     byte == b']' || byte == b')' || byte == b'>' || byte == b'}'
 }
 
-// Whether a name may stand directly behind the byte.
+// Whether a name may stand directly after the byte.
 fn is_lead(byte: u8) -> bool
     ensures { result ≡ is_lead byte }
 {
@@ -86,8 +86,7 @@ fn is_same(one: bool, other: bool) -> bool
 
 // ---- stretches
 
-// The first of the longest stretches of a text whose bytes are all of a class or are none of it, and what stands
-// behind it.
+// The first of the longest stretches of a text whose bytes all are, or all are not, of a class, and what follows it.
 fn first_stretch(text: &str, class: Class) -> Option<(&str, &str)>
     ensures stretches { MatchOption result (stretches (is_in class) text.now ≡ [])
         (λ p. stretches (is_in class) text.now ≡ p.0.now ∷ stretches (is_in class) p.1.now) }
@@ -99,7 +98,7 @@ fn first_stretch(text: &str, class: Class) -> Option<(&str, &str)>
     Some(text.split_at(len))
 }
 
-// How many bytes at the front are of the class, or are none of it.
+// How many bytes at the front are all of the class, or all not of it.
 fn alike_len(bytes: &[u8], class: Class, are_in: bool) -> usize
     ensures { result ≡ prefix_len (λ byte. is_same are_in (is_in class byte)) bytes.now }
 {
@@ -136,7 +135,7 @@ fn has_form_of_name(run: &[u8]) -> bool
     }
 }
 
-// Whether a name may stand behind these bytes.
+// Whether a name may stand after these bytes.
 fn is_place(before: &[u8]) -> bool
     ensures { result ≡ is_place before.now }
 {
@@ -152,7 +151,7 @@ fn is_name(before: &[u8], run: &[u8]) -> bool
     is_place(before) && has_form_of_name(run)
 }
 
-// Whether a run stands directly behind a negation.
+// Whether a run stands directly after a negation.
 fn is_negated(before: &[u8], run: &[u8]) -> bool
     ensures { result ≡ is_negated before.now run.now }
 {
@@ -171,7 +170,7 @@ fn is_called(before: &[u8], run: &[u8]) -> bool
 
 // ---- the line of a syntax
 
-/// Puts the pieces of a syntax behind those of a line. After `AllocError` some may stand there.
+/// Appends the pieces of a syntax to those of a line. After `AllocError` some of them may have been appended.
 pub fn push_syntax<'a, A: Allocator>(
     line: &mut Line<'a, A>,
     text: &'a str,
@@ -238,7 +237,7 @@ fn has_small_letter(word: &[u8]) -> bool
     word.iter().any(|byte| byte.is_ascii_lowercase())
 }
 
-// ---- what commas part
+// ---- the parts that commas separate
 
 fn is_cut(is_mark: bool, opened: usize, closed: usize) -> bool
     ensures { result ≡ (is_mark && opened == closed) }
@@ -265,7 +264,7 @@ fn first_outside(bytes: &[u8], mark: u8) -> Option<usize>
     None
 }
 
-/// What stands before and behind the first such mark outside brackets.
+/// What stands before and after the first such mark outside brackets.
 pub fn split_part(text: &str, mark: u8) -> Option<(&str, &str)>
     requires outside { is_bracket mark ≡ false }
     requires ascii { mark < 128 }
@@ -307,7 +306,7 @@ fn syntax_term<'a, A: Allocator>(alloc: A, way: &'a str) -> Result<Line<'a, A>, 
     Ok(line)
 }
 
-/// What commas outside brackets part in a syntax, each as a term of an entry.
+/// The parts that commas outside brackets separate in a syntax, each as a term of an entry.
 pub fn syntax_terms<'a, A: Allocator + Copy>(
     alloc: A,
     text: &'a str,
@@ -368,7 +367,7 @@ fn without_dashes(name: &str) -> &str
 }
 
 /// What an option is called: the first name outside brackets, without the dashes at its front. The whole text where it
-/// has none.
+/// has no name.
 pub fn syntax_word(text: &str) -> &str
     ensures { result.now ≡ syntax_word text.now }
 {

@@ -503,7 +503,7 @@ fn push_named<'p, 'a: 'p, A: Allocator, B: Allocator>(
     push_groups(arena, items, level.groups.as_slice())
 }
 
-/// The items of the usage of a level, behind the names that lead there: its options and choices and those of its
+/// The items of the usage of a level, after the names that lead there: its options and choices and those of its
 /// groups, positional values, and what stands for a command.
 pub fn usage_items<'p, 'a: 'p, A: Allocator, B: Allocator>(
     arena: &'p Bump<A>,

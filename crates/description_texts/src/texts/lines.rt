@@ -138,7 +138,7 @@ fn with_blank_front<'a>(arena: &'a Bump, line: &'a str) -> Result<&'a str, Alloc
     arena.try_alloc_str(text.as_str())
 }
 
-/// The lines of a text, each with a blank for a tab at its front. They borrow the text, but where there is such a tab.
+/// The lines of a text, each with a blank for a tab at its front. They borrow the text, unless there is such a tab.
 pub fn lines<'a>(arena: &'a Bump, text: &'a str) -> Result<Vec<&'a str, &'a Bump>, AllocError>
     ensures { IfOk result (λ found. map (λ line. line.now) found.items ≡ lines text.now) }
 {

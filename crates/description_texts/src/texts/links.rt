@@ -6,7 +6,7 @@ ghost use Rattle.page_model.specs.Content.{link};
 ghost use Rattle.description_texts.specs.TextsInside.{address_len, is_address, is_link_byte, link_len, links, word};
 ghost use Rattle.description_texts.specs.TextsView.{IsLinkAt};
 
-/// A link in a text: its address, what stands before it, and what stands behind it.
+/// A link in a text: its address, and what stands before and after it.
 #[derive(Clone, Copy)]
 pub struct Link<'a> {
     pub before: &'a str,
@@ -42,7 +42,7 @@ fn is_closed(text: &[u8], len: usize) -> bool
     }
 }
 
-// How long the address is that stands behind `<`. 0 where there is none.
+// The length of the address after `<`. 0 where there is none.
 fn address_len(text: &[u8]) -> usize
     ensures { result ≡ address_len text.now }
 {
@@ -54,7 +54,7 @@ fn address_len(text: &[u8]) -> usize
     }
 }
 
-// How long the address of the link is that begins at a place. 0 where none begins there.
+// The length of the address of the link that begins at a place. 0 where none begins there.
 #[tactic(auto, using(crate::proofs::TextsLinks::link_there))]
 fn link_len(bytes: &[u8], at: usize) -> usize
     requires { at < length bytes.now }

@@ -8,7 +8,7 @@ ghost use Rattle.description_texts.specs.TextsView.{IsLoneCut};
 
 use crate::texts::spacing::{is_edge_back, is_edge_front, without_white_end, without_white_front};
 
-/// What stands between two such backquotes, before them and behind them.
+/// What stands between two such backquotes, before them and after them.
 #[derive(Clone, Copy)]
 pub struct Pair<'a> {
     pub before: &'a str,
@@ -26,7 +26,7 @@ fn is_quote_at(bytes: &[u8], at: usize) -> bool
     }
 }
 
-// Whether a backquote stands at a place that stands beside no other one.
+// Whether at a place there is a backquote that stands beside no other one.
 fn is_lone(bytes: &[u8], at: usize, is_behind_quote: bool) -> bool
     requires { at < length bytes.now }
     ensures { result ≡ is_lone is_behind_quote (slice_index bytes.now at) (drop (at + 1) bytes.now) }

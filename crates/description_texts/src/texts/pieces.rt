@@ -10,7 +10,7 @@ use bumpalo::Bump;
 use page_model::{Inline, Line};
 use std::alloc::{AllocError, Allocator};
 
-/// Pieces, and the words behind them, which may go on.
+/// Pieces, and the words after them, which may go on.
 #[derive(Drop)]
 pub struct Pieces<'a, A: Allocator> {
     pub pieces: Line<'a, A>,
@@ -36,7 +36,7 @@ fn push_joined<A: Allocator>(text: &mut String<A>, parts: &[&str]) -> Result<(),
     Ok(())
 }
 
-// The texts, one behind the other. A text alone is borrowed.
+// The texts, one after another. A text alone is borrowed.
 fn joined<'a>(arena: &'a Bump, parts: &[&'a str]) -> Result<&'a str, AllocError>
     ensures { IfOk result (λ text. text.now ≡ flat_map (λ part. part.now) parts.now) }
 {
@@ -51,7 +51,7 @@ fn joined<'a>(arena: &'a Bump, parts: &[&'a str]) -> Result<&'a str, AllocError>
     }
 }
 
-/// Puts words behind the pieces.
+/// Appends words to the pieces.
 pub fn push_words<'a, A: Allocator>(
     pieces: &mut Pieces<'a, A>,
     text: &'a str,
@@ -65,7 +65,7 @@ pub fn push_words<'a, A: Allocator>(
     Ok(())
 }
 
-/// Puts words behind a line, unless there are none. An error comes only where an allocation failed.
+/// Appends words to a line, unless there are none. An error comes only where an allocation failed.
 pub fn push_some<'a, A: Allocator>(line: &mut Line<'a, A>, text: &'a str) -> Result<(), AllocError>
     ensures { OnOk result (line_of line.new.items ≡ line_of line.old.items ++ some_words text.now) }
 {
@@ -87,7 +87,7 @@ fn close<'a>(arena: &'a Bump, pieces: &mut Pieces<'a, &'a Bump>) -> Result<(), A
     Ok(())
 }
 
-/// Puts a piece that is no words behind the pieces.
+/// Appends a piece that is not words.
 pub fn push_apart<'a>(
     arena: &'a Bump,
     pieces: &mut Pieces<'a, &'a Bump>,
@@ -112,7 +112,7 @@ pub fn finished<'a>(
     Ok(pieces.pieces)
 }
 
-// Puts a piece behind the pieces.
+// Appends a piece.
 fn push_piece<'a>(
     arena: &'a Bump,
     pieces: &mut Pieces<'a, &'a Bump>,

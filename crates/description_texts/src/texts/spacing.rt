@@ -71,7 +71,7 @@ pub fn without_white_end(text: &str) -> &str
     }
 }
 
-// Whether white space at a place is left out, behind which white space or the end of the line stands.
+// Whether there is white space at a place that is left out: white space or the end of the line follows it.
 fn is_left_out(bytes: &[u8], at: usize) -> bool
     requires { at < length bytes.now }
     ensures { result ≡ is_edge_front (drop (at + 1) bytes.now) }
@@ -101,7 +101,7 @@ fn stand_in(bytes: &[u8], at: usize) -> Option<&'static str>
     }
 }
 
-// Whether a byte stands where it stays as it is: no backquote, no `<`, and white space only as a blank behind a word.
+// Whether a byte stays as it is: neither a backquote nor `<`, and white space only as a blank after a word.
 fn stays_here(byte: u8, is_behind_white: bool) -> bool
     ensures { result ≡ stays_here byte is_behind_white }
 {
@@ -147,8 +147,8 @@ fn squeezed<'a>(arena: &'a Bump, line: &'a str) -> Result<&'a str, AllocError>
     arena.try_alloc_str(out.as_str())
 }
 
-/// A line with one blank for the white space that follows one another, and none at its ends. It borrows the line, but
-/// where it differs from a part of it.
+/// A line with one blank for each run of white space, and none at its ends. It borrows the line, except where it
+/// differs from a part of it.
 pub fn spaced<'a>(arena: &'a Bump, line: &'a str) -> Result<&'a str, AllocError>
     ensures { IfOk result (λ text. text.now ≡ spaced line.now) }
 {

@@ -3,7 +3,7 @@ use Rattle.std.specs.Str.{IsCharBoundary}
 use Rattle.description_texts.specs.TextsInside.{squeezed}
 use Rattle.description_texts.proofs.texts.spacing.squeezed.Given as goal
 
--- what is written, what lies behind the last stand-in, and what is left come to all
+-- what is written, what follows the last stand-in, and what is left make up the whole
 abbrev pub invariant-loop-at : goal.invariant-loop-at
 invariant-loop-at l = record {
   in_order : l.start ≤ l.at;
