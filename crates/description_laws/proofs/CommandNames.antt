@@ -1,4 +1,5 @@
--- Of a description that a TOML text gives, no two commands of a level have one name, and each name is one of a command.
+-- In a description that a TOML text gives, no two commands of a level have one name, and each name is that of a
+-- command.
 use Rattle.std.proofs.Common.{◌≡◌, ℕ, true, false, not, ◌&&◌, List, [], ◌∷◌, ◌++◌, bytes_eq, codes, flat_map, Option, Some, None, option_and_then, option_to_list, refl, sym, ap, ap₂, ◌∙◌, subst, ⊎_elim, append-nil, arith}
 use Rattle.std.specs.List.{list_all, list_any}
 use Rattle.std.proofs.lemmas.Bool.{and_parts, true≢false}

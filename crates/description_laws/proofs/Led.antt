@@ -98,7 +98,7 @@ module _ (P : List ℕ → Type 0) (fixed : WordsSaid) where
   topics_lead : (topics : List TopicSaid) → Each SectionLeads (own_sections fixed Full topics)
   topics_lead topics = each_flat SectionLeads (own_section fixed Full) topic_leads topics
 
-  -- ---- commands, where each that is shown is told
+  -- ---- commands, where P holds of the title of each that is shown
 
   module _ (s : SubjectSaid) where
     command_leads : (m : CommandSaid) → ((u : SubjectSaid) → Among (from_command s m) u → P (title u)) → Each RowLeads (command_rows_of fixed Full Deep s.names m)

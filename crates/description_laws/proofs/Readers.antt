@@ -1,4 +1,5 @@
--- What holds of that which a TOML text gives, for any law: of the words of a title line, of fixed words, and of groups and commands in one another.
+-- What holds of whatever a TOML text gives, for any law: of the words of a title line, of fixed words, and of nested
+-- groups and commands.
 use Rattle.std.proofs.Common.{◌≡◌, ℕ, ◌+◌, Ordering, nat_cmp, List, [], ◌∷◌, ◌++◌, true, Option, Some, None, refl, codes, option_and_then, option_to_list, ℤ, arith}
 use Rattle.std.specs.Prelude.{nat_lt, option_map}
 use Rattle.std.specs.Cmp.Lexicographic.{slice_cmp}
@@ -119,14 +120,14 @@ module _ (P : List ℕ → Type 0) where
     fixed_hold None = english_are
     fixed_hold (Some ms) = words_from ms
 
--- ---- groups and commands in one another
+-- ---- nested groups and commands
 
 by_order : {X : Type 0} (P : List Members → X → Type 0) (o : Ordering) (there : Option Data) (d : Data) (here rest : Option X) → Gives (P (tables_of (Some d))) here → Gives (P (tables_of there)) rest
     → Gives (P (tables_of (match_ordering o there (Some d) there))) (match_ordering o rest here rest)
 by_order P o there d here rest h6 h7 = grind arith
 
--- What holds of commands and of groups, told of the tables that they are read from: of none, of one more, and of one by what holds of
--- those in it.
+-- What holds of commands and of groups, said of the tables that they are read from: of none, of one more, and of one by
+-- what holds of those in it.
 pub record Holding (Commands : List Members → CommandsSaid → Type 0) (Groups : List Members → GroupsSaid → Type 0) (Command : List Members → CommandSaid → Type 0) (Group : List Members → GroupSaid → Type 0) : Type 0 where
   pub no_commands : Commands [] no_commands
   pub no_groups : Groups [] no_groups

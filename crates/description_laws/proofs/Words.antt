@@ -1,4 +1,4 @@
--- Words with a blank between two: they tell which words they are.
+-- Words with a blank between two: which words they are can be read from the text.
 use Rattle.std.proofs.Common.{◌≡◌, ℕ, suc, ◌<◌, Bool, true, false, not, ◌&&◌, ◌==◌, List, [], ◌∷◌, ◌++◌, flat_map, length, codes, get_or, refl, sym, ap, ap₂, ◌∙◌, ⊎_elim, arith}
 use Rattle.std.specs.List.{list_all}
 use Rattle.std.specs.Prelude.{chars}
@@ -27,7 +27,7 @@ pub record IsWord (text : List ℕ) : Type 0 where
 abbrev behind : List (List ℕ) → List ℕ
 behind words = flat_map (λ word. codes " " ++ word) words
 
--- ---- parted
+-- ---- separated
 
 blank_after : (b : ℕ) (rest : List ℕ) → (b == 32) ≡ false → is_parted rest ≡ true → is_parted (b ∷ rest) ≡ true
 blank_after b [] h k = ap not h
@@ -49,7 +49,7 @@ pub words_parted : (words : List (List ℕ)) → Each IsWord words → is_parted
 words_parted [] ws = refl
 words_parted (word ∷ words) ws = parted_word word (behind words) ws.0.no_blank (parted_behind words ws.1)
 
--- ---- told apart
+-- ---- distinguished
 
 head_same : (a b : ℕ) (xs ys : List ℕ) → a ∷ xs ≡ b ∷ ys → a ≡ b
 head_same a b xs ys e = cc
@@ -93,7 +93,7 @@ words_told x y xs ys h k e =
     let first = word_told x y xs ys h.0.no_blank k.0.no_blank e in
     ap₂ (λ w ws. w ∷ ws) first.0 (behind_told xs ys (no_blanks xs h.1) (no_blanks ys k.1) first.1)
 
--- ---- texts of characters that are no blanks
+-- ---- texts of characters that are not blanks
 
 none_pass : (p : ℕ → Bool) (cs : List ℕ) → list_all (λ c. not (p c)) cs ≡ true → NonePass p cs
 none_pass p [] h = tt

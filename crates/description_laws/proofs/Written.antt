@@ -177,7 +177,7 @@ mutual
 
 -- ---- the whole
 
--- what stands behind the language, and behind the section
+-- what follows the language, and what follows the section
 abbrev shown_texts : DescriptionSaid → List (List ℕ)
 shown_texts d = fixed_texts d.words ++ (flat_map option_texts d.help_options ++ level_texts d.level)
 

@@ -50,9 +50,9 @@ abbrev mutual
 abbrev pub all_names : DescriptionSaid → List (List ℕ)
 all_names d = d.name ∷ level_names d.level
 
--- No two elements of the page of a level of a description that a TOML text gives have one id, where there are fewer than 2 ^ 64
--- ids: neither on that of the application nor on that of a command. The names are texts: among other bytes a blank could stand
--- inside of a character, and `a b` be one name or two.
+-- No two elements of the page of a level of a description that a TOML text gives have one id, where there are fewer
+-- than 2 ^ 64 ids: neither on that of the application nor on that of a command. The names are texts: in other bytes a
+-- blank could stand inside a character, and `a b` could be one name or two.
 abbrev pub HtmlIdsAreDistinct : Type 0
 HtmlIdsAreDistinct =
     (ms : Members) (d : DescriptionSaid) (given : TitleGiven) (words : List (List ℕ)) (s : SubjectSaid) → described ms ≡ Some d → list_all is_utf8 (all_names d) ≡ true → level_at words d ≡ Some s

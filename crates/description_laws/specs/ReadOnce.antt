@@ -1,4 +1,5 @@
--- What a macro of roff may read a second time: it is the same then. Such macros read the words of the title line of a manual page, and its headings.
+-- What a macro of roff may read a second time, since it then reads the same. Such macros read the words of the title
+-- line of a manual page, and its headings.
 use Rattle.std.specs.Prelude.{◌≡◌, ℕ, List, [], ◌++◌, flat_map, true, Option, Some, None}
 use Rattle.std.specs.List.{list_all}
 use Rattle.toml.specs.Data.{Members}

@@ -1,6 +1,6 @@
 //! Laws of the description that a TOML text gives, and of its pages: nothing to call, but statements that the check
-//! proves. No page rests on them, so they stand above `description_toml` and `command_pages`, and who reads a description
-//! or makes pages need not have them proved.
+//! proves. No page rests on them, so they stand above `description_toml` and `command_pages`, and whoever reads a
+//! description or makes pages need not have them proved.
 #![tactic(auto)]
 
 ghost use Rattle.description_laws.specs.HtmlPages.{HtmlIdsAreDistinct, HtmlLinksHaveTargets};
@@ -14,9 +14,9 @@ pub fn texts_are_plain()
     ensures { TextsArePlain }
 {}
 
-/// Of a description that a TOML text gives, no word of the title line of its manual page, no title of a group or of a
-/// topic, no name of a command and no fixed word holds a backslash or a double quote. So a macro that reads its arguments
-/// a second time reads the same words.
+/// In a description that a TOML text gives, no word of the title line of its manual page, no title of a group or of a
+/// topic, no name of a command and no fixed word holds a backslash or a double quote. So a macro that reads its
+/// arguments a second time reads the same words.
 pub fn titles_are_read_once()
     ensures { TitlesAreReadOnce }
 {}

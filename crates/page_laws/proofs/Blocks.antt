@@ -191,7 +191,7 @@ opens_by b n text true e h = record { byte = front e; len = h } where
   front e = grind (arith, nat_tests)
 opens_by b n text false e h = absurd (omega arith)
 
--- where no more bytes are left than this, what is put for them is permitted behind a text
+-- where no more bytes are left than this, what is put for them is permitted after a text
 abbrev LinksAre : ℕ → Type 0
 LinksAre fuel = (p text : List ℕ) → length text ≤ fuel → Permitted (p ++ text) → Permitted (p ++ spelled (links text))
 

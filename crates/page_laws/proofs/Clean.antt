@@ -122,7 +122,7 @@ module _ (good : ℕ → Bool) where
   alone : (a : ℕ) (y : List ℕ) → a < 128 → Clean good (a ∷ y) → Halves (a ∷ []) y
   alone a y small h = seam (a ∷ []) y (IsCharBoundary-after_ascii (a ∷ y) 0 h.utf8 (omega arith) small) h
 
-  -- behind it
+  -- after it
   pub cut_behind : (x : List ℕ) (a : ℕ) (y : List ℕ) → a < 128 → Clean good (x ++ a ∷ y) → Halves (x ++ a ∷ []) y
   cut_behind x a y small h =
       let before = cut_before x a y small h in
@@ -146,7 +146,7 @@ module _ (good : ℕ → Bool) where
   pub as_whole : (p : List ℕ) → Clean good p → Clean good (p ++ [])
   as_whole p h = subst (Clean good) (sym (append-nil p)) h
 
-  -- ---- parts of a text, of which the first stands behind another text
+  -- ---- parts of a text, of which the first follows another text
 
   abbrev pub Parts : List ℕ → List (List ℕ) → Type 0
   Parts p [] = Clean good p

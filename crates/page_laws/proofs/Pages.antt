@@ -493,7 +493,7 @@ mutual
 pub all_below : (s : SubjectSaid) → SubjectIs s → Each SubjectIs (subjects_below s)
 all_below s h = levels_below s h s.level h.level
 
--- those behind it on its page
+-- those after it on its page
 names_are : (os : List OptSaid) → Each OptIs os → Each OptIs (map name_only os)
 names_are [] h = tt
 names_are (o ∷ os) h = (record { spelling = h.0.spelling; value = h.0.value; default = tt; values = tt; help = tt; env = tt }, names_are os h.1)

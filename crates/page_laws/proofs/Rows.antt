@@ -5,7 +5,7 @@ use Rattle.std.proofs.lemmas.Bool.{and_parts, false≢true}
 use Rattle.page_model.specs.Content.{Piece, words, Line, block, paragraph}
 use Rattle.page_model.specs.Permitted.{are_permitted, is_permitted_line, is_permitted_part, is_permitted_piece}
 
--- as `name_line` of the manual page, but for the first byte of what stands between
+-- as `name_line` of the manual page, except the first byte of what stands between
 abbrev escaped_line : (name : List ℕ) → Piece → Line → Line
 escaped_line name piece line = words name ∷ words (27 ∷ codes "- ") ∷ piece ∷ line
 

@@ -22,7 +22,7 @@ BlocksArePermitted = (text : List ℕ) → is_fit text ≡ true → list_all is_
 
 -- ---- usages
 
--- of a level whose texts are fit, behind names that are, with fixed words that are
+-- of a level whose texts are fit, after names that are, with fixed words that are
 abbrev pub UsagesArePermitted : Type 0
 UsagesArePermitted = (fixed : WordsSaid) (names : List ℕ) (l : LevelSaid) → list_all is_fit (names ∷ fixed_texts fixed) ≡ true → list_all is_fit (level_texts l) ≡ true → list_all is_permitted_form (usage_forms fixed names l) ≡ true
 

@@ -2,7 +2,7 @@
 use Rattle.std.specs.Prelude.{◌≡◌, true, false, [], ◌∷◌, refl, codes}
 use Rattle.description_toml.specs.Syntax.{are_paired, pieces, syntax_names}
 
--- what commas outside brackets part
+-- the parts that commas outside brackets separate
 cut_pieces : pieces (codes "-a , --b[=X,Y],c") ≡ codes "-a " ∷ codes " --b[=X,Y]" ∷ codes "c" ∷ []
 cut_pieces = refl
 

@@ -80,7 +80,7 @@ row_3 : normalized true (or_of (two a b)) ≡ required (or_of (two a b))
 unfolding is_uppercase chars in_ranges uppercase_ranges encode
 row_3 = (refl, refl, refl, refl, refl)
 
--- normal forms: two strict parts, `--` before nothing, and brackets in one another
+-- normal forms: two strict parts, `--` before nothing, and nested brackets
 row_4 : normalized true (and_of (two (strict P) (strict Q))) ≡ and_of (two (strict P) Q)
     × normalized true (and_of (two a (strict skip))) ≡ and_of (two a (strict skip))
     × normalized true (optional (many a)) ≡ optional (many a)
@@ -110,7 +110,7 @@ twice = refl
 title : document_of (em_doc_writes (Text (codes "Title") style.Text ∷ Text (codes "x") style.Literal ∷ [])) ≡ Start block.InlineBlock ∷ Text (codes "Title") style.Emphasis ∷ Text (codes "x") style.Literal ∷ End block.InlineBlock ∷ []
 title = refl
 
--- nothing is reached in an Adjacent without first item
+-- nothing is reached in an Adjacent without a first item
 unreached : misplaced_items (adjacent (or_of (tree (item (command (codes "x") None None (and_of (two P a)) nothing)) no_trees))) ≡ []
     × misplaced_items (optional (or_of (tree (item (command (codes "x") None None (and_of (two P a)) nothing)) no_trees))) ≡ (2, flag (short 97) [] None None) ∷ []
 unreached = (refl, refl)

@@ -23,7 +23,7 @@ section : document_of (em_doc_writes (Text (codes "Title\n") style.Text ∷ Text
     ∷ End block.InlineBlock ∷ []
 section = refl
 
--- a first text of another style is no title
+-- a first text of another style is not a title
 first_texts : document_of (em_doc_writes (Text (codes "x") style.Literal ∷ Text (codes "y") style.Text ∷ []))
     ≡ Start block.InlineBlock ∷ Text (codes "x") style.Literal ∷ Text (codes "y") style.Text ∷ End block.InlineBlock ∷ []
     × first_line_of (Text (codes "one\ntwo") style.Text ∷ Text (codes "z") style.Literal ∷ []) ≡ Some (Text (codes "one") style.Text ∷ [])

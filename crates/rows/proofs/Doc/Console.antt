@@ -19,7 +19,7 @@ unfoldable pub computed : ℕ
 unfolding chunks_of chunks_in chunks_within chars encode trim_end str_width step past_emoji
 computed = 0
 
--- a text alone, and a block round some parts
+-- a text alone, and a block around some parts
 abbrev pub words : List ℕ → List Part
 words bytes = Text bytes style.Text ∷ []
 

@@ -1,4 +1,5 @@
--- Texts that are no layout of their document, whatever their placing: in each placing of the text the law that is named does not hold.
+-- Texts that are not a layout of their document, whatever their placing: in each placing of the text the law that is
+-- named does not hold.
 use Rattle.std.proofs.lemmas.Grind.{common_steps}
 use Rattle.std.specs.Prelude.{◌≡◌, ℕ, ◌+◌, ◌<◌, ◌≤◌, Bool, true, false, not, ◌&&◌, ◌||◌, ◌==◌, max, List, [], ◌∷◌, ◌++◌, All, codes, length, map, sum_by, refl, if◌then◌else◌, nat_lt, ◌⊎◌}
 use Rattle.std.specs.List.{list_any, list_all}
@@ -23,7 +24,7 @@ abbrev chosen : Bool → (Unit {0} → List (List Stretch)) → List (List Stret
 chosen true f = f tt
 chosen false f = []
 
--- f of what stands behind a front
+-- f of what follows a front
 abbrev behind : (front text : List ℕ) → (List ℕ → List (List Stretch)) → List (List Stretch)
 behind [] text f = f text
 behind (c ∷ front) [] f = []
@@ -332,7 +333,7 @@ begins_with_empty_code clear = cc
 
 -- ---- the texts
 
--- alone: words behind a code line
+-- alone: words after a code line
 word_behind_code_refused : IsLayout (words (codes "\n    c\nd")) true 100 (codes "c d") → ⊥
 unfolding computed
 word_behind_code_refused layout = refused layout (alone layout (omega arith) refl) refl
@@ -342,7 +343,7 @@ body_past_the_width_refused : IsLayout (inside block.ItemTerm (words (codes "a")
 unfolding computed
 body_past_the_width_refused layout = refused layout (fits layout (omega arith) refl) refl
 
--- fits: a word behind a backquote
+-- fits: a word after a backquote
 word_past_backquote_refused : IsLayout (inside block.TermRef (words (codes "ab"))) true 2 (codes "`ab`") → ⊥
 unfolding computed
 word_past_backquote_refused layout = refused layout (fits layout (omega arith) refl) refl
@@ -370,7 +371,7 @@ cut_at_the_width_refused : IsLayout (words (codes "a b")) true 1 (codes "a") →
 unfolding computed
 cut_at_the_width_refused layout = let same : codes "a" ≡ codes "ab" = layout.same_ink in cc
 
--- ink: brief hides what stands behind the inline block
+-- ink: brief hides what follows the inline block
 hidden_for_ever_refused : IsLayout (inside block.InlineBlock (words (codes "a\n\nb")) ++ words (codes "c")) false 100 (codes "a\n") → ⊥
 unfolding computed
 hidden_for_ever_refused layout = let same : codes "a" ≡ codes "ac" = layout.same_ink in cc

@@ -17,7 +17,7 @@ computed = 0
 abbrev broken : List Part
 broken = PartStart InlineBlock ∷ Words (codes "a\n\nb") Text ∷ PartStart Mono ∷ Words (codes "x") Text ∷ PartEnd Mono ∷ PartEnd InlineBlock ∷ Words (codes "c") Text ∷ []
 
--- the Paragraph is left out, the text behind it is hidden, and the marks stay
+-- the Paragraph is left out, the text after it is hidden, and the marks stay
 in-brief : shown_fragments false broken
     ≡ Start InlineBlock ∷ TextStart Text ∷ Shown Text (Raw (codes "a") 1) ∷ TextEnd Text
     ∷ Start Mono ∷ Hidden ∷ End Mono ∷ End InlineBlock ∷ TextStart Text ∷ Shown Text (Raw (codes "c") 1) ∷ TextEnd Text ∷ []

@@ -58,7 +58,7 @@ texts_and_headers : ShowsFull (Words [] Literal ∷ []) (codes "<tt><b></b></tt>
 unfolding computed
 texts_and_headers = (refl, refl, refl, refl, refl)
 
--- a text that says so is no break
+-- a text that looks like a break is not one
 blocks : ShowsFull (Words (codes "<br>") Text ∷ block Header []) (codes "&lt;br&gt;<br>\n# <br>\n")
     × ShowsFull (block InlineBlock (Words (codes "Title") Emphasis ∷ block Section3 (Words (codes "body") Text ∷ []))) (codes "<b>Title</b><div style='padding-left: 0.5em'>body</div>")
     × ShowsFull (block Section2 a) (codes "<div>\na</div>")
@@ -73,7 +73,7 @@ blocks : ShowsFull (Words (codes "<br>") Text ∷ block Header []) (codes "&lt;b
 unfolding computed
 blocks = (refl, refl, refl, refl, refl, refl, refl, refl, refl, refl, refl)
 
--- a body in a list, one in that body, an empty item, and a body behind the list
+-- a body in a list, one in that body, an empty item, and a body after the list
 abbrev items : List Part
 items = block DefinitionList (block ItemTerm (Words (codes "--a") Literal ∷ []) ++ block ItemBody (Words (codes "x") Text ∷ block ItemBody (Words (codes "y\n\nz") Text ∷ [])) ++ block ItemTerm [] ++ block ItemBody [])
     ++ block ItemBody (Words (codes "b") Text ∷ [])

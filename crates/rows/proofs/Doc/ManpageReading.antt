@@ -1,4 +1,4 @@
--- What the program reads, the text is read as.
+-- The program reads as events exactly what the text is read as.
 use Rattle.std.specs.Prelude.{◌≡◌, ◌≢◌, ℕ, false, List, [], ◌∷◌, ◌++◌, ◌==◌, ◌↔◌, Option, Some, None, codes, refl}
 use Rattle.std.proofs.Common.{inl, inr, ap, subst, ◌∙◌, sym, append_assoc, arith}
 use Rattle.std.proofs.lemmas.List.{append-nil}

@@ -55,7 +55,7 @@ blocks : ShowsBrief (Words (codes "a\n\nb") Text ∷ Words (codes "c") Literal �
 unfolding computed
 blocks = (refl, refl, refl, refl, refl, refl, refl, refl, refl, refl, refl, refl)
 
--- a body in a list, one in that body, an empty item, and a body behind the list
+-- a body in a list, one in that body, an empty item, and a body after the list
 abbrev items : List Part
 items = block DefinitionList (block ItemTerm (Words (codes "--a") Literal ∷ []) ++ block ItemBody (Words (codes "x") Text ∷ block ItemBody (Words (codes "y\n\nz") Text ∷ [])) ++ block ItemTerm [] ++ block ItemBody [])
     ++ block ItemBody (Words (codes "b") Text ∷ [])

@@ -102,7 +102,7 @@ key_order : key_cmp (word_key (codes "b") None) (flag_key (short 97) None) ≡ o
     × key_cmp (argument_key (both 97 (codes "a")) (codes "N") None) (argument_key (both 97 (codes "a")) (codes "N") (Some h)) ≡ order.Less
 key_order = (refl, refl, refl)
 
--- nothing is reached in an Adjacent without first item, so only the check of the command's own chapter finds the flag
+-- nothing is reached in an Adjacent without a first item, so only the check of the command's own chapter finds the flag
 abbrev hidden : Tree
 hidden = adjacent (or_of (tree (item (command (codes "x") None None (and_of (tree (item (positional (codes "P") None)) (tree (item b) no_trees))) nothing)) (tree (item c) no_trees)))
 
