@@ -6,7 +6,7 @@ ghost use Rattle.watched.specs.Watched.{IsMarked, IsUnmarked};
 use std::io;
 use watched::{Source, Watched};
 
-/// Drops the next byte, and answers whether there was one. An error comes exactly where the mark is then set, and
+/// Drops the next byte, and returns whether there was one. An error comes exactly where the mark is then set, and
 /// it is that of a read.
 pub fn skip_byte<R: Source>(reader: &mut Watched<R>) -> io::Result<bool>
     requires { IsUnmarked reader.old }

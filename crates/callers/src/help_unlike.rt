@@ -1,4 +1,4 @@
-//! The names that a help text or a description has alone.
+//! The names that only a help text or only a description has.
 
 ghost use Rattle.std.specs.Prelude.{◌↔◌, IfOk, map};
 ghost use Rattle.std.specs.List.{Contains};

@@ -1,4 +1,4 @@
-//! How much of a description would better be said otherwise.
+//! How much of a description should be said differently.
 
 ghost use Rattle.std.specs.Prelude.{◌≡◌, length, IfOk};
 ghost use Rattle.description.specs.View.{description_said};

@@ -13,7 +13,7 @@ pub page_of_text : {A : Type 0} (title : List (List ℕ)) (form : Form) (documen
     → IsRendering title form document (string_bytes text) → string_bytes text ≡ page_bytes title form document → IsPage title form document (string_bytes text)
 page_of_text title form document text rendering exact = record { utf8 = IsUtf8-string_bytes text; rendering = rendering; exact = exact }
 
--- and so is what a renderer answers
+-- and so is what a renderer returns
 pub page_of_answer : {A E : Type 0} (title : List (List ℕ)) (form : Form) (document : List Part) (result : Result (String A) E)
     → IfOk result (λ text. IsRendering title form document (string_bytes text)) → IfOk result (λ text. string_bytes text ≡ page_bytes title form document)
     → IfOk result (λ text. IsPage title form document (string_bytes text))

@@ -1,5 +1,5 @@
--- The sample application: by computing, its one item stands well and its texts are well nested. So its pages are never refused for a
--- misplaced item, and their promises hold without a premise.
+-- The sample application: by computing, its one item is not misplaced and its texts are well nested. So its pages are
+-- never refused for a misplaced item, and their promises hold without a premise.
 use Rattle.std.specs.Prelude.{◌≡◌, ℕ, ◌++◌, false, List, [], ◌∷◌, All, Contains, Result, Ok, Err, IfErr, codes, refl}
 use Rattle.std.specs.Result.{IsErrAnd}
 use Rattle.std.proofs.Common.{subst, sym, ◌∙◌, arith}
@@ -54,7 +54,7 @@ never_first_of : (chapters : List Chapter) (l : Leaf) → AreWellPlaced chapters
 never_first_of chapters l placed first =
     never_first first.faulty.content l (middle (λ c. IsWellPlaced c.content) first.front first.faulty first.back (subst AreWellPlaced first.order placed)) first.first
 
--- an error that is handed on
+-- an error that is passed on
 pub only_memory : {X : Type 0} (result : Result X Fault) (fault : Fault) → IsErrAnd result (λ f. f ≡ fault) → fault ≡ Memory → IfErr result (λ f. f ≡ Memory)
 only_memory (Ok x) fault same memory = tt
 only_memory (Err f) fault same memory = same ∙ memory

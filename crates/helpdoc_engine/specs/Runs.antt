@@ -1,5 +1,5 @@
--- What a run writes. A writer tells which bytes it holds, here before and after the run; one that doesn't tell is
--- `None` in both places, and then nothing is said of its bytes.
+-- What a run writes. The bytes that a writer holds, here before and after the run, may be known; of a writer where they
+-- are `None` in both places, nothing is said.
 use Rattle.std.specs.Prelude.{ℕ, List, Option}
 use Rattle.std.specs.Io.KnownBytes.{Appends}
 use Rattle.watched.specs.Watched.{AppendsPart}

@@ -26,7 +26,7 @@ const SECTION: &str = "1";
 ///
 /// `Read` comes exactly where the reader's mark is then set, since its last read failed, `Write`
 /// exactly where the writer's is, since its last write failed or took none, and `NotUtf8` only where
-/// all was read and is no text. `Memory` comes only where an allocation failed, which no clause
+/// all was read and is not a text. `Memory` comes only where an allocation failed, which no clause
 /// can say. `Misplaced` never comes.
 pub fn run_text<A: Allocator + Copy, R: Source, W: Sink>(
     alloc: A,
@@ -58,7 +58,7 @@ pub fn run_text<A: Allocator + Copy, R: Source, W: Sink>(
     ensures no_text { IsErrOf result Fault.NotUtf8 →
         GivesNoText R.reads reader.old.end reader.new.end }
 
-    // Over streams that tell their bytes: which are read and written.
+    // Over streams with known bytes: which are read and written.
     ensures ok { OnOk result (
         ReadsText (R.remaining reader.old.end) (R.remaining reader.new.end) (λ input.
         WritesPage text_title form (document_of_text input)
@@ -101,7 +101,7 @@ pub fn run_sample<A: Allocator + Copy, W: Sink>(
         HasPage sample_title form (sample_document form) (λ page.
         (error : _) × WriteFails W.writes writer.old.end page error writer.new.end) }
 
-    // Over streams that tell their bytes: which are written.
+    // Over streams with known bytes: which are written.
     ensures ok { OnOk result (
         WritesPage sample_title form (sample_document form)
         (W.contents writer.old.end) (W.contents writer.new.end)) }

@@ -11,7 +11,7 @@ use watched::ReadError;
 /// Why a run fails. It is shown as the line that the program writes on standard error.
 #[derive(Clone, Copy, Debug, PartialEq, Eq, Error)]
 pub enum Fault {
-    /// What was read is no text.
+    /// What was read is not a text.
     #[error("helpdoc: input is not UTF-8")]
     NotUtf8,
     /// A read failed.

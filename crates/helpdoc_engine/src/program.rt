@@ -13,9 +13,9 @@ use watched::program::{expecting, status_of, with_words};
 /// The line for words that choose nothing.
 const EXPECTED: &str = "helpdoc: expected text or sample, then full, brief, html, markdown or man";
 
-/// Does what the words after the program's name choose, and answers the status: success,
-/// `WRONG_WORDS` where they choose nothing, and failure where the run failed. On standard error it
-/// says why it was no success. No clause can say what a runtime reads and prints.
+/// Does what the words after the program's name choose, and returns the status: success, `WRONG_WORDS` where they
+/// choose nothing, and failure where the run failed. On standard error it says why it did not succeed. No clause can
+/// say what a runtime reads and prints.
 pub fn run<R: Alloc + Env + Input + Print + Eprint>(rt: &R) -> ExitCode
 where
     R::A: Copy,

@@ -9,7 +9,7 @@ use Rattle.std.specs.Io.KnownBytes.{Appends}
 use Rattle.std.specs.Io.BufRead.{take_through, drop_through, DropsThrough}
 use Rattle.replay.specs.Replay.{AreAnswers, IsAnswered, IsOneLine, Replays, Replies, is_newline, is_passed_over}
 
--- a line behind others
+-- a line after others
 pub added : (before line ended after text : List ℕ) → AreAnswers before → line ≡ codes "= " ++ text → list_any is_newline line ≡ false → ended ≡ line ++ 10 ∷ [] → after ≡ before ++ ended → AreAnswers after
 added before line ended after text are l one e a =
     AreAnswers.line before text (a ∙ ap (λ x. before ++ x) (e ∙ ap (λ x. x ++ 10 ∷ []) l)) are (subst IsOneLine l one)
@@ -56,7 +56,7 @@ reply_first bytes popped answers others some p answered replies =
     Replies.line first.0 (drop_through 10 bytes) answers others first.3 first.1 (ap (λ x. (x ++ 10 ∷ answers) ++ others) same)
     (subst (λ x. IsAnswered x answers) same answered) replies
 
--- a reader that told its bytes has some left, and the replies to them will complete what was written
+-- a reader with known bytes has some left, and the replies to them will complete what was written
 abbrev pub GoesOn : Option (List ℕ) → Option (List ℕ) → Option (List ℕ) → Option (List ℕ) → Type 0
 GoesOn left after held now =
     IfSome left (λ input. (rest output : List ℕ) × (after ≡ Some rest) × Appends held now output × ((others : List ℕ) → Replies rest others → Replies input (output ++ others)))

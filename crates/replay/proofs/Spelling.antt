@@ -26,7 +26,7 @@ itself c rest ne text s =
 pub escaped : (c : ℕ) (marks rest : List ℕ) → escape_at marks ≡ Some (c, rest) → StandFor (92 ∷ marks) rest c
 escaped c marks rest found text s = Spells.mark (encode_utf8 c) rest text (ap (option_map (λ f. (encode_utf8 f.0, f.1))) found) refl s
 
--- the same behind a character that is a backslash
+-- the same after a character that is a backslash
 pub escaped_by : (c mark : ℕ) (marks rest : List ℕ) → mark ≡ 92 → escape_at marks ≡ Some (c, rest) → StandFor (encode_utf8 mark ++ marks) rest c
 escaped_by c mark marks rest is found = rw (is, encode_ascii 92 (omega arith)) (escaped c marks rest found)
 

@@ -6,7 +6,7 @@ use Rattle.std.specs.Str.{chars}
 use lib.Utf8.{scalar}
 use Rattle.bpaf_roff.specs.Bytes as byte
 
--- the other signs that a word has in place of what stands there
+-- the other signs, which a word has in place of what stands there
 
 abbrev pub tab : ℕ
 tab = 9
@@ -29,7 +29,7 @@ letter_t = 116
 abbrev pub letter_u : ℕ
 letter_u = 117
 
--- The character whose code the next hexadecimal digits give, and what follows them: so many digits, after those that
+-- The character whose code the next hexadecimal digits give, and what follows them: that many digits, after those that
 -- gave the number.
 abbrev pub code_at : ℕ → ℕ → List ℕ → Option (ℕ × List ℕ)
 code_at zero number word = if scalar number then Some (number, word) else None
@@ -37,7 +37,7 @@ code_at (suc count) number [] = None
 code_at (suc count) number (digit ∷ word) =
     if nat_lt (digit_value digit) 16 then code_at count (number * 16 + digit_value digit) word else None
 
--- the character of a letter behind a backslash
+-- the character of a letter after a backslash
 abbrev pub letter_character : ℕ → Option ℕ
 letter_character letter =
     if letter == byte.backslash then Some byte.backslash
@@ -47,7 +47,7 @@ letter_character letter =
     else if letter == letter_r then Some carriage_return
     else None
 
--- the character of what stands behind a backslash, and what follows it: `u` and six digits, or a letter
+-- the character of what stands after a backslash, and what follows it: `u` and six digits, or a letter
 abbrev pub escape_at : List ℕ → Option (ℕ × List ℕ)
 escape_at [] = None
 escape_at (letter ∷ word) =
@@ -72,7 +72,7 @@ pub data Spells : List ℕ → List ℕ → Type 0 where
 abbrev pub StandFor : List ℕ → List ℕ → ℕ → Type 0
 StandFor marks rest character = (text : List ℕ) → Spells rest text → Spells marks (encode_utf8 character ++ text)
 
--- the lowest hexadecimal digits of a number, so many
+-- that many of the lowest hexadecimal digits of a number
 abbrev pub hex_digits : ℕ → ℕ → List ℕ
 hex_digits zero number = []
 hex_digits (suc count) number = hex_digits count (number / 16) ++ digit_char (number % 16) ∷ []
@@ -91,7 +91,7 @@ character_spelling character =
     else if is_hidden character then codes "\\u" ++ hex_digits 6 character
     else encode_utf8 character
 
--- the printed form of a text, behind its quote mark
+-- the printed form of a text, after its quote mark
 abbrev pub spelling : List ℕ → List ℕ
 spelling text = flat_map character_spelling (chars text)
 

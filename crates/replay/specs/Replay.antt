@@ -25,7 +25,7 @@ abbrev pub is_passed_over : List ℕ → Bool
 is_passed_over [] = true
 is_passed_over (b ∷ bs) = b == hash_sign
 
--- what stands below a line: nothing if it is passed over, and else at least one answer
+-- what stands below a line: nothing if it is passed over, otherwise at least one answer
 pub record IsAnswered (line answers : List ℕ) : Type 0 where
   pub lines : AreAnswers answers
   pub some : MatchBool (is_passed_over line) (answers ≡ []) (answers ≢ [])
@@ -42,8 +42,7 @@ pub data Replies : List ℕ → List ℕ → Type 0 where
       → output ≡ input ++ byte.newline ∷ answers
       → IsAnswered input answers → Replies input output
 
--- A reader that told the bytes that it had left has none now, and of a writer that tells its bytes the replies were
--- written.
+-- A reader with known bytes has none left now, and to a writer with known bytes the replies to them were written.
 abbrev pub Replays : Option (List ℕ) → Option (List ℕ) → Option (List ℕ) → Option (List ℕ) → Type 0
 Replays left after held now =
     IfSome left (λ input. (after ≡ Some []) × (output : List ℕ) × Replies input output × Appends held now output)

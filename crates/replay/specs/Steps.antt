@@ -1,4 +1,4 @@
--- What is written many bytes at once.
+-- What is written in blocks of many bytes.
 use Rattle.std.specs.Prelude.{◌≡◌, ℕ, ◌<◌, Bool, ◌||◌, ◌==◌, List, [], ◌∷◌, if◌then◌else◌, slice_index}
 use Rattle.std.specs.Int.{is_in_range}
 use Rattle.replay.specs.Encoding.{letter_n, letter_s}
@@ -8,7 +8,7 @@ use Rattle.bpaf_roff.specs.Bytes as byte
 abbrev pub is_usual : ℕ → Bool
 is_usual b = is_in_range 0x20 0x7E b || b == byte.newline
 
--- what stands for a usual byte, behind a backslash or alone
+-- what stands for a usual byte, after a backslash or alone
 abbrev pub letter_of : ℕ → ℕ
 letter_of b = if b == byte.blank then letter_s else if b == byte.newline then letter_n else b
 

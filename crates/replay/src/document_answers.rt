@@ -53,7 +53,7 @@ pub fn answer_document(request: &mut Request<'_>, call: Call, words: &mut Words)
     }
 }
 
-/// Prints the manual page behind a title line.
+/// Prints the manual page after a title line.
 pub fn answer_roff(request: &mut Request<'_>, words: &mut Words) {
     let mut page = Roff::new(request.alloc);
     let done = page.append_control("TH", &request.texts());
@@ -89,8 +89,8 @@ fn width_of(word: &str) -> Option<usize> {
     word.parse().ok()
 }
 
-/// Adds all answers to one document: console pages at the widths, and what needs no width. A word that is no width is
-/// told only where the rest of the line is right.
+/// Adds all answers to one document: console pages at the widths, and what needs no width. A word that is not a width
+/// is reported only where the rest of the line is right.
 pub fn add_document_answers(request: &mut Request<'_>, words: &mut Words, lines: &mut Lines) {
     let widths = request.word();
     let document = request.document();

@@ -11,7 +11,7 @@ use bpaf_help::meta_help::Metavar;
 use bpaf_help::usage::{metavar, write_item, write_meta, write_shortlong};
 use std::alloc::{AllocError, Global};
 
-/// Takes the parts of a document, behind its bracket.
+/// Takes the parts of a document, after its bracket.
 pub fn read_document(request: &mut Request<'_>) -> Doc {
     let mut document = Doc::new(request.alloc);
     for _ in 0..request.len() {
@@ -48,7 +48,7 @@ static PARTS: [(&str, Part); 7] = [
     ("name", Part::Name),
 ];
 
-// Takes what belongs to a part behind its first word, and writes the part.
+// Takes what belongs to a part after its first word, and writes the part.
 fn read_part(request: &mut Request<'_>, word: &str, document: &mut Doc) -> Result<(), AllocError> {
     match find(&PARTS, word) {
         Some(Part::Document) => document.doc(&request.document()),
@@ -72,7 +72,7 @@ pub fn read_path(request: &mut Request<'_>) -> Vec<String> {
     path
 }
 
-/// Puts a name behind a path.
+/// Appends a name to a path.
 pub fn push_name(path: &mut Vec<String>, alloc: Global, name: &str) -> Result<(), AllocError> {
     let copy = String::from_str(alloc, name)?;
     Ok(path.push(copy)?)

@@ -13,10 +13,10 @@ use std::alloc::{AllocError, Global};
 use std::str;
 use std::str::Chars;
 
-// How many bytes are written at once at most.
+// How many bytes at most are written at once.
 const BLOCK: usize = 64;
 
-// How many bytes these become at most: two for each.
+// How many bytes at most these become: two for each.
 const ROOM: usize = 2 * BLOCK;
 
 /// The text that a word spells. The word is what follows the quote mark.
@@ -45,7 +45,7 @@ fn read_character(mark: char, marks: &mut Chars<'_>) -> Option<char>
     }
 }
 
-// Takes what stands behind a backslash.
+// Takes what stands after a backslash.
 fn read_escape(marks: &mut Chars<'_>) -> Option<char>
     ensures found { IfSome result (λ character. escape_at (chars_rest marks.old)
         ≡ Some (character, chars_rest marks.new)) }
@@ -62,7 +62,7 @@ fn read_escape(marks: &mut Chars<'_>) -> Option<char>
     }
 }
 
-// Takes so many digits of a character's code, behind those that gave a number.
+// Takes that many digits of a character's code, after those that gave a number.
 fn read_code(marks: &mut Chars<'_>, count: u32, number: u32) -> Option<char>
     ensures found { IfSome result (λ character. code_at count number (chars_rest marks.old)
         ≡ Some (character, chars_rest marks.new)) }
@@ -78,7 +78,7 @@ fn read_code(marks: &mut Chars<'_>, count: u32, number: u32) -> Option<char>
     Some(character)
 }
 
-/// Writes a quote mark and the text behind it.
+/// Writes a quote mark and the text after it.
 pub fn write_text(out: &mut String, text: &str) -> Result<(), AllocError>
     ensures { OnOk result (string_bytes out.new ≡ string_bytes out.old ++ 39 ∷ spelling text.now) }
 {
@@ -86,7 +86,7 @@ pub fn write_text(out: &mut String, text: &str) -> Result<(), AllocError>
     write_characters(out, text)
 }
 
-/// Writes the characters of a text as they stand behind a quote mark. Blocks of those that most texts have are written
+/// Writes the characters of a text as they stand after a quote mark. Blocks of those that most texts have are written
 /// at once.
 pub fn write_characters(out: &mut String, text: &str) -> Result<(), AllocError>
     ensures { OnOk result (string_bytes out.new ≡ string_bytes out.old ++ spelling text.now) }
@@ -100,7 +100,7 @@ pub fn write_characters(out: &mut String, text: &str) -> Result<(), AllocError>
     Ok(())
 }
 
-// Writes the first character, where there is one, and answers the others.
+// Writes the first character, where there is one, and returns the others.
 fn write_first<'a>(out: &mut String, text: &'a str) -> Result<&'a str, AllocError>
     ensures written { IfOk result (λ rest. string_bytes out.new ++ spelling rest.now
         ≡ string_bytes out.old ++ spelling text.now) }
@@ -135,8 +135,8 @@ fn write_each(out: &mut String, text: &str) -> Result<(), AllocError>
     Ok(())
 }
 
-// Whether all of these are printable ASCII or a newline. It looks at each, whatever came before, so that it looks at
-// many at once.
+// Whether all of these are printable ASCII or a newline. It looks at each, whatever came before, so that many are
+// compared at once.
 fn are_usual(bytes: &[u8]) -> bool
     ensures { result ≡ list_all is_usual bytes.now }
 {
@@ -158,7 +158,7 @@ fn write_usual(out: &mut String, block: &str) -> Result<(), AllocError>
     out.push_str(str::from_utf8(&room[..end]).unwrap())
 }
 
-// Puts what the bytes of a block become at the start of the room, and answers how many bytes these are.
+// Puts what the bytes of a block become at the start of the room, and returns how many bytes these are.
 #[tactic(auto, using(crate::proofs::Blocks::spelled_more))]
 fn fill(room: &mut [u8; ROOM], bytes: &[u8]) -> usize
     requires short { length bytes.now ≤ BLOCK }
@@ -176,7 +176,7 @@ fn fill(room: &mut [u8; ROOM], bytes: &[u8]) -> usize
     end
 }
 
-// Puts what stands for each byte, behind a backslash or alone: for many at once.
+// Puts what stands for each byte, after a backslash or alone: for many at once.
 fn put_letters(letters: &mut [u8; BLOCK], bytes: &[u8])
     requires short { length bytes.now ≤ BLOCK }
     ensures { AreOf letter_of bytes.now (length bytes.now) letters.new }
@@ -196,8 +196,8 @@ fn put_sizes(sizes: &mut [u8; BLOCK], bytes: &[u8])
     }
 }
 
-// Puts a letter at a place, behind a backslash where the size is 2, and answers the place behind it. The backslash is
-// put in either case, and the letter over it or behind it: a branch would often be guessed wrong.
+// Puts a letter at a place, after a backslash where the size is 2, and returns the place after it. The backslash is put
+// in either case, and the letter over it or after it: a branch would often be predicted wrong.
 #[inline(always)]
 fn put(room: &mut [u8; ROOM], at: usize, letter: u8, size: u8) -> usize
     requires some { 0 < size }
@@ -258,7 +258,7 @@ pub fn write_character(out: &mut String, character: char) -> Result<(), AllocErr
     }
 }
 
-// Writes the lowest digits of a code, so many.
+// Writes that many of the lowest digits of a code.
 fn write_digits(out: &mut String, code: u32, count: u32) -> Result<(), AllocError>
     ensures { OnOk result (string_bytes out.new ≡ string_bytes out.old ++ hex_digits count code) }
 {

@@ -7,7 +7,7 @@ use std::alloc::AllocError;
 pub enum Bad {
     /// A growth was refused.
     Memory,
-    /// The line is no request; the text says why.
+    /// The line is not a request; the text says why.
     Words(&'static str),
 }
 
@@ -15,7 +15,7 @@ impl Bad {
     /// A word is missing.
     pub const ENDS_EARLY: Bad = Bad::Words("the line ends early");
 
-    /// A word is no width.
+    /// A word is not a width.
     pub const NO_WIDTH: Bad = Bad::Words("a width was expected");
 }
 

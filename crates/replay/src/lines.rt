@@ -67,7 +67,7 @@ fn answer_line(alloc: Global, key: &str, answer: &str) -> Result<String, AllocEr
     Ok(line)
 }
 
-/// Whether a byte is a newline. It looks at each, whatever came before, so that it looks at many at once.
+/// Whether a byte is a newline. It looks at each, whatever came before, so that many are compared at once.
 pub fn has_newline(bytes: &[u8]) -> bool
     ensures { result ≡ list_any is_newline bytes.now }
 {

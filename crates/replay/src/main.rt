@@ -29,7 +29,7 @@ fn main(rt: HostRuntime) -> ExitCode {
     replay(&rt)
 }
 
-// Answers the status, and says on standard error why the run stopped, where it did.
+// Returns the status, and says on standard error why the run stopped, where it did.
 fn replay<R: AllocGlobal + Input + Print + Eprint>(rt: &R) -> ExitCode {
     let alloc = rt.alloc();
     let mut library = Library::new(alloc);

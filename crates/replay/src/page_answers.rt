@@ -16,7 +16,7 @@ use bpaf_help::meta::Meta;
 use bpaf_help::meta_help::{EnvTexts, HelpError, Info, render_help, write_help_item_groups};
 use std::alloc::{AllocError, Global};
 
-// Takes names of environment variables, each with its value behind it, in parentheses. A last name has an empty one.
+// Takes names of environment variables, each followed by its value, in parentheses. A last name has an empty one.
 fn read_environment(request: &mut Request<'_>) -> EnvTexts {
     request.expect("(");
     let mut environment = EnvTexts::new(request.alloc);
@@ -137,7 +137,7 @@ pub fn write_error(words: &mut Words, error: HelpError<'_>) {
     }
 }
 
-/// Adds all answers to one tree, behind what goes with it.
+/// Adds all answers to one tree, after what goes with it.
 pub fn add_tree_answers(request: &mut Request<'_>, words: &mut Words, lines: &mut Lines) {
     let app = read_tree_of_app(request);
     add_forms(words, &app.tree, lines);
@@ -150,7 +150,7 @@ pub fn add_tree_answers(request: &mut Request<'_>, words: &mut Words, lines: &mu
     add_application_pages(words, &app.tree, &app.info, lines);
 }
 
-// Takes a tree behind what goes with it. The path is `app`.
+// Takes a tree after what goes with it. The path is `app`.
 fn read_tree_of_app(request: &mut Request<'_>) -> Application {
     let mut path = Vec::new(request.alloc);
     let done = push_name(&mut path, request.alloc, "app");

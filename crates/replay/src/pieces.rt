@@ -90,7 +90,7 @@ static PAGE_CALLS: [(&str, PageCall); 7] = [
     ("strip", PageCall::Strip),
 ];
 
-// Takes a call with what it takes, and makes it.
+// Takes a call with its arguments, and makes it.
 fn append_call(page: &mut Roff, request: &mut Request<'_>) {
     match find(&PAGE_CALLS, request.word()) {
         Some(PageCall::Strip) => {
@@ -145,7 +145,7 @@ fn read_font(request: &mut Request<'_>) -> (Font, &'static str) {
     (font, text)
 }
 
-/// Prints a text and pieces behind it, escaped.
+/// Prints a text and pieces after it, escaped.
 pub fn answer_escape(request: &mut Request<'_>, words: &mut Words) {
     let apostrophes = read_apostrophes(request);
     let mut bytes = Vec::new(request.alloc);
@@ -235,7 +235,7 @@ fn read_first_list(request: &mut Request<'_>) -> FreeMonoid<char> {
     FreeMonoid::new(request.alloc)
 }
 
-// Takes a list, behind its opening bracket.
+// Takes a list, after its opening bracket.
 fn read_list(request: &mut Request<'_>) -> FreeMonoid<char> {
     let mut list = FreeMonoid::new(request.alloc);
     list.squash = request.flag();

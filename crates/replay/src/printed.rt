@@ -145,7 +145,7 @@ fn write_command(words: &mut Words, name: &str, short: Option<char>, help: &Opti
     words.optional_document(help.as_ref());
 }
 
-// A name behind its word, and all short names.
+// A name after its word, and all short names.
 fn write_shorts(words: &mut Words, word: &str, name: ShortLong, shorts: &[char]) {
     words.name(word, name);
     words.characters(" '", shorts);
@@ -157,7 +157,7 @@ fn write_notes(words: &mut Words, env: Option<&str>, help: &Option<Doc>) {
     words.optional_document(help.as_ref());
 }
 
-/// Prints an entry of an item list, with `;` behind it.
+/// Prints an entry of an item list, with `;` after it.
 pub fn write_entry(words: &mut Words, entry: &HelpItem<'_>) {
     match *entry {
         HelpItem::DecorSuffix { help, ty } => write_noted_mark(words, " decor", ty, help),
@@ -193,7 +193,7 @@ pub fn write_entry(words: &mut Words, entry: &HelpItem<'_>) {
     words.push(" ;");
 }
 
-// A mark behind its word.
+// A mark after its word.
 fn write_mark(words: &mut Words, word: &str, ty: HiTy) {
     words.push(word);
     words.push(match ty {

@@ -9,10 +9,10 @@ use bpaf_help::meta::Meta;
 use lasting_names::Names;
 use std::alloc::{AllocError, Global};
 
-// How many levels of trees and documents a line may nest, so that 8 MiB of stack last.
+// How many levels of trees and documents a line may nest, so that 8 MiB of stack suffice.
 const DEEPEST: usize = 500;
 
-// A word with nothing to it, or the document or tree for which a word stands with those behind it: its levels.
+// A word by itself, or the document or tree that a word and those after it stand for, with its levels.
 #[derive(Clone, Copy)]
 enum Term<'a> {
     Word(&'a str),
@@ -24,22 +24,23 @@ enum Term<'a> {
 
 /// What is left of a line, the next term last. Blanks stand between words, and no word is empty.
 ///
-/// Where another word stands than is taken, a default is answered. The first such fault is kept, and `end` tells it.
+/// Where a word is not of the kind that is taken, a default is returned. The first such fault is kept, and `end`
+/// reports it.
 #[derive(Drop)]
 pub struct Request<'a> {
     pub alloc: Global,
     names: &'a mut Names,
     terms: Vec<Term<'a>>,
-    // those of the terms, in order; behind a fault they are of no account, and none is taken
+    // those of the terms, in order; after a fault they do not matter, and none is taken
     documents: Vec<Doc>,
     trees: Vec<Meta>,
-    // one more than the most levels of the terms that were taken behind the word that is being read
+    // one more than the most levels of the terms that were taken after the word that is being read
     levels: usize,
     fault: Option<Bad>,
 }
 
 impl<'a> Request<'a> {
-    /// Reads a line from its last word to the first. So what stands behind a word is read before it.
+    /// Reads a line from its last word to the first, so what stands after a word is read before it.
     pub fn new(alloc: Global, line: &'a str, names: &'a mut Names) -> Request<'a> {
         let mut request = Request {
             alloc,
@@ -58,7 +59,7 @@ impl<'a> Request<'a> {
         request
     }
 
-    // Reads a word with those behind it that belong to it. A fault in them becomes the term.
+    // Reads a word with those after it that belong to it. A fault in them becomes the term.
     fn read(&mut self, word: &'a str) {
         self.levels = 1;
         let term = self.term(word);
@@ -103,7 +104,7 @@ impl<'a> Request<'a> {
         }
     }
 
-    /// Keeps what a call that takes memory answered.
+    /// Keeps the error of a call that takes memory, if there was one.
     pub fn keep(&mut self, done: Result<(), AllocError>) {
         if done.is_err() {
             self.fail(Bad::Memory);
@@ -124,7 +125,7 @@ impl<'a> Request<'a> {
         self.terms.len()
     }
 
-    /// The next word, which stays. In place of a document or a tree another word that nobody asks for.
+    /// The next word, which stays. In place of a document or a tree, a word that nothing else asks for.
     pub fn peek(&self) -> Option<&'a str> {
         match self.terms.last() {
             Some(Term::Word(word)) => Some(*word),
@@ -145,7 +146,7 @@ impl<'a> Request<'a> {
         }
     }
 
-    /// Takes the next word if it is this one, and answers whether it was.
+    /// Takes the next word if it is this one, and returns whether it was.
     pub fn has(&mut self, word: &str) -> bool {
         let is_next = self.peek() == Some(word);
         if is_next {
@@ -237,7 +238,7 @@ impl<'a> Request<'a> {
         }
     }
 
-    /// Takes a word that is a character, the label, and a text behind it.
+    /// Takes a word that is a character, the label, and a text after it.
     pub fn labelled(&mut self) -> (char, &'static str) {
         let mut characters = self.word().chars();
         match (characters.next(), characters.as_str().strip_prefix('\'')) {
@@ -281,7 +282,7 @@ impl<'a> Request<'a> {
         }
     }
 
-    // Keeps the fault of a term that stands for what was wanted.
+    // Keeps the fault of a term that stands in place of what was wanted.
     fn miss(&mut self, term: Option<Term<'a>>, wanted: &'static str) {
         self.fail(match term {
             Some(Term::Unread(bad)) => bad,

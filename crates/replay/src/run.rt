@@ -12,7 +12,7 @@ use std::str;
 
 /// What answers lines.
 pub trait Answerer {
-    /// Adds the answers to a line. It is asked for none of an empty line, and of none that begins with `#`.
+    /// Adds the answers to a line. It is never asked for those of an empty line, or of one that begins with `#`.
     fn add_answers(&mut self, line: &str, lines: &mut Lines) -> Result<(), Bad>;
 }
 
@@ -29,8 +29,8 @@ pub enum Stop {
 
 /// Reads lines up to the end, and writes each with its answers. A line is kept until it is answered, and no longer.
 ///
-/// After an error the lines before were written with their answers, and of the next one and its answers a
-/// beginning may be.
+/// After an error the lines before have been written with their answers, and perhaps a beginning of the next one and
+/// its answers.
 pub fn run<T: Answerer, R: BufRead, W: Write>(
     alloc: Global,
     answerer: &mut T,

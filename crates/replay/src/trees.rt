@@ -1,4 +1,4 @@
-//! Trees, items and names of a command line, read. What stands behind their first word was read before.
+//! Trees, items and names of a command line, read. What stands after their first word was read before.
 
 use crate::calls::find;
 use crate::fault::Bad;
@@ -49,7 +49,7 @@ static KINDS: [(&str, Kind); 16] = [
     ("arg", Kind::Argument),
 ];
 
-/// Takes what stands behind the first word of a tree. Answers none for a word that begins no tree.
+/// Takes what stands after the first word of a tree. Returns None for a word that begins no tree.
 pub fn read_tree(request: &mut Request<'_>, word: &str) -> Option<Meta> {
     let kind = find(&KINDS, word)?;
     match read_kind(request, kind) {
@@ -123,7 +123,7 @@ fn read_note(request: &mut Request<'_>) -> Result<Box<Doc>, AllocError> {
     Ok(Box::new(request.alloc, request.document())?)
 }
 
-// Takes what stands behind the word of an item that holds no tree.
+// Takes what stands after the word of an item that holds no tree.
 fn read_leaf(request: &mut Request<'_>, kind: Kind) -> Result<Meta, AllocError> {
     let item = match kind {
         Kind::Any => read_any(request),
@@ -186,7 +186,7 @@ fn read_command(request: &mut Request<'_>) -> Result<Meta, AllocError> {
     )
 }
 
-// Takes `-`, or a text of which the first character counts.
+// Takes `-`, or a text of which only the first character counts.
 fn read_short(request: &mut Request<'_>) -> Option<char> {
     request.optional_text()?.chars().next()
 }

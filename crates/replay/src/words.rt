@@ -11,8 +11,8 @@ use std::mem;
 // Stands for the answer of the line before.
 const SAME: &str = " ^";
 
-/// The words of an answer, each with a blank before it. The first fault is kept, and `finish` tells it: what is
-/// printed afterwards is of no account.
+/// The words of an answer, each with a blank before it. The first fault is kept, and `finish` reports it: what is
+/// printed afterwards does not matter.
 #[derive(Drop)]
 pub struct Words {
     pub alloc: Global,
@@ -61,7 +61,7 @@ impl Words {
         }
     }
 
-    /// Keeps what a call that takes memory answered.
+    /// Keeps the error of a call that takes memory, if there was one.
     pub fn keep(&mut self, done: Result<(), AllocError>) {
         if done.is_err() {
             self.fail(Bad::Memory);
@@ -79,13 +79,13 @@ impl Words {
         self.push(if is_so { " 1" } else { " 0" });
     }
 
-    /// Prints a number behind what stands before it.
+    /// Prints a number after what stands before it.
     pub fn number(&mut self, before: &str, number: usize) {
         let done = write!(self.text, "{before}{number}");
         self.keep(done);
     }
 
-    /// Prints a text behind what stands before its quote mark.
+    /// Prints a text after what stands before its quote mark.
     pub fn text(&mut self, before: &str, text: &str) {
         self.push(before);
         let done = write_text(&mut self.text, text);
@@ -122,7 +122,7 @@ impl Words {
         }
     }
 
-    /// Prints a label, which stands for itself, but for a newline, which no line has.
+    /// Prints a label, which stands for itself, except a newline, which no line has.
     pub fn label(&mut self, label: char) {
         let done = match label {
             '\n' => write_character(&mut self.text, label),
@@ -131,7 +131,7 @@ impl Words {
         self.keep(done);
     }
 
-    /// Prints a name behind a word.
+    /// Prints a name after a word.
     pub fn name(&mut self, before: &str, name: ShortLong) {
         self.push(before);
         match name {
@@ -145,7 +145,7 @@ impl Words {
         }
     }
 
-    /// Prints a document. A text behind one of its own style has a comma before it.
+    /// Prints a document. A text after one of its own style has a comma before it.
     pub fn document(&mut self, document: &Doc) {
         self.push(" [");
         let mut last = None;
@@ -155,7 +155,7 @@ impl Words {
         self.push(" ]");
     }
 
-    // Prints a part behind a text of a style or another part. Answers the style if it is a text.
+    // Prints a part after a text of a style or another part. Returns the style if it is a text.
     fn part(&mut self, part: Part<'_>, last: Option<Style>) -> Option<Style> {
         match part {
             Part::Text(text, style) => {

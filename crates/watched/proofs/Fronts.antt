@@ -12,7 +12,7 @@ front_more bytes front rest n split =
     split ∙ ap (λ l. front ++ l) (sym (take-append-drop n rest) ∙ ap (λ l. take n rest ++ l) (sym (take_rest rest n)))
     ∙ sym (append_assoc front (take n rest) (take (length rest - n) (drop n rest)))
 
--- all of some bytes were written, and a part of those behind them
+-- all of some bytes were written, and a part of those after them
 pub AppendsPart-after : (a b c : Option (List ℕ)) (front bytes : List ℕ) → Appends a b front → AppendsPart b c bytes → AppendsPart a c (front ++ bytes)
 AppendsPart-after a b c front bytes written part =
     record {
@@ -23,7 +23,7 @@ AppendsPart-after a b c front bytes written part =
       written = Appends-trans a b c front part.front written part.written;
     }
 
--- a part of the bytes was written, and none of those behind them
+-- a part of the bytes was written, and none of those after them
 pub AppendsPart-before : (a b : Option (List ℕ)) (bytes behind : List ℕ) → AppendsPart a b bytes → AppendsPart a b (bytes ++ behind)
 AppendsPart-before a b bytes behind part =
     record {

@@ -1,5 +1,5 @@
--- Calls of a stream, which are told by a relation of its own. Code that takes any stream learns of the relation by
--- calls alone.
+-- Calls of a stream, which are described by a relation of its own. Code that takes any stream learns of the relation
+-- only by calls.
 use Rattle.std.specs.Prelude.{◌≡◌, ◌≢◌, ◌<◌, ◌⊎◌, ℕ, List, [], ◌++◌, take, Result, Ok, Err, IsUtf8}
 use Rattle.std_io.specs.IoError.{error_kind}
 use Rattle.std_io.specs.declared.io.error.Error.{Error}
@@ -7,7 +7,7 @@ use Rattle.std_io.specs.declared.io.kind.ErrorKind.TheVariants.{WriteZero}
 use Rattle.watched.specs.declared.ReadError.{ReadError}
 use Rattle.watched.specs.declared.ReadError.TheVariants.{Failed, NotUtf8, Refused}
 
--- what tells of a call: the stream before, the answer, the bytes that were lent (a read's buffer as it leaves it), and
+-- what describes a call: the stream before, the answer, the bytes that were lent (a read's buffer as it leaves it), and
 -- the stream after
 abbrev pub Tells : Type 0 → Type 1
 Tells S = S → Result ℕ Error → List ℕ → S → Type 0
@@ -40,11 +40,11 @@ pub record ReadFails {S : Type 0} (reads : Tells S) (before : S) (error : Error)
 abbrev pub GivesText : {S : Type 0} → Tells S → S → S → (List ℕ → Type 0) → Type 0
 GivesText reads before after Fact = (input : List ℕ) × ReadsToEnd reads before input after × IsUtf8 input × Fact input
 
--- the reads gave an input to its end, which is no text
+-- the reads gave an input to its end, which is not a text
 abbrev pub GivesNoText : {S : Type 0} → Tells S → S → S → Type 0
 GivesNoText reads before after = (input : List ℕ) × ReadsToEnd reads before input after × ¬ IsUtf8 input
 
--- what the reads were where not all was read, or not as a text; a growth may be refused behind any read
+-- what the reads were where not all was read, or not as a text; a growth may be refused after any read
 abbrev pub ReadStops : {S : Type 0} → Tells S → S → ReadError → S → Type 0
 ReadStops reads before (Failed error) after = ReadFails reads before error after
 ReadStops reads before NotUtf8 after = GivesNoText reads before after
@@ -55,7 +55,7 @@ abbrev pub FailsWrite : {S : Type 0} → Tells S → S → Error → List ℕ �
 FailsWrite writes before error bytes after =
     writes before (Err error) bytes after ⊎ (writes before (Ok 0) bytes after × (error_kind error ≡ WriteZero))
 
--- a beginning of the bytes was written, and then the write of all the others, which were some, failed
+-- a beginning of the bytes was written, and then the write of all the others, of which there were some, failed
 pub record WriteFails {S : Type 0} (writes : Tells S) (before : S) (bytes : List ℕ)
     (error : Error) (after : S) : Type 0 where
   pub front : List ℕ

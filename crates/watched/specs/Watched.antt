@@ -20,13 +20,13 @@ IsMarked w = IsTrue w.marked
 abbrev pub IsUnmarked : {E : Type 0} → Watch E → Type 0
 IsUnmarked w = w.marked ≡ false
 
--- a write of these bytes failed: it answered an error, or took none where there were some
+-- a write of these bytes failed: it returned an error, or took none where there were some
 abbrev pub is_failed_write : {F : Type 0} → Result ℕ F → List ℕ → Bool
 is_failed_write (Ok taken) bytes = taken == 0 && not (length bytes == 0)
 is_failed_write (Err error) bytes = true
 
--- A beginning of the bytes was written, and not all of them. A writer tells which bytes it holds, here before and
--- after; of one that doesn't tell, nothing is said.
+-- A beginning of the bytes was written, and not all of them. The bytes that a writer holds, here before and after, may
+-- be known; where they are not, nothing is said.
 pub record AppendsPart (before after : Option (List ℕ)) (bytes : List ℕ) : Type 0 where
   pub front : List ℕ
   pub rest : List ℕ
@@ -34,8 +34,8 @@ pub record AppendsPart (before after : Option (List ℕ)) (bytes : List ℕ) : T
   pub missing : rest ≢ []
   pub written : Appends before after front
 
--- The input is all that the reader had left. A reader tells which bytes it has left, here before and after; of one that
--- doesn't tell, nothing is said.
+-- The input is all that the reader had left. The bytes that a reader has left, here before and after, may be known;
+-- where they are not, nothing is said.
 pub record ReadsAll (before after : Option (List ℕ)) (input : List ℕ) : Type 0 where
   pub given : Consumes before after input
   pub ended : IsAtEnd after
@@ -44,6 +44,6 @@ pub record ReadsAll (before after : Option (List ℕ)) (input : List ℕ) : Type
 abbrev pub ReadsText : Option (List ℕ) → Option (List ℕ) → (List ℕ → Type 0) → Type 0
 ReadsText before after Fact = (input : List ℕ) × ReadsAll before after input × IsUtf8 input × Fact input
 
--- all that the reader had left is no text
+-- all that the reader had left is not a text
 abbrev pub ReadsNoText : Option (List ℕ) → Option (List ℕ) → Type 0
 ReadsNoText before after = (input : List ℕ) × ReadsAll before after input × ¬ IsUtf8 input

@@ -72,7 +72,7 @@ pub enum ReadError {
     /// A read failed.
     #[error("read failed: {0}")]
     Failed(io::Error),
-    /// All was read, and is no text.
+    /// All was read, and it is not a text.
     #[error("input is not UTF-8")]
     NotUtf8,
     /// A growth was refused.
@@ -92,8 +92,8 @@ impl From<AllocError> for ReadError {
 const CHUNK: usize = 64 * 1024;
 
 impl<R: Source> Watched<R> {
-    /// Reads into the buffer by one read of the reader, and answers what it answers. An error sets the
-    /// mark, of whatever kind it is; none is an interruption, since such a read is made again.
+    /// Reads into the buffer by one read of the reader, and returns its result. An error sets the mark, of whatever
+    /// kind it is; it is never an interruption, since an interrupted read is made again.
     pub fn read(&mut self, buf: &mut [u8]) -> io::Result<usize>
         ensures bound { ReadsAtMost result buf.new }
         ensures retried { IfErr result (λ error. error_kind error ≢ ErrorKind.Interrupted) }
@@ -132,8 +132,8 @@ impl<R: Source> Watched<R> {
         }
     }
 
-    /// All that the reader has left, as one text that is no copy of what was read. It ends as `read_all` does, and
-    /// with `NotUtf8` where all was read and is no text; then too what was read is lost.
+    /// All that the reader has left, as one text, without a copy. It ends as `read_all` does, and with `NotUtf8` where
+    /// all was read and is not a text; then too what was read is lost.
     pub fn read_text<A: Allocator>(&mut self, alloc: A) -> Result<String<A>, ReadError>
         ensures ok { IfOk result (λ text.
             ReadsAll (R.remaining self.old.end) (R.remaining self.new.end) (string_bytes text)) }
@@ -162,9 +162,9 @@ fn text_of<A: Allocator>(bytes: Vec<u8, A>) -> Result<String<A>, ReadError>
 }
 
 impl<W: Sink> Watched<W> {
-    /// Writes some of the bytes by one write of the writer, and answers what it answers. An error sets
-    /// the mark, of whatever kind it is, and so does a write of at least one byte that takes none: its answer is
-    /// `Ok(0)`, and yet it has failed. No error is an interruption, since such a write is made again.
+    /// Writes some of the bytes by one write of the writer, and returns its result. An error sets the mark, of whatever
+    /// kind it is, and so does a write of at least one byte that takes none: its result is `Ok(0)`, and yet it has
+    /// failed. No error is an interruption, since an interrupted write is made again.
     pub fn write(&mut self, buf: &[u8]) -> io::Result<usize>
         ensures bound { WritesAtMost result buf.now }
         ensures retried { IfErr result (λ error. error_kind error ≢ ErrorKind.Interrupted) }
@@ -183,7 +183,7 @@ impl<W: Sink> Watched<W> {
 
     /// Writes all of the bytes, in as many writes as the writer takes. The first that fails ends it with its
     /// error, of whatever kind this is, and then the writer has a beginning of the bytes, and not all of them.
-    /// A write that takes none answers `WriteZero`.
+    /// A write that takes none gives `WriteZero`.
     pub fn write_all(&mut self, buf: &[u8]) -> io::Result<()>
         ensures retried { IfErr result (λ error. error_kind error ≢ ErrorKind.Interrupted) }
         ensures ok { OnOk result (

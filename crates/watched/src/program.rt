@@ -29,8 +29,8 @@ pub fn with_words<R: Alloc + Env, T, F: FnOnce(&[&str]) -> T + Drop>(
     Ok(follow(&words))
 }
 
-/// The number of the first word that is no text; the program's name has the number 0. None where each is one, or memory
-/// does not last.
+/// The number of the first word that is not a text; the program's name has the number 0. None where all are, or where
+/// memory does not last.
 pub fn garbled_word<R: Alloc + Env>(rt: &R) -> Option<usize> {
     for index in 0..usize::MAX {
         if !is_text(rt, index)? {
@@ -40,7 +40,7 @@ pub fn garbled_word<R: Alloc + Env>(rt: &R) -> Option<usize> {
     None
 }
 
-// Whether the word of this number is a text. None where there is none, or memory does not last.
+// Whether the word of this number is a text. None where there is no such word, or memory does not last.
 fn is_text<R: Alloc + Env>(rt: &R, index: usize) -> Option<bool> {
     let mut room = 256usize;
     for _ in 0..usize::BITS {
@@ -54,7 +54,7 @@ fn is_text<R: Alloc + Env>(rt: &R, index: usize) -> Option<bool> {
     None
 }
 
-/// Says on standard error which words are expected, and answers `WRONG_WORDS`.
+/// Says on standard error which words are expected, and returns `WRONG_WORDS`.
 pub fn expecting<R: Eprint>(rt: &R, line: &str) -> ExitCode
     ensures { exit_status result ≡ WRONG_WORDS }
 {
@@ -62,7 +62,7 @@ pub fn expecting<R: Eprint>(rt: &R, line: &str) -> ExitCode
     ExitCode::from(WRONG_WORDS)
 }
 
-/// The status of a run: that which it answers, or `FAILURE`, and then its fault is said on standard error.
+/// The status of a run: the one that it returns, or `FAILURE`, and then its fault is said on standard error.
 pub fn status_of<R: Eprint, F: Display + Drop>(rt: &R, outcome: Result<ExitCode, F>) -> ExitCode
     ensures ok { IfOk outcome (λ status. result ≡ status) }
     ensures err { OnErr outcome (result ≡ ExitCode.FAILURE) }

@@ -1,8 +1,8 @@
 //! What `Watched` reads from and writes to: any `Read`, and any `Write`.
 //!
-//! By the traits of std each call may fail, with any error. Here a stream has a relation for what a call answers,
-//! and code that takes any `Source` or `Sink` can show it of an answer only by the call that gave it. A call that a
-//! signal interrupts is no answer: it is made again.
+//! By the traits of std each call may fail, with any error. Here a stream has a relation for what a call returns, and
+//! code that takes any `Source` or `Sink` can show it of a result only by the call that gave it. A call that a signal
+//! interrupts has no result: it is made again.
 
 ghost use Rattle.std.specs.Prelude.{◌≡◌, ◌≢◌, ◌↔◌, ℕ, List, Option, Result, IfErr, IsTrue};
 ghost use Rattle.std_io.specs.IoError.{error_kind};
@@ -67,7 +67,7 @@ impl<W: Write> Sink for W {
     }
 }
 
-// One read, and again where it is interrupted: 2^64 - 1 times at most, and then it has timed out.
+// One read, and again where it is interrupted: at most 2^64 - 1 times, and then it has timed out.
 fn read_again<R: Read>(reader: &mut R, buf: &mut [u8]) -> io::Result<usize>
     ensures bound { ReadsAtMost result buf.new }
     ensures bytes { ReadConsumes (R.remaining reader.old) (R.remaining reader.new) result buf.new }
