@@ -38,7 +38,7 @@ pub fn is_written(rt: &impl Abort, out: Global, row: &Row<'_>) -> bool {
     is_found(rt, out, row) == Some(true)
 }
 
-/// Whether it is made and has it not.
+/// Whether it is made and does not have it.
 pub fn is_left_out(rt: &impl Abort, out: Global, row: &Row<'_>) -> bool {
     is_found(rt, out, row) == Some(false)
 }

@@ -45,13 +45,13 @@ fn roomy(rt: &impl Abort, out: Global) -> Bump {
     arena
 }
 
-// Takes all that an arena has left but so many bytes.
+// Takes all that an arena has left, except that many bytes.
 fn taken<'a>(rt: &impl Abort, arena: &'a Bump, room: usize) -> Vec<u8, &'a Bump> {
     let rest = arena.chunk_capacity().saturating_sub(room);
     Vec::with_capacity(arena, rest).expect(rt, "the rest of an arena")
 }
 
-// Whether the script is there in so much room. None where a growth is refused.
+// Whether the script is there in that much room. None where a growth is refused.
 fn is_made_in(rt: &impl Abort, out: Global, app: &Description<'_>, room: usize) -> Option<bool> {
     let arena = roomy(rt, out);
     let _rest = taken(rt, &arena, room);

@@ -20,7 +20,7 @@ pub const OPTIONS: &[Row<'static>] = &[
         Shell::Bash,
         "    'level' '' '' ''\n    'once' 'value' 'file' ''\n    'name' '--f' '' ''\n    'once' 'value' 'folder' ''\n    'name' '--d' '' ''\n    'once' 'optional' 'none' ''\n    'name' '-n' '' ''\n    'once' 'word' 'user' ''\n    'name' '-u' '' ''\n    'once' 'flag' 'none' ''\n    'name' '--flag' '' ''\n    'place' 'once' 'host' ''\n    'end' '' '' ''\n)\n",
     ),
-    // A comma without a blank is one of a value.
+    // A comma without a blank is part of a value.
     (
         "name = 'a'\n[[option]]\nlong = 'is'\nvalue = 'W'\nvalues = ['very fast', 'a,b', 'c']\n",
         Shell::Bash,
@@ -35,7 +35,7 @@ pub const SYNTAXES: &[Row<'static>] = &[
         Shell::Bash,
         "    'level' '' '' ''\n    'once' 'flag' 'none' ''\n    'name' '-n' '' ''\n    'name' '--line' '' ''\n    'name' '--number' '' ''\n    'once' 'word' 'file' ''\n    'name' '-o' '' ''\n    'name' '--output' '' ''\n    'once' 'optional' 'none' ''\n    'name' '-c' '' ''\n    'name' '--color' '' ''\n    'among' 'never' '' ''\n    'once' 'value' 'file' ''\n    'name' '-s' '' ''\n    'name' '--store' '' ''\n    'end' '' '' ''\n)\n",
     ),
-    // Names within brackets are none, and dashes alone are none.
+    // Names within brackets do not count, nor do dashes alone.
     (
         "name = 'a'\n[[option]]\nsyntax = '--[no-]edit'\n[[option]]\nsyntax = 'if=FILE'\n[[option]]\nsyntax = '-x|-y [-z, -w] --'\n[[option]]\nsyntax = '--[no-]k=V'\n",
         Shell::Bash,
@@ -65,14 +65,14 @@ pub const PLACES: &[Row<'static>] = &[
     ),
 ];
 
-/// Commands, in groups and in one another.
+/// Commands, in groups and nested.
 pub const COMMANDS: &[Row<'static>] = &[(
     "name = 'a'\n[[option]]\nshort = 'x'\n[[command]]\nname = 'one'\nshort = 'o'\naliases = ['uno', 'un']\nhelp = 'One'\n[[command.command]]\nname = 'deep'\n[[command.command.option]]\nshort = 'y'\n[[command]]\nname = 'gone'\nhidden = true\n[[group]]\ntitle = 'G'\n[[group.command]]\nname = 'two'\n[[group.option]]\nshort = 'z'\n",
     Shell::Zsh,
     "    'level' '' '' ''\n    'once' 'flag' 'none' ''\n    'name' '-z' '' ''\n    'command' 'two' '' ''\n    'end' '' '' ''\n    'once' 'flag' 'none' ''\n    'name' '-x' '' ''\n    'command' 'one' '' 'One'\n    'alias' 'o' '' ''\n    'alias' 'uno' '' ''\n    'alias' 'un' '' ''\n    'command' 'deep' '' ''\n    'once' 'flag' 'none' ''\n    'name' '-y' '' ''\n    'end' '' '' ''\n    'end' '' '' ''\n    'end' '' '' ''\n)\n",
 )];
 
-/// The first paragraph of a help; of a command that of its help, or else of what is said about it.
+/// The first paragraph of a help; of a command that of its help, otherwise of what is said about it.
 pub const HELPS: &[Row<'static>] = &[
     (
         "name = 'a'\n[[option]]\nshort = 'x'\nhelp = \"\"\"\n- a list\n\nOne `two`\n  <https://a.b>\n\nthree\"\"\"\n",

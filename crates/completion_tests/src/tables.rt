@@ -1,4 +1,4 @@
-//! The tables of rows with ample memory, each with what it shows: texts that scripts have, and texts that they have not.
+//! The tables of rows with ample memory, each with what it shows: texts that scripts have, and texts that they lack.
 use crate::reading::{Row, is_left_out, is_written};
 use crate::rows;
 

@@ -1,6 +1,6 @@
-//! What is said of texts and names that no description holds, and that others are read.
+//! What is reported of texts and names that no description holds, and that others are read.
 
-// A description, and what is said of it.
+// A description, and what is reported of it.
 pub const TEXTS: &str = r#"
 name = 'a'
 about = "\u0000"

@@ -44,7 +44,7 @@ fn texts_in_json_give_tables(rt: HostRuntime) {
     }
 }
 
-// A text that gives no table, cut at the place of its fault, and what is told.
+// A text that gives no table, cut at the place of its fault, and what is reported.
 const FAULTS: &[(&str, &str, &str)] = &[
     (" ", "", "no object of JSON; { has to stand here"),
     ("", "[1]", "no object of JSON; { has to stand here"),
@@ -140,7 +140,7 @@ fn faults_of_json_are_told_where_they_are(rt: HostRuntime) {
     }
 }
 
-// Arrays in one another in an object, so many, and the text before the innermost.
+// That many nested arrays in an object, and the text before the innermost.
 fn nested(alloc: Global, count: usize) -> Result<(String, String), AllocError> {
     let mut before = String::from_str(alloc, "{\"a\":")?;
     for _ in 1..count {
@@ -154,7 +154,7 @@ fn nested(alloc: Global, count: usize) -> Result<(String, String), AllocError> {
     Ok((before, text))
 }
 
-// What is told of so many arrays in one another, if they are refused at the innermost.
+// What is reported of that many nested arrays, if they are refused at the innermost.
 fn told_of_nested(alloc: Global, count: usize) -> Option<String> {
     let (before, text) = nested(alloc, count).ok()?;
     match table_from_str(alloc, &text) {

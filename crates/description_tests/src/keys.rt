@@ -3,7 +3,7 @@ use crate::forms::Form;
 use crate::reading::Row;
 
 pub const LEVEL_ROWS: &[Row<'static>] = &[
-    // What holds where nothing is said.
+    // The defaults.
     (
         "name = 'a'\n",
         Form::Level,

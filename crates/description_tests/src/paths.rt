@@ -1,10 +1,10 @@
-//! Where faults are: the way to each, and to where a name that stands twice stood first.
+//! Where faults are: the path to each, and to where a name that stands twice stood first.
 use description_toml::{DescriptionError, Fault, description_from_table};
 use lasting_names::Names;
 use std::alloc::Global;
 use std::process::Abort;
 
-// A text, and behind `=> ` the way to each of its faults, and the earlier one.
+// A text, and after `=> ` the path to each of its faults, and the earlier one.
 const ROWS: &str = r#"
 title = 1
 zzz = 1
@@ -49,7 +49,7 @@ fn put(out: Global, all: &mut String, fault: &Fault<'_>, rt: &impl Abort) {
     all.push_str(&line).expect(rt, "a longer text");
 }
 
-// The ways of the faults of a text, a line each.
+// The paths of the faults of a text, one per line.
 fn ways(rt: &impl Abort, out: Global, text: &str) -> String {
     let table = toml::table_from_str(out, text).ok().expect(rt, "a table");
     let mut names = Names::new(out);

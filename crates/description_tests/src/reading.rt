@@ -16,7 +16,7 @@ fn table(rt: &impl Abort, out: Global, text: &str) -> Table {
     toml::table_from_str(out, text).ok().expect(rt, "a table")
 }
 
-// What is told, a line a fault.
+// What is reported, one fault per line.
 fn lines<A: Allocator>(rt: &impl Abort, out: Global, faults: &Faults<'_, A>) -> String {
     format!(in out; "{faults}").expect(rt, "a text")
 }
@@ -57,7 +57,7 @@ pub fn says(rt: &impl Abort, out: Global, row: &Row<'_>) -> bool {
     is_that
 }
 
-// What comes of a table on so much memory. None where a growth is refused.
+// What comes of a table on that much memory. None where a growth is refused.
 fn told_on(
     rt: &impl Abort,
     out: Global,
@@ -71,7 +71,7 @@ fn told_on(
     told
 }
 
-// Whether that comes of it which should. None where a growth is refused.
+// Whether the right thing comes of it. None where a growth is refused.
 fn is_told_on(
     rt: &impl Abort,
     out: Global,
@@ -89,7 +89,7 @@ fn is_told_on(
     }
 }
 
-// Whether some budget is refused, and with the first that is not that comes of it which should.
+// Whether some budget is refused, and with the first that is not, the right thing comes of it.
 fn is_told_with_more(rt: &impl Abort, out: Global, table: &Table, row: &Row<'_>) -> bool {
     for budget in 0..4096usize {
         if let Some(is_that) = is_told_on(rt, out, budget * 16, table, row) {
@@ -99,8 +99,8 @@ fn is_told_with_more(rt: &impl Abort, out: Global, table: &Table, row: &Row<'_>)
     false
 }
 
-/// Whether the reading of a row's text takes memory, and with the first budget that is not refused that comes of it
-/// which should.
+/// Whether the reading of a row's text takes memory, and with the first budget that is not refused, the right thing
+/// comes of it.
 pub fn is_read_with_more(rt: &impl Abort, out: Global, row: &Row<'_>) -> bool {
     let table = table(rt, out, row.0);
     let is_read = is_told_with_more(rt, out, &table, row);

@@ -20,7 +20,7 @@ const TABLES: &[Row<'static>] = &[
         Form::Read,
         "command 1 (run), option 2 (--x y): long holds a blank",
     ),
-    // None, since a fixed word is no title.
+    // None, since a fixed word is not a title.
     (
         "name = 'app'\n[words]\nnotes = 'Remarks '\n",
         Form::Read,
@@ -38,7 +38,7 @@ const TABLES: &[Row<'static>] = &[
         Form::Read,
         "option 1: no key lnog is known here; is it long?\noption 1: short, long or syntax is missing",
     ),
-    // None either, since tables of each kind have faults, which are all told.
+    // None either, since tables of each kind have faults, which are all reported.
     (
         "section = 10\n[words]\nusage = 1\n[[help_option]]\n[[choice]]\n[[group]]\n[[group.option]]\n[[positional]]\n[[command]]\nname = 'x'\nshort = 'y'\n[[command.topic]]\n[[command]]\nname = 'x'\naliases = ['y']\n",
         Form::Read,

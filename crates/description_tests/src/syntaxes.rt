@@ -1,6 +1,6 @@
 //! Options that are written by a syntax: their faults, and names that are taken.
 
-// What is told of a syntax, and syntaxes that are read.
+// What is reported of a syntax, and syntaxes that are read.
 pub const FAULTS: &str = r#"
 [[option]]
 syntax = '-v'

@@ -28,8 +28,8 @@ fn keys_are_read(rt: HostRuntime) {
     }
 }
 
-// The rows of a table of faults stand behind one head, with an empty line between them. A row is a text, and behind
-// `=> ` its fault, or `read`.
+// The rows of a table of faults follow one head, with an empty line between them. A row is a text, and after `=> ` its
+// fault, or `read`.
 type Faults = (&'static str, &'static str, &'static str);
 
 const NAME: &str = "name = 'a'\n";

@@ -1,4 +1,4 @@
-//! Which lines of a help text are what: each row is the lines and their blocks, each with its kind and the line behind its last.
+//! Which lines of a help text are what: each row is the lines and their blocks, each with its kind and where it ends.
 use bumpalo::Bump;
 use help_blocks::{Block, Kind, blocks};
 use std::alloc::Global;
@@ -6,7 +6,7 @@ use std::process::Abort;
 
 const ROWS: [(&[&str], &[(Kind, usize)]); 16] = [
     (&[], &[]),
-    // arguments of an option are none of the program
+    // arguments of an option are not those of the program
     (
         &["Valid arguments for --style are:", "", "  plain", "  full"],
         &[(Kind::Title, 2), (Kind::Text, 4)],
@@ -201,7 +201,7 @@ const BLOCKS: [(Kind, usize); 6] = [
     (Kind::Option, 9),
 ];
 
-// Whether the blocks are there in so much room. None where a growth is refused.
+// Whether the blocks are there in that much room. None where a growth is refused.
 fn is_made_in(rt: &impl Abort, out: Global, room: usize) -> Option<bool> {
     let arena = Bump::try_with_capacity(out, BYTES).expect(rt, "an arena");
     arena.set_allocation_limit(Some(0));

@@ -232,7 +232,7 @@ fn other_lines_have_no_options(rt: HostRuntime) {
     }
 }
 
-// A line; the name of the command, its other names with a blank behind each, and the help.
+// A line; the name of the command, its other names with a blank after each, and the help.
 const COMMANDS: [(&str, &str, &str, &str); 9] = [
     (
         "    clone    Clone a repository",
@@ -274,7 +274,7 @@ fn is_command(rt: &impl Abort, out: Global, row: (&str, &str, &str, &str)) -> bo
     }
 }
 
-// Whether a text is some words with a blank behind each.
+// Whether a text is some words with a blank after each.
 fn are_behind(words: &[&str], text: &str) -> bool {
     let mut rest = text;
     for word in words {
@@ -304,7 +304,7 @@ fn other_lines_have_no_commands(rt: HostRuntime) {
     }
 }
 
-// A line of a usage, and its names with a blank behind each.
+// A line of a usage, and its names with a blank after each.
 const USAGES: [(&str, &str); 5] = [
     ("usage: ssh [-46Aa] [-B bind_interface]", "-46Aa -B "),
     (
@@ -366,7 +366,7 @@ fn has_command<A: Allocator>(front: Option<CommandFront<'_, A>>) -> bool {
     }
 }
 
-// Whether it is there in so much room. None where a growth is refused.
+// Whether it is there in that much room. None where a growth is refused.
 fn is_made_in(rt: &impl Abort, out: Global, call: Call, room: usize) -> Option<bool> {
     let arena = Bump::try_with_capacity(out, BYTES).expect(rt, "an arena");
     arena.set_allocation_limit(Some(0));

@@ -60,7 +60,7 @@ const TEXT: &str = "\u{1b}[1mone\u{1b}[m\rtwo\u{8}\u{8}to and more that takes so
 
 const LETTERS: &str = "tto and more that takes some room\n";
 
-// Whether the letters are there in so much room. None where a growth is refused.
+// Whether the letters are there in that much room. None where a growth is refused.
 fn is_made_in(rt: &impl Abort, out: Global, room: usize) -> Option<bool> {
     let arena = Bump::try_with_capacity(out, BYTES).expect(rt, "an arena");
     arena.set_allocation_limit(Some(0));

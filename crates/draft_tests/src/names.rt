@@ -1,4 +1,4 @@
-//! The names of a help text, those of a level, and which of them one side alone has.
+//! The names of a help text, those of a level, and which of them only one side has.
 use bumpalo::Bump;
 use description::{Level, Opt};
 use help_differences::{
@@ -186,7 +186,7 @@ enum Call {
 // How many bytes an arena has: more than any call here takes.
 const BYTES: usize = 8192;
 
-// Whether it is there in so much room. None where a growth is refused.
+// Whether it is there in that much room. None where a growth is refused.
 fn is_made_in(rt: &impl Abort, out: Global, call: Call, room: usize) -> Option<bool> {
     let arena = Bump::try_with_capacity(out, BYTES).expect(rt, "an arena");
     arena.set_allocation_limit(Some(0));

@@ -49,7 +49,7 @@ const ROWS: &[(&str, &str)] = &[
         "Usage of ./tool:\n  -host NAME\n\tthe host\nusage: tool [-host NAME]\n",
         "name = \"tool\"\nusage = \"\"\"\n./tool\ntool [-host NAME]\"\"\"\n\n[[option]]\nsyntax = \"-host NAME\"\nhelp = \"the host\"\n",
     ),
-    // a word in parentheses that is no name
+    // a word in parentheses that is not a name
     (
         "usage: a\n\nCommands:\n  go (g)  run\n  list (default)  show\n",
         "name = \"a\"\nusage = \"a\"\n\n# Commands:\n\n[[command]]\nname = \"go\"\naliases = [\"g\"]\nhelp = \"run\"\n\n[[command]]\n# left out: list (default)\nname = \"list\"\nhelp = \"show\"\n",
@@ -104,7 +104,7 @@ const ROWS: &[(&str, &str)] = &[
         "usage: a\n  --in N  one [default: 1] [default: 2]\n  -v  two [env: V]\n\ncommands:\n  go  three [env: G]\n\narguments:\n  FILE  four [default: 4]\n  DIR   five [env: D]\n",
         "name = \"a\"\nusage = \"a\"\n\n[[option]]\nlong = \"in\"\nvalue = \"N\"\nhelp = \"one [default: 1] [default: 2]\"\n\n[[option]]\nshort = \"v\"\nhelp = \"two\"\nenv = \"V\"\n\n# commands:\n\n[[command]]\nname = \"go\"\nhelp = \"three [env: G]\"\n\n# arguments:\n\n[[positional]]\nvalue = \"FILE\"\nhelp = \"four\"\ndefault = \"4\"\nrequired = false\n\n[[positional]]\nvalue = \"DIR\"\nhelp = \"five [env: D]\"\nrequired = false\n",
     ),
-    // a value goes with its name, and letters in brackets are no negation
+    // a value goes with its name, and letters in brackets are not a negation
     (
         "usage: a\n  --at N  where\n  -p, --at=there  place\n  --[dis]able  more\n  --able  less\n",
         "name = \"a\"\nusage = \"a\"\n\n[[option]]\nlong = \"at\"\nvalue = \"N\"\nhelp = \"where\"\n\n[[option]]\n# left out: -p, --at=there\nshort = \"p\"\nhelp = \"place\"\n\n[[option]]\nsyntax = \"--[dis]able\"\nhelp = \"more\"\n\n[[option]]\nlong = \"able\"\nhelp = \"less\"\n",
@@ -160,7 +160,7 @@ fn is_that<A: Allocator + Copy>(alloc: A, printed: &str, wanted: &str) -> Option
     }
 }
 
-// Whether it is there in so much room. None where a growth is refused.
+// Whether it is there in that much room. None where a growth is refused.
 fn is_made_in(
     rt: &impl Abort,
     out: Global,

@@ -1,4 +1,4 @@
-//! The hints about descriptions that are read from TOML, a line each: the way, and what is said.
+//! The hints about descriptions that are read from TOML, one per line: the path, and what is said.
 use bumpalo::Bump;
 use description::Description;
 use description_hints::{Hint, Warning, warnings_of};

@@ -1,4 +1,4 @@
-//! Rows: descriptions behind a head, each with its hints.
+//! Rows: descriptions after a head, each with its hints.
 use crate::reading::Row;
 
 /// What is not said, of options and commands that are shown.
@@ -23,7 +23,7 @@ pub const NOTHING_SAID: &[Row<'static>] = &[
     ),
 ];
 
-/// The first paragraph of the help of a command, or else of what is said about it.
+/// The first paragraph of the help of a command, otherwise of what is said about it.
 pub const SUMMARIES: &[Row<'static>] = &[
     // Of 80 columns, and of 81.
     (
@@ -51,7 +51,7 @@ pub const SUMMARIES: &[Row<'static>] = &[
         "name = 'a'\nabout = 'Of e.g. Linux, version 2. X and so on. all of it.Yes'\n",
         "",
     ),
-    // The help of a command comes first, and a list is no paragraph.
+    // The help of a command comes first, and a list is not a paragraph.
     (
         "name = 'a'\nabout = 'A'\n[[command]]\nname = 'x'\nhelp = 'It copies. It moves.'\nabout = 'Two again. It is so'\n[[command]]\nname = 'y'\nhelp = '- It copies. It moves.'\nabout = 'This one. It is so'\n",
         "command 0 help - the first paragraph is the summary, and has more than one sentence\ncommand 1 about - the first paragraph is the summary, and has more than one sentence\n",
@@ -94,12 +94,12 @@ pub const USAGES: &[Row<'static>] = &[
         "name = 'a'\nabout = 'A'\nusage = \"\"\"\nUsage: a [-x] [--nope] FILE\na --long=V --help --no-long [-z]... (-g | --one) --hid\"\"\"\n[[help_option]]\nlong = 'help'\nhelp = 'H'\n[[option]]\nshort = 'x'\nlong = 'long'\nhelp = 'X'\n[[option]]\nlong = 'hid'\nhidden = true\n[[choice]]\n[[choice.option]]\nlong = 'one'\nhelp = 'O'\n[[group]]\ntitle = 'G'\n[[group.option]]\nshort = 'g'\nhelp = 'G'\n",
         "usage - no option here is called --nope\nusage - no option here is called -z\n",
     ),
-    // An option of the level above, and of one below, is none of the level. What stands for the names is not looked at.
+    // An option of the level above, or of one below, is not one of the level. What stands for the names is ignored.
     (
         "name = 'a'\nabout = 'A'\nusage = '-n -y'\n[[option]]\nshort = 'x'\nhelp = 'X'\n[[command]]\nname = 'c'\nhelp = 'C'\nusage = 'a [-x] c [-y]'\n[[command.option]]\nshort = 'y'\nhelp = 'Y'\n",
         "usage - no option here is called -y\ncommand 0 usage - no option here is called -x\n",
     ),
-    // The fixed word before a form, a value and letters that are no option.
+    // The fixed word before a form, a value and letters that are not an option.
     (
         "name = 'a'\nabout = 'A'\nusage = 'Nutzung: -n FILE -abc -1 - -- FILE'\n[words]\nusage = 'Nutzung'\n",
         "",
@@ -126,7 +126,7 @@ pub const WIDTHS: &[Row<'static>] = &[
         "name = 'a'\nabout = 'A'\n[[option]]\nshort = 's'\nlong = 'abcdefghi-abcdefghi-abcdefghi-abcdefghi-abcdefghi-abcde'\nvalue = 'V'\nhelp = 'X'\n[[option]]\nlong = 'abcdefghi-abcdefghi-abcdefghi-abcdefghi-abcdefghi-abcder'\nrequired = true\nhelp = 'X'\n[[choice]]\n[[choice.option]]\nlong = 'abcdefghi-abcdefghi-abcdefghi-abcdefghi-abcdefghi-abcdee'\nvalue = 'V'\nhelp = 'X'\n",
         "choice 0 option 0 - as an item of a usage it has 62 columns, over 60\n",
     ),
-    // None that no usage shows.
+    // Not one that no usage shows.
     (
         "name = 'a'\nabout = 'A'\n[[help_option]]\nlong = 'abcdefghi-abcdefghi-abcdefghi-abcdefghi-abcdefghi-abcde'\nvalue = 'V'\nhelp = 'X'\n[[option]]\nlong = 'abcdefghi-abcdefghi-abcdefghi-abcdefghi-abcdefghi-abcdef'\nvalue = 'V'\nhidden = true\n[[command]]\nname = 'c'\nhelp = 'C'\nusage = 'c'\n[[command.option]]\nlong = 'abcdefghi-abcdefghi-abcdefghi-abcdefghi-abcdefghi-abcdeg'\nvalue = 'V'\nhelp = 'X'\n",
         "",
@@ -158,7 +158,7 @@ pub const HELP_NAMES: &[Row<'static>] = &[
         "name = 'a'\nabout = 'A'\n[[help_option]]\nshort = 'h'\nlong = 'help'\nhelp = 'H'\n[[option]]\nshort = 'h'\nlong = 'human'\nvalue = 'N'\nhelp = 'X'\n[[choice]]\n[[choice.option]]\nlong = 'help'\nhelp = 'H'\n[[command]]\nname = 'c'\nhelp = 'C'\nusage = 'c'\n[[command.group]]\ntitle = 'G'\n[[command.group.option]]\nshort = 'h'\nlong = 'help'\nhelp = 'H'\n",
         "option 0 - a help option is called -h too\nchoice 0 option 0 - a help option is called --help too\ncommand 0 group 0 option 0 - a help option is called -h too\n",
     ),
-    // A hidden option, `--h` beside `-h`, and a syntax share none.
+    // A hidden option, `--h` beside `-h`, and a syntax share no name.
     (
         "name = 'a'\nabout = 'A'\n[[help_option]]\nshort = 'h'\nhelp = 'H'\n[[help_option]]\nsyntax = '--help[=ALL]'\nhelp = 'H'\n[[option]]\nlong = 'h'\nhelp = 'X'\n[[option]]\nlong = 'help'\nhelp = 'X'\n[[command]]\nname = 'c'\nhelp = 'C'\n[[command.option]]\nshort = 'h'\nhidden = true\n[[command]]\nname = 'd'\nhelp = 'D'\n[[command.option]]\nsyntax = '-h[=N]'\nhelp = 'X'\n",
         "",

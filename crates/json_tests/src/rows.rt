@@ -74,7 +74,7 @@ fn what_is_written_is_read_as_the_same(rt: HostRuntime) {
     }
 }
 
-// Whether a call with so much memory gives the text, and none if a growth is refused.
+// Whether a call with that much memory gives the text. None if a growth is refused.
 fn with_budget(alloc: Global, table: &Table, budget: usize, want: &str) -> Option<bool> {
     let mut names = Names::new(alloc);
     let Ok(description) = description_from_table(alloc, &mut names, table) else {

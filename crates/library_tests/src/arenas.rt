@@ -1,5 +1,5 @@
-//! Arenas with little room. An arena gives no room out twice, but for that of its last block: so with a little
-//! more room each time, one growth of a call after another is the first that is refused.
+//! Arenas with little room. An arena gives no room out twice, except that of its last block. So with a little more room
+//! each time, each growth of a call in turn is the first that is refused.
 use bumpalo::Bump;
 use bumpalo::collections::into_bump_slice;
 use std::alloc::Global;
@@ -17,15 +17,15 @@ pub fn roomy(rt: &impl Abort, out: Global) -> Bump {
     arena
 }
 
-/// Takes all that an arena has left but so many bytes, for good. Where none is left each growth is refused.
+/// Takes all that an arena has left, except that many bytes. Where none is left each growth is refused.
 pub fn leave(rt: &impl Abort, arena: &Bump, room: usize) {
     let rest = arena.chunk_capacity().saturating_sub(room);
     let taken: Vec<u8, &Bump> = Vec::with_capacity(arena, rest).expect(rt, "the rest of an arena");
     into_bump_slice(taken);
 }
 
-/// How much room is little beside so many bytes that are written. As a text grows it takes its memory anew, and an
-/// arena gives none out twice.
+/// How much room is little beside that many bytes that are written. A text that grows takes new memory each time, and
+/// an arena gives none out twice.
 pub fn little(written: usize) -> usize {
     written.saturating_mul(4).saturating_add(256)
 }

@@ -145,7 +145,7 @@ fn texts_are_cut_into_blocks(rt: HostRuntime) {
     }
 }
 
-// Whether the blocks of a text are made in so much room. None where they are others.
+// Whether the blocks of a text are made in that much room. None where they differ.
 fn is_made(rt: &impl Abort, out: Global, &(text, want): &Row, room: usize) -> Option<bool> {
     let arena = roomy(rt, out);
     let _rest = taken(rt, &arena, room);

@@ -59,7 +59,7 @@ fn each_level_has_its_chapter(rt: HostRuntime) {
 
 // ---- what one says
 
-// What stands behind `about`, in markdown.
+// What follows `about`, in markdown.
 const PARTS: &str = "\
 # p c
 

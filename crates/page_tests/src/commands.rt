@@ -158,7 +158,7 @@ fn page_in<'p, 'a: 'p>(
     }
 }
 
-// Whether a page is whole in so much room. None where it is another, or has another fault.
+// Whether a page is whole in that much room. None where it is another, or has another fault.
 fn is_whole(
     rt: &impl Abort,
     out: Global,

@@ -192,7 +192,7 @@ O:
             d
 ";
 
-/// The usage where each item is wider than what is left behind the name.
+/// The usage where each item is wider than what is left after the name.
 pub const USED_NARROWLY: &str =
     "tide [-s\n    FOLDER]\n    [-v]...\n    [--color[=WHEN]]\n    COMMAND\n    ...\n";
 

@@ -46,7 +46,7 @@ fn greet(alloc: Global) -> Result<Description<'static>, AllocError> {
 #[derive(Clone, Copy)]
 struct Row(Extent, Option<&'static str>, &'static str);
 
-// A blank date is none.
+// A blank date counts as no date.
 const WHOLE: Row = Row(Extent::Page, Some(" "), GREET);
 
 fn page_in<'p, 'a: 'p>(
@@ -60,7 +60,7 @@ fn page_in<'p, 'a: 'p>(
     html_page_of(arena, arena, app, extent, given, level)
 }
 
-// Whether a page is whole in so much room. None where it is another, or has another fault.
+// Whether a page is whole in that much room. None where it is another, or has another fault.
 fn is_whole(
     rt: &impl Abort,
     out: Global,

@@ -274,7 +274,7 @@ enum Medium {
     Usage,
 }
 
-/// What is made, and as what it is written.
+/// What is made, and what is written for it.
 #[derive(Clone, Copy)]
 struct Wanted(Levels, Medium, &'static str);
 
@@ -340,7 +340,7 @@ fn usage_of<'p>(
     console_usage(arena, 80, forms.as_slice())
 }
 
-// The page of the first level, with the others behind it.
+// The page of the first level, with the others after it.
 fn page_of<'p>(
     arena: &'p Bump,
     words: &'p FixedWords<'p>,
@@ -490,7 +490,7 @@ fn summaries_are_written_so(rt: HostRuntime) {
     }
 }
 
-// ---- levels behind another
+// ---- levels after another
 
 const DEEP: &str = r#".TH p 1 2026-11-28 "tide 2.1" "User Commands"
 .SH NAME
@@ -633,7 +633,7 @@ const WITH_MORE: &[Wanted] = &[
     Wanted(Levels::Stated, Medium::Usage, "c FILE\nc [-n | -m]\n"),
 ];
 
-// Whether a page is whole in so much room. None where it is another, or has another fault.
+// Whether a page is whole in that much room. None where it is another, or has another fault.
 fn is_whole(rt: &impl Abort, out: Global, wanted: Wanted, room: usize) -> Option<bool> {
     let store = Bump::new(out);
     let arena = roomy(rt, out);

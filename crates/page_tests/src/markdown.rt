@@ -38,7 +38,7 @@ fn pages_in_markdown_are_written_so(rt: HostRuntime) {
     );
 }
 
-// Pieces, each with what a paragraph of it alone is written as.
+// Pieces, each with what is written for a paragraph of it alone.
 const ROWS: &[(Inline<'static>, &str)] = &[
     (Inline::Words("# a"), "\\# a"),
     (Inline::Words("-"), "\\-"),
@@ -120,7 +120,7 @@ fn one_entry(
     markdown_page(alloc, "t", &parts)
 }
 
-// Where an entry leads, each with what the entry is written as.
+// Where an entry leads, each with what is written for the entry.
 const LED: &[(Target<'static>, &str)] = &[
     (Target::Page("t-a"), "[`a`](t-a.md)"),
     (Target::Page("t a"), "[`a`](t%20a.md)"),
@@ -178,7 +178,7 @@ fn other_texts_are_refused(rt: HostRuntime) {
     assert!(rt; one_paragraph(alloc, Inline::Words("\u{7f}")).err() == fault);
 }
 
-// Whether a page is whole in so much room. None where it is another, or has another fault.
+// Whether a page is whole in that much room. None where it is another, or has another fault.
 fn is_whole(
     rt: &impl Abort,
     out: Global,

@@ -27,13 +27,13 @@ pub fn roomy(rt: &impl Abort, out: Global) -> Bump {
     arena
 }
 
-/// Takes all that an arena has left but so many bytes.
+/// Takes all that an arena has left, except that many bytes.
 pub fn taken<'a>(rt: &impl Abort, arena: &'a Bump, room: usize) -> Vec<u8, &'a Bump> {
     let rest = arena.chunk_capacity().saturating_sub(room);
     Vec::with_capacity(arena, rest).expect(rt, "the rest of an arena")
 }
 
-// Whether a manual page is whole in so much room. None where it is another, or has another fault.
+// Whether a manual page is whole in that much room. None where it is another, or has another fault.
 fn is_page_whole(rt: &impl Abort, out: Global, parts: &[Part<'_>], room: usize) -> Option<bool> {
     let arena = roomy(rt, out);
     let _rest = taken(rt, &arena, room);
@@ -77,7 +77,7 @@ impl StandIns for InQuotes {
     }
 }
 
-// Whether a text is written behind another in so much room. None where it is another text.
+// Whether a text is written after another in that much room. None where it is another text.
 fn is_replaced(rt: &impl Abort, out: Global, room: usize) -> Option<bool> {
     let arena = roomy(rt, out);
     let mut text = String::from_str(&arena, "so: ").expect(rt, "a text");

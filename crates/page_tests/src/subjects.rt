@@ -15,7 +15,7 @@ const ENTERED: &[(&str, Option<&str>)] = &[
     ("ls", Some("tide list")),
     ("dir", Some("tide list")),
     ("store", Some("tide store")),
-    // of two commands that of a group
+    // of two commands, that of a group
     ("depot", Some("tide store")),
     // a hidden one, by its name and by its other name
     ("debug", Some("tide debug")),
@@ -178,7 +178,7 @@ fn all_levels_are_found(rt: HostRuntime) {
     assert!(rt; is_so);
 }
 
-// The same in so much room.
+// The same in that much room.
 fn found_in<'p>(alloc: Global, store: &'p Bump, arena: &'p Bump) -> Result<bool, AllocError> {
     are_found(arena, tide(alloc, store)?)
 }

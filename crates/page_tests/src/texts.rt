@@ -73,7 +73,7 @@ const REFUSED: &[(Place, &str)] = &[
     (Place::Title, "\u{fffe}"),
 ];
 
-// What stands before a text and behind it.
+// What stands before and after a text.
 fn around(place: Place) -> (&'static str, &'static str) {
     match place {
         Place::Text => (".TH a 1 b c d\n.PP\n", "\n"),

@@ -1,4 +1,4 @@
-//! Tests of `clidoc_engine`, and what is said of bad input and of input that would better say something otherwise.
+//! Tests of `clidoc_engine`, and what is reported of bad input and of input that should say something differently.
 
 mod echoes;
 pub mod ends;

@@ -1,6 +1,6 @@
 //! Runs of the engines over ends that answer by a script, and what is seen of each of them.
 //!
-//! Each call answers whether what it says is so. Where a test itself has too little memory, it is not.
+//! Each call returns whether what it says is so. Where a test itself has too little memory, it returns false.
 
 ghost use Rattle.std.specs.Prelude.{◌<◌};
 
@@ -27,7 +27,7 @@ pub enum Asked {
     Clidoc(Form),
 }
 
-// How a run over this memory ends. None where its ends tell otherwise.
+// How a run over this memory ends. None where its ends contradict it.
 fn ran_over<A: Allocator + Copy>(
     alloc: A,
     global: Global,
@@ -41,7 +41,7 @@ fn ran_over<A: Allocator + Copy>(
     }
 }
 
-/// How a run on so much memory ends. None where its ends tell otherwise.
+/// How a run on that much memory ends. None where its ends contradict it.
 pub fn ran(global: Global, budget: usize, asked: Asked, ends: &Ends<'_>) -> Option<Ending> {
     match LocalHeap::new(global, budget) {
         Ok(heap) => ran_over(&heap, global, asked, ends),
@@ -68,7 +68,7 @@ pub fn moves_bytes(global: Global, asked: Asked, input: &[u8], page: &[u8]) -> b
         && ran(global, AMPLE, asked, &none_written) == Some(Ending::WriteFailed)
 }
 
-/// Whether each failed read is said: one a byte, and one that finds the end.
+/// Whether each failed read is reported: one a byte, and one that finds the end.
 pub fn says_failed_reads(global: Global, asked: Asked, input: &[u8], page: &[u8]) -> bool {
     for call in 0..=input.len() {
         let ends = Ends::new(input, page).reading(Script::failing(call));
@@ -79,7 +79,7 @@ pub fn says_failed_reads(global: Global, asked: Asked, input: &[u8], page: &[u8]
     true
 }
 
-/// Whether each failed write is said, one a byte.
+/// Whether each failed write is reported, one a byte.
 pub fn says_failed_writes(global: Global, asked: Asked, input: &[u8], page: &[u8]) -> bool {
     for call in 0..page.len() {
         let ends = Ends::new(input, page).writing(Script::failing(call));
@@ -90,7 +90,7 @@ pub fn says_failed_writes(global: Global, asked: Asked, input: &[u8], page: &[u8
     true
 }
 
-// How many bytes more an arena has each time. No growth is smaller than one; of the longer runs a smaller one may be
+// How many bytes more an arena has each time. No growth is smaller than one; in the longer runs a smaller growth may be
 // passed over.
 fn step_of(asked: Asked) -> usize
     ensures { 0 < result }
@@ -101,8 +101,8 @@ fn step_of(asked: Asked) -> usize
     }
 }
 
-/// Whether each room refuses the first growth that does not fit it, and nothing is written then; the first is none, and
-/// the rooms rise until one suffices.
+/// Whether each room refuses the first growth that does not fit it, and nothing is written then. The first room is
+/// empty, and the rooms rise until one suffices.
 pub fn refuses_until_ample(global: Global, asked: Asked, input: &[u8], page: &[u8]) -> bool {
     let ends = Ends::new(input, page).reading(Script::BYTES);
     for room in (0..BYTES).step_by(step_of(asked)) {
@@ -114,7 +114,7 @@ pub fn refuses_until_ample(global: Global, asked: Asked, input: &[u8], page: &[u
     false
 }
 
-// Whether a run ends so that it tells of its ends alone.
+// Whether the end of a run says something about its ends alone.
 fn is_of_ends(ran: Option<Ending>) -> bool {
     matches!(
         ran,

@@ -3,11 +3,10 @@
 //! Of each program there are a page of each form, ends that fail at each step or answer by a script, refused growths,
 //! and what a whole run says.
 //!
-//! They stand apart from what they test, since a crate with tests is proved twice. A table is a reference to its
-//! rows: an array by value is made anew where it is gone over, and the proof has steps for each row. Rows that are
-//! texts alone are one text, which a test cuts as it goes: the proof has no steps for them. A row is judged in a
-//! function of its own, which takes the memory that it needs, so that a test holds nothing but the row while it
-//! asserts.
+//! They stand apart from what they test, since a crate with tests is proved twice. A table is a reference to its rows:
+//! an array by value is copied each time it is gone over, and the proof has steps for each row. Rows that are texts
+//! alone are one text, which a test cuts as it goes: the proof has no steps for them. A row is judged in a function of
+//! its own, which takes the memory that it needs, so that a test holds nothing but the row while it asserts.
 #![tactic(auto)]
 
 #[cfg(test)]

@@ -80,7 +80,7 @@ const BRIEF_HELP: Frame = (
 
 const FRAMES: &[Frame] = &[USAGE, FULL, BRIEF, MARKDOWN, MAN, HTML];
 
-// Whether the page of each form comes through drawn ends, with words of these sizes by turns.
+// Whether the page of each form comes through drawn ends, with words of these sizes alternately.
 fn each_form_comes_through(global: Global, draws: &mut Draws, sizes: [usize; 2]) -> bool {
     let mut size = sizes[0];
     for frame in FRAMES {
@@ -121,7 +121,7 @@ fn pages_come_through_any_ends(rt: HostRuntime) {
             "{size}"
         );
     }
-    // Of the two largest sizes one a form.
+    // Each form with one of the two largest sizes.
     assert!(rt; each_form_comes_through(rt.alloc(), &mut draws, [SIZES[7], SIZES[8]]));
 }
 

@@ -148,7 +148,7 @@ fn is_page(global: Global, asked: Asked, input: &[u8], page: &[u8]) -> bool {
     }
 }
 
-// Whether each failed read is said. The sample reads nothing.
+// Whether each failed read is reported. The sample reads nothing.
 fn says_reads(global: Global, asked: Asked, input: &[u8], page: &[u8]) -> bool {
     matches!(asked, Asked::Helpdoc(Choice::Sample(_)))
         || says_failed_reads(global, asked, input, page)

@@ -7,8 +7,8 @@ use linked_list_allocator::LocalHeap;
 use std::alloc::Global;
 use std::process::ExitCode;
 
-/// The status of a run of the program that the words name first, on so much memory. What clidoc keeps in its own is not
-/// of it.
+/// The status of a run of the program that the words name first, on that much memory. What clidoc keeps in memory of
+/// its own does not count.
 pub fn status_of(heap: &LocalHeap, global: Global, desk: &Desk<'_>) -> ExitCode {
     if desk.words.starts_with("helpdoc") {
         helpdoc_engine::program::run(&(desk, heap))
@@ -17,8 +17,8 @@ pub fn status_of(heap: &LocalHeap, global: Global, desk: &Desk<'_>) -> ExitCode 
     }
 }
 
-/// Whether a run on ample memory answers this status, and prints so many bytes of the page, and the line where it should.
-/// Statuses are numbers here, as in the table of the program.
+/// Whether a run on ample memory returns this status, and prints that many bytes of the page, and the line where it
+/// should. Statuses are numbers here, as in the table of the program.
 pub fn ends_with(global: Global, desk: &Desk<'_>, status: u8, count: usize, says: bool) -> bool {
     let Ok(heap) = LocalHeap::new(global, AMPLE) else {
         return false;
@@ -27,7 +27,7 @@ pub fn ends_with(global: Global, desk: &Desk<'_>, status: u8, count: usize, says
     answered == ExitCode::from(status) && desk.has_printed(count, says)
 }
 
-/// Whether a run on ample memory answers this status, and prints this page and, where it is no success, the line.
+/// Whether a run on ample memory returns this status, and prints this page and, where it failed, the line.
 pub fn answers(
     global: Global,
     words: &str,
@@ -39,7 +39,7 @@ pub fn answers(
     ends_with(global, &desk, status, page.len(), status > 0)
 }
 
-// Whether a growth is refused on so much memory, and this said, or the page written. None where neither is so.
+// Whether a growth is refused on that much memory, and this reported, or the page written. None where neither is so.
 fn is_refused(global: Global, budget: usize, desk: &Desk<'_>, length: usize) -> Option<bool> {
     let Ok(heap) = LocalHeap::new(global, budget) else {
         return None;

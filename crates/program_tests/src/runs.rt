@@ -8,7 +8,7 @@ use crate::stand_ins::runs::Ends;
 use crate::stand_ins::scripts::Script;
 use std::alloc::Global;
 
-// Wrong words with bars between them, and on the next line what says so. Behind each row stands an empty line.
+// Wrong words with bars between them, and on the next line what says so. An empty line follows each row.
 const WRONG: &str = "clidoc
 clidoc FORM [--command NAME]... [--deep] [--width COLUMNS] [--fragment] [--date DATE]
        [--vendor TEXT] [FILE]
@@ -287,7 +287,7 @@ fn wrong_words_have_a_status(rt: HostRuntime) {
 const NESTED: &[u8] =
     b"name = 'app'\r\nabout = \"\"\"\r\nOne\r\n\r\nTwo\"\"\"\r\n[[command]]\r\nname = 'remote'\r\nshort = 'r'\r\n[[command.command]]\r\nname = 'add'\r\nabout = 'Adds one'\r\n";
 
-// Words, on the next lines the page, and then a line of signs. Behind an empty page stands what is said.
+// Words, on the next lines the page, and then a line of signs. After an empty page stands what is reported.
 const RIGHT: &str = "clidoc|--width=100|full|-
 One
 
@@ -871,7 +871,7 @@ const FIRST: Script<'static> = Script::FIRST_FAILS;
 
 const FOURTH: Script<'static> = Script::FOURTH_FAILS;
 
-// Words and an input, how the reader and the writer answer, the status, how much of the page is written, and the line.
+// Words and an input, what the reader and the writer do, the status, how much of the page is written, and the line.
 type Faulty = (
     &'static str,
     &'static [u8],
@@ -1088,7 +1088,7 @@ fn tells_garbled_words<'a>(global: Global, words: &'a str, status: u8, line: &'a
     ends_with(global, &desk, status, 0, true)
 }
 
-// Of several faults the first is told: words, then reads, then the text, its TOML, its description, its page, then
+// Of several faults the first is reported: words, then reads, then the text, its TOML, its description, its page, then
 // writes.
 #[test]
 fn tells_the_first_fault(rt: HostRuntime) {

@@ -1,4 +1,4 @@
-//! Each call is passed on once, and again where it is interrupted, its answer is handed out as it was, and the mark
+//! Each call is passed on once, and again where it is interrupted, its result is returned as it was, and the mark
 //! stands exactly where a call has failed.
 use crate::stand_ins::lines::says;
 use crate::stand_ins::scripts::{
@@ -30,7 +30,7 @@ fn reads(
     kind_of(reader.read(room)) == want && room.starts_with(given)
 }
 
-// Whether the calls came by these answers, of which the last may be interruptions that none came to.
+// Whether the calls came by these answers, of which the last may be interruptions that no call met.
 fn are_passed_on(calls: Calls, answers: &[Answer]) -> bool {
     let mut count = 0;
     for (index, answer) in answers.iter().enumerate() {
@@ -87,7 +87,7 @@ fn passes_each_once(bytes: &[u8], room: &mut [u8], draws: &mut Draws) -> bool {
     reads_each_once(bytes, room, &reads[..4]) && writes_each_once(bytes, &writes[..4])
 }
 
-// What reading all of it answers, but for the bytes, which should be a beginning of these.
+// What reading all of it returns, except the bytes, which should be a beginning of these.
 fn read(
     global: Global,
     reader: &mut Watched<ScriptedReader<'_>>,
@@ -116,14 +116,14 @@ fn writes_all(bytes: &[u8], script: Script<'_>) -> bool {
     is_marked == outcome.is_err() && calls.written(bytes.len()) == Some(outcome)
 }
 
-// Whether all of these is read, and all is written, by these answers and those.
+// Whether all of these is read by the former answers, and all is written by the latter.
 fn moves_all(global: Global, bytes: &[u8], draws: &mut Draws) -> bool {
     let (reads, writes) = (draws.answers(), draws.answers());
     reads_all(global, bytes, Script::of(&reads)) && writes_all(bytes, Script::of(&writes))
 }
 
-// Whether each call on so many bytes is passed on, and all of them are read and written, whatever the scripts are, and
-// as all but one byte, and then that one.
+// Whether each call on that many bytes is passed on, and all of them are read and written, whatever the scripts are,
+// and also as all but one byte, and then that one.
 fn moves(global: Global, size: usize, draws: &mut [Draws; 2]) -> Result<bool, AllocError> {
     let letters = letters(global, size)?;
     let bytes = front(&letters, size).as_bytes();
@@ -153,7 +153,7 @@ fn each_call_is_passed_on_once(rt: HostRuntime) {
     assert!(rt; moves(rt.alloc(), LARGE, &mut draws).unwrap_or(false));
 }
 
-// Whether writing answers this error of the writer, with all that it says, and goes on where it is an interruption.
+// Whether writing returns this error of the writer, with all that it says, and goes on where it is an interruption.
 fn hands_out(kind: ErrorKind) -> bool {
     let answers = [Answer::Moves(2), Answer::Fails(kind)];
     let mut writer = Watched::new(ScriptedWriter::new(b"abcd", Script::of(&answers)));
@@ -164,7 +164,7 @@ fn hands_out(kind: ErrorKind) -> bool {
     }
 }
 
-// Whether this error behind two bytes comes out of each call, or is none.
+// Whether this error after two bytes comes out of each call, unless it is an interruption.
 fn comes_out(global: Global, kind: ErrorKind) -> bool {
     let answers = [Answer::Moves(2), Answer::Fails(kind)];
     let script = Script::of(&answers);

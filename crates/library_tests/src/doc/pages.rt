@@ -1,5 +1,5 @@
-//! Pages of documents that no stored run of `replay` shows: those of calls that it has not, and those that are too
-//! long for one.
+//! Pages of documents that no stored run of `replay` shows: those of calls that it does not have, and those that are
+//! too long for one.
 use bpaf_doc::buffer::Doc;
 use bpaf_roff::roff::Roff;
 use std::alloc::{AllocError, Allocator, Global};
@@ -77,7 +77,7 @@ const ROWS: &[Row] = &[
     ),
 ];
 
-// The text with a word of so many columns in place of each `W`.
+// The text with a word of that many columns in place of each `W`.
 fn widened(rt: &impl Abort, out: Global, text: &str, columns: usize) -> String {
     let word = "a".repeat(out, columns).expect(rt, "a word");
     let text = text.replace(out, 'W', &word).expect(rt, "a text");

@@ -170,7 +170,8 @@ fn made<A: Allocator + Copy>(
     }
 }
 
-// Whether a call over an arena with so many free bytes is refused. None where it leaves something else than it should.
+// Whether a call over an arena with that many free bytes is refused. None where it leaves something else than it
+// should.
 fn is_refused(
     rt: &impl Abort,
     arena: &Bump,
@@ -231,7 +232,7 @@ fn a_refused_call_changes_nothing(rt: HostRuntime) {
     drop(given);
 }
 
-// Whether a document is shown with so many bytes left beside it. None where it shows something else than its text, or
+// Whether a document is shown with that many bytes left beside it. None where it shows something else than its text, or
 // than nothing where that is refused.
 fn is_shown(rt: &impl Abort, out: Global, arena: &Bump, room: usize, text: &str) -> Option<bool> {
     let doc = Doc::from_text(arena, text).expect(rt, "a document");

@@ -1,6 +1,6 @@
-//! What a page asks for ahead of its text is little, and what a document asks for the parts of another: an arena has room
-//! for no more than so many times what is written. The bytes of a document times its parts are more than an arena has,
-//! and so are its parts times its parts.
+//! What a page asks for ahead of its text is little, and so is what a document asks for the parts of another: an arena
+//! has room for no more than a small multiple of what is written. The bytes of a document times its parts are more than
+//! an arena has, and so are its parts times its parts.
 use crate::arenas::{leave, little, roomy};
 use crate::doc::pages::{Page, text_of};
 use bpaf_doc::buffer::Doc;
@@ -39,7 +39,7 @@ enum Put {
 
 const PUTS: &[(Put, &str)] = &[(Put::Inline, "inline"), (Put::Titled, "with a title")];
 
-// A text that hides in brief the two hundred behind it.
+// A text that in brief hides the two hundred after it.
 fn many_texts<A: Allocator + Copy>(rt: &impl Abort, alloc: A) -> Doc<A> {
     let mut doc = Doc::from_text(alloc, "zero\n\n").expect(rt, "a document");
     for _ in 0..100usize {

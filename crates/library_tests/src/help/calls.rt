@@ -1,4 +1,4 @@
-//! The calls that may answer `AllocError`, how each of them ends over an arena, and what it shows then: what it gave,
+//! The calls that may return `AllocError`, how each of them ends over an arena, and what it shows then: what it gave,
 //! or what it left where it was refused, as debug text, which is the same over all allocators.
 use crate::arenas::{leave, roomy};
 use crate::help::meta::calls::{Make, Write, is_made, read_is_shown, shorts_are_put, write_in};
@@ -14,14 +14,14 @@ use std::process::Abort;
 
 #[derive(Clone, Copy)]
 pub enum Call {
-    /// The tree behind itself in a list.
+    /// The tree once more, after itself in a list.
     Append,
     /// What stands before `Append`.
     List,
     Insert,
     Replace,
     Groups,
-    /// A help page behind a text.
+    /// A help page after a text.
     HelpPage,
     Write(Write),
     Make(Make),
@@ -36,7 +36,7 @@ pub enum Call {
 pub enum Ended {
     Given,
     Refused,
-    /// A flag with this short name stands behind a positional value.
+    /// A flag with this short name stands after a positional value.
     Misplaced(char),
 }
 
@@ -50,7 +50,7 @@ impl Ended {
     }
 }
 
-/// How a call ends over an arena with so many free bytes. The tree that the text spells stands there too: what takes
+/// How a call ends over an arena with that many free bytes. The tree that the text spells stands there too: what takes
 /// its memory where the tree does is refused as well.
 pub fn end_of(
     rt: &impl Abort,

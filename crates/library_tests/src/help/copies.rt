@@ -1,5 +1,5 @@
-//! What lists and trees ask for ahead is little beside what they hold: of a tree with many parts, its list, its copy and
-//! its normal form are made in an arena that has room for no more than so many bytes for each part.
+//! What lists and trees ask for ahead is little beside what they hold: of a tree with many parts, its list, its copy
+//! and its normal form are made in an arena that has room for no more than a fixed number of bytes for each part.
 use crate::arenas::{leave, little, roomy};
 use crate::help::calls::list_of;
 use crate::help::trees::tree;

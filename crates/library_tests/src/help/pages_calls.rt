@@ -1,4 +1,4 @@
-//! The calls that make pages and sections, and may answer `AllocError`.
+//! The calls that make pages and sections, and may return `AllocError`.
 use crate::arenas::leave;
 use crate::help::calls::Ended;
 use crate::help::trees::{DESCRIBED, info, make_path, path};
@@ -30,7 +30,7 @@ pub enum PageCall {
     Titled,
     /// All forms of a document and of the application.
     Forms,
-    /// The sections behind themselves in a list.
+    /// The sections once more, after themselves in a list.
     Sections,
     /// A copy of the last section.
     Section,
@@ -42,7 +42,7 @@ pub enum PageCall {
     LastSection,
 }
 
-/// How a page ends over an arena with so many free bytes.
+/// How a page ends over an arena with that many free bytes.
 pub fn page_ended<'a>(
     rt: &impl Abort,
     arena: &'a Bump,
@@ -114,7 +114,7 @@ fn ended<T: Debug + Drop>(
     }
 }
 
-// Shows all forms of the application and of its description, whose roff stands behind a heading.
+// Shows all forms of the application and of its description, whose roff stands after a heading.
 fn are_forms_shown<'a, 's>(
     rt: &impl Abort,
     arena: &'a Bump,
@@ -200,7 +200,7 @@ pub fn gathered<'m, A: Allocator, L: Allocator + Copy>(
     Ok(sections)
 }
 
-// Puts the sections behind themselves, or copies the last one, or neither, and shows what stands then.
+// Puts the sections after themselves, or copies the last one, or neither, and shows what stands then.
 fn are_put<'a>(
     rt: &impl Abort,
     arena: &'a Bump,
@@ -235,8 +235,7 @@ fn show_sections<A: Allocator, L: Allocator + Copy>(
     write!(shown, "{path:?} {sections:?}").expect(rt, "a text");
 }
 
-// Shows the last section, or a copy of it where one is asked for and made. Answers whether that is shown which is asked
-// for.
+// Shows the last section, or a copy of it where one is asked for and made. Returns whether what is asked for is shown.
 fn last_is_shown<A: Allocator, L: Allocator + Copy>(
     rt: &impl Abort,
     sections: &[DocSection<'_, A, L>],

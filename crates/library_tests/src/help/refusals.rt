@@ -17,7 +17,7 @@ pub fn given(rt: &impl Abort, out: Global, text: &str, call: Call) -> String {
     shown
 }
 
-// Whether the call succeeds in so much room. None where it does not show then what it should.
+// Whether the call succeeds in that much room. None where it does not show then what it should.
 fn is_given(
     rt: &impl Abort,
     out: Global,
@@ -118,7 +118,7 @@ fn a_refused_call_leaves_what_it_was_lent(rt: HostRuntime) {
     }
 }
 
-// A tree, and a call behind one that shows what stands before it.
+// A tree, and a call after one that shows what stands before it.
 const BEHIND: &[(&str, Call, Call)] = &[
     (PARTS, Call::List, Call::Append),
     (
@@ -187,7 +187,7 @@ fn what_takes_no_memory_is_never_refused(rt: HostRuntime) {
     }
 }
 
-// Whether a page ends so in so much room.
+// Whether a page ends so in that much room.
 fn ends(
     rt: &impl Abort,
     out: Global,
@@ -215,7 +215,7 @@ const ENDS: &[(usize, &str, PageCall, Ended)] = &[
     (BYTES, "Pb&", PageCall::Help, Ended::Misplaced('b')),
     // The page of a command is checked with its own section.
     (BYTES, "Pa&1B|@", PageCall::Help, Ended::Given),
-    // Each page is checked before it takes memory, but for that in which its sections are gathered.
+    // Each page is checked before it takes memory, except that in which its sections are gathered.
     (0, "Pb&", PageCall::Collected, Ended::Refused),
     (GATHERED, "Pb&", PageCall::Collected, Ended::Misplaced('b')),
     (GATHERED, "bP&", PageCall::Collected, Ended::Refused),

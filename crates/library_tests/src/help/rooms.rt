@@ -1,6 +1,6 @@
-//! What groups and headings ask for ahead in a document is little beside what they write: an arena that holds the document
-//! alone has room for no more than so many times its parts and texts. What they ask for beside a list is little too: an
-//! arena that holds the list has room for no more than so many bytes for each entry.
+//! What groups and headings ask for ahead in a document is little beside what they write: an arena that holds the
+//! document alone has room for no more than a small multiple of its parts and texts. What they ask for beside a list is
+//! little too: an arena that holds the list has room for no more than a fixed number of bytes for each entry.
 use crate::arenas::{leave, little, roomy};
 use crate::help::calls::list_of;
 use crate::help::trees::tree;
@@ -25,7 +25,7 @@ const FLAGS: &str =
 // more than an arena has then.
 const ENTRY: usize = 64;
 
-// Whether the groups and headings of a tree are written. All but the document is in other memory.
+// Whether the groups and headings of a tree are written. Everything except the document is in other memory.
 fn are_written<A: Allocator>(
     rt: &impl Abort,
     out: Global,

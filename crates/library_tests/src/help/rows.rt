@@ -24,7 +24,7 @@ pub enum Form {
     Page(PageCall),
 }
 
-/// A form, a tree, a description, and what is made of them, or with what that begins where `…` stands behind it.
+/// A form, a tree, a description, and what is made of them; where it ends with `…`, only its beginning.
 pub type Row<'a> = (Form, &'a str, &'a str, &'a str);
 
 fn debug_text(rt: &impl Abort, out: Global, form: Form, tree: &Meta) -> String {

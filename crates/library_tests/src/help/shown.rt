@@ -95,7 +95,7 @@ fn all_forms_of_a_document_and_a_tree(rt: HostRuntime) {
     drop(shown);
 }
 
-// What stands before and behind the words of a title line, in a manual page of nothing.
+// What stands before and after the words of a title line, in a manual page of nothing.
 const BEFORE: &str = ".ie \\n(.g .ds Aq \\(aq\n.el .ds Aq '\n.TH a\\ b\\\\ ";
 
 const BEHIND: &str = "\n.SH SYNOPSIS\n\\fBa b\\\\\\fP\\fR \\fP";

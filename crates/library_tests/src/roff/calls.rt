@@ -1,4 +1,4 @@
-//! The calls of which no request shows the answer.
+//! The calls whose results no request shows.
 use crate::roff::monoids::show;
 use bpaf_roff::monoid::FreeMonoid;
 use bpaf_roff::roff::{Font, RESTORE_FONT};

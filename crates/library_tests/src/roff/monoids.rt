@@ -84,7 +84,7 @@ fn is_copied(rt: &impl Abort, monoid: &FreeMonoid<char, &Bump>, shown: &mut Stri
     is_made
 }
 
-/// Whether a call, which has so many bytes, was done. What stands then is shown, but where a sum is refused.
+/// Whether a call, which has that many bytes, was done. What stands then is shown, except where a sum is refused.
 pub fn is_done(
     rt: &impl Abort,
     out: Global,

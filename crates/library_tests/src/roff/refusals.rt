@@ -1,5 +1,5 @@
-//! Each growth refused in turn: a call is made over an arena with room for nothing, then for a little more each
-//! time, until it succeeds. Each refusal leaves what was lent as it was, and at the end stands what the call has
+//! Each growth refused in turn: a call is made over an arena with room for nothing, then for a little more each time,
+//! until it succeeds. Each refusal leaves what was lent as it was, and at the end it is followed by what the call has
 //! to add.
 use crate::arenas::{BYTES, STEP, leave, roomy};
 use crate::roff::monoids::{self, MonoidCall};
@@ -37,7 +37,7 @@ const LABELS: &[Escape] = &[
 
 const TEXTS: &[&str] = &["'long enough to grow-'", "\n.\\", ".", "a b\\\n", "\n"];
 
-// A call, and what it adds behind what stands there, with a bar and the setting after it.
+// A call, and what it adds after what stands there, with a bar and the setting after it.
 type Row = (Call, &'static str);
 
 const ROWS: &[Row] = &[
@@ -140,7 +140,7 @@ fn is_escaped(
     is_done
 }
 
-// Whether a call over an arena with so many free bytes is done. What stands then is shown.
+// Whether a call over an arena with that many free bytes is done. What stands then is shown.
 fn is_done(
     rt: &impl Abort,
     out: Global,
@@ -171,7 +171,7 @@ fn before(rt: &impl Abort, out: Global, call: Call, pieces: usize) -> String {
     shown
 }
 
-// Whether a call is done in so much room. None where something else stands then than should: behind the text before it
+// Whether a call is done in that much room. None where something else stands then than should: after the text before it
 // what it adds, or all that stood before. Of a sum that is refused nothing stands.
 fn is_done_as_wanted(
     rt: &impl Abort,
@@ -199,7 +199,7 @@ fn is_added(before: &str, after: &str, added: &str) -> bool {
     }
 }
 
-// The room in which a call succeeds. None where something else stands behind it than should.
+// The room in which a call succeeds. None where something else stands after it than should.
 fn needed(rt: &impl Abort, out: Global, row: &Row, pieces: usize) -> Option<usize> {
     let before = before(rt, out, row.0, pieces);
     for step in 0..BYTES / STEP {

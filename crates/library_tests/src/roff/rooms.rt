@@ -1,5 +1,5 @@
-//! What a call on a monoid asks for is little beside what it writes: an arena has room for no more than so many times
-//! that. The number of the pieces times itself is more.
+//! What a call on a monoid asks for is little beside what it writes: an arena has room for no more than a small
+//! multiple of that. The square of the number of pieces is more.
 use crate::arenas::{leave, little, roomy};
 use bpaf_roff::escape::Escape;
 use bpaf_roff::monoid::FreeMonoid;
@@ -70,7 +70,7 @@ fn is_done(
     done.is_ok()
 }
 
-// Whether a call is done in so much room, beside a monoid that is there before.
+// Whether a call is done in that much room, beside a monoid that is there before.
 fn is_done_in(rt: &impl Abort, arena: &Bump, room: usize, call: Call) -> bool {
     let given = filled(rt, arena);
     leave(rt, arena, room);

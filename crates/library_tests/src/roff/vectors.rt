@@ -1,5 +1,5 @@
-//! The vectors of pages and of labelled texts, by the calls that they name. `replay` has them by those that these hand
-//! on to.
+//! The vectors of pages and of labelled texts, by the calls that they name. `replay` has them by the calls that these
+//! pass on to.
 use bpaf_roff::escape::Apostrophes;
 use bpaf_roff::monoid::FreeMonoid;
 use bpaf_roff::roff::{Font, Roff};
@@ -7,9 +7,9 @@ use std::alloc::{AllocError, Global};
 use std::fmt::Write;
 use std::process::Abort;
 
-// Calls with bars between them, and behind an arrow the page. Before its words a call has `p` for `plaintext`, `t` for
-// `text`, `c` for `control` or `0` for `control0`. Between words stand semicolons, and before those of `text` the letter of
-// their font. Behind a plus a page is added.
+// Calls with bars between them, and after an arrow the page. Before its words a call has `p` for `plaintext`, `t` for
+// `text`, `c` for `control` or `0` for `control0`. Between words stand semicolons, and before those of `text` the
+// letter of their font. After a plus a page is added.
 const PAGES: &str = r#"pabc => abc
 ----
 tRfoo => \fRfoo\fP
@@ -174,7 +174,7 @@ fn chained(out: Global) -> Result<FreeMonoid<char>, AllocError> {
     Ok(monoid)
 }
 
-// Whether to squash, and a piece; a piece that is added; letters under `a` that are pushed behind them; and what is
+// Whether to squash, and a piece; a piece that is added; letters under `a` that are pushed after them; and what is
 // printed then.
 const SUMS: &[(bool, &str, &[(char, &str)], &str, &str)] = &[
     (true, "x", &[], "y", r#"a: "xy"; "#),

@@ -210,7 +210,7 @@ const ROWS: [(&[Step], &str); 12] = [
     ),
 ];
 
-// Calls, and one behind them that has the fault.
+// Calls, and one after them that has the fault.
 const FAULTS: [(&[Step], Step, PageError); 28] = [
     (&[], Text("a"), PageError::Misplaced),
     (&[Start(Header), End], Start(Header), PageError::Misplaced),

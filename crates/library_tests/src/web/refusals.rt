@@ -1,6 +1,6 @@
-//! Each growth refused in turn. A page is written in an arena, with a text of some length, and then all that is
-//! left of the arena is taken. Where the next call is refused, it is made again with the arena's room back, and the
-//! page is then that of ample memory: so the refused call had left nothing.
+//! Each growth refused in turn. A page is written in an arena, with a text of some length, and then all that is left of
+//! the arena is taken. Where the next call is refused, it is made again with the arena's room back, and the page is
+//! then that of ample memory: so the refused call left nothing.
 use crate::web::steps::Step::{End, LineBreak, Start, StartLink, StartLinkToId, StartWithId, Text};
 use crate::web::steps::{Step, apply, new};
 use bumpalo::Bump;
@@ -13,10 +13,10 @@ use web_page::{Level, Page, PageError};
 /// How many bytes an arena has: more than a page of these tests takes.
 const BYTES: usize = 8192;
 
-/// Of how many lengths the text is: as many as lie between two growths of a page, and more.
+/// How many lengths the text has: as many as lie between two growths of a page, and more.
 const LENGTHS: usize = 320;
 
-// A call, with those between the text and it, and those behind it.
+// A call, with those between the text and it, and those after it.
 struct Row {
     before: &'static [Step],
     call: Step,
@@ -76,7 +76,7 @@ const ROWS: [Row; 10] = [
     },
 ];
 
-// A page with a text of so many letters and one more in it.
+// A page with a text of that many letters and one more in it.
 fn begin<A: Allocator + Copy>(alloc: A, length: usize, row: &Row) -> Result<Page<A>, PageError> {
     let mut page = new(alloc)?;
     page.start(Main)?;
@@ -97,7 +97,7 @@ fn roomy(rt: &(impl Abort + AllocGlobal)) -> Bump {
     arena
 }
 
-// Takes all that an arena has left but so many bytes.
+// Takes all that an arena has left, except that many bytes.
 fn taken<'a>(rt: &impl Abort, arena: &'a Bump, room: usize) -> Vec<u8, &'a Bump> {
     let rest = arena.chunk_capacity().saturating_sub(room);
     Vec::with_capacity(arena, rest).expect(rt, "the rest of an arena")
@@ -110,7 +110,7 @@ fn finished<A: Allocator>(mut page: Page<A>, row: &Row) -> Result<String<A>, Pag
     page.finish()
 }
 
-// Whether the row's call is refused behind a text of this length.
+// Whether the row's call is refused after a text of this length.
 fn is_refused(rt: &(impl Abort + AllocGlobal), length: usize, row: &Row) -> Result<bool, Fail> {
     let mut ample = begin(rt.alloc(), length, row)?;
     apply(&mut ample, row.call)?;
@@ -147,7 +147,7 @@ fn a_refused_growth_leaves_the_page(rt: HostRuntime) -> Result<(), Fail> {
     Ok(())
 }
 
-// Whether a page is refused in so much room.
+// Whether a page is refused in that much room.
 fn is_new_refused(rt: &(impl Abort + AllocGlobal), room: usize) -> Result<bool, Fail> {
     let arena = roomy(rt);
     let _rest = taken(rt, &arena, room);

@@ -34,5 +34,5 @@ pub const FRONT: &str = "<!DOCTYPE html><html lang=\"en\"><head><meta charset=\"
     <meta name=\"viewport\" content=\"width=device-width\"><title>T &amp; &lt;co&gt;</title>\
     <style>p > a { color: red }</style></head><body>";
 
-/// And behind it.
+/// And after it.
 pub const END: &str = "</body></html>";

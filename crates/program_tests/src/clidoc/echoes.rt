@@ -6,7 +6,7 @@ use clidoc_engine::places::Place;
 use shown_words::{Brief, Quoted};
 use std::alloc::{AllocError, Global};
 
-// Words, and behind an arrow what a line shows of them.
+// Words, and after an arrow what a line shows of them.
 const ROWS: &str = "greet.toml => greet.toml
  => 
 a::b##c => a::b##c
@@ -20,7 +20,7 @@ a::b##c => a::b##c
   ##[x] => \"  ##[x]\"
 a\u{1b}b => \"a\\u{1b}b\"";
 
-// Whether so many of the letters with one before them are shown as the last 200 bytes at most, from a character on.
+// Whether `count` of the letter, with another one before them, are shown as only the last `left`.
 fn are_cut(global: Global, letter: &str, count: usize, left: usize) -> Result<bool, AllocError> {
     let mut words = String::from_str(global, "a")?;
     words.push_str(&letter.repeat(global, count)?)?;
@@ -29,7 +29,7 @@ fn are_cut(global: Global, letter: &str, count: usize, left: usize) -> Result<bo
     Ok(says(&Echoed(words.as_str()), shown.as_str()))
 }
 
-// Whether of so many of the letter no more are shown than these, each so, between these marks.
+// Whether of that many of the letter only these are shown, each like this, between these marks.
 fn are_brief(
     global: Global,
     (letter, count): (&str, usize),

@@ -21,7 +21,7 @@ fn ending_of<T>(outcome: &Result<T, Fault>) -> Ending {
     }
 }
 
-/// How a run on a description ends. None where its ends tell otherwise.
+/// How a run on a description ends. None where its ends contradict it.
 pub fn description_ran<A: Allocator + Copy>(
     alloc: A,
     global: Global,
@@ -47,7 +47,7 @@ pub fn description_ran<A: Allocator + Copy>(
     }
 }
 
-// How a judgement of the description ends, on so much memory. None where its reader tells otherwise.
+// How a judgement of the description ends, on that much memory. None where its reader contradicts it.
 fn judged(global: Global, budget: usize, input: &[u8], reads: Script<'_>) -> Option<Ending> {
     let Ok(heap) = LocalHeap::new(global, budget) else {
         return None;

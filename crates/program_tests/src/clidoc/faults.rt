@@ -1,13 +1,14 @@
-//! What is said of bad input.
+//! What is reported of bad input.
 use crate::long_pages::push_between;
 use crate::programs::answers;
 use crate::stand_ins::scripts::front;
 use std::alloc::{AllocError, Global};
 
-// The lines that are said, and behind a line of signs the input of which they are said. Between rows stands another.
+// The lines that are reported, and after a line of signs the input that they are about. Another such line separates
+// rows.
 //
-// A place counts characters, and not bytes, and a carriage return before a newline is none. Faults come by their places,
-// 20 of them at most. What is not closed is told where it begins.
+// A place counts characters, not bytes, and no carriage return before a newline. Faults come in the order of their
+// places, at most 20 of them. What is not closed is reported where it begins.
 const ROWS: &str = "-:2:1: duplicate key
 ====
 name = 'app'
@@ -407,7 +408,7 @@ y'''\r
 header = 1\r
 ";
 
-/// Whether the lines are said.
+/// Whether the lines are reported.
 pub fn is_said(global: Global, row: &str) -> bool {
     match row.split_once("\n====\n") {
         Some((lines, input)) => answers(global, "clidoc|full", input.as_bytes(), 1, (b"", lines)),
@@ -422,7 +423,7 @@ fn says_what_is_wrong(rt: HostRuntime) {
     }
 }
 
-// Commands in one another.
+// Nested commands.
 fn nested(global: Global, depth: usize) -> Result<String, AllocError> {
     let path = ".command".repeat(global, depth)?;
     let mut text = String::from_str(global, "name = 'app'\n")?;
@@ -433,7 +434,7 @@ fn nested(global: Global, depth: usize) -> Result<String, AllocError> {
     Ok(text)
 }
 
-// Whether so many commands in one another give this status, and this page or this line.
+// Whether that many nested commands give this status, and this page or this line.
 fn nested_answer(
     global: Global,
     depth: usize,

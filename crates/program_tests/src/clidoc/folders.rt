@@ -139,7 +139,7 @@ const REPLACING: &[&str] = &[
     "keep folder",
 ];
 
-// The calls behind the first that creates a file, where another has one of this name.
+// The calls after the first that creates a file, where another has one of this name.
 const OTHER: &[&str] = &[
     "draw",
     "create .a.1.01010101.new",
@@ -162,7 +162,7 @@ const OTHER: &[&str] = &[
     "keep folder",
 ];
 
-// A call that fails, why, the calls behind it, the status, and the line. A folder may not know how it is kept.
+// A call that fails, why, the calls after it, the status, and the line. A folder may not know how it is kept.
 type Failing = (usize, ErrorKind, &'static [&'static str], u8, &'static str);
 
 const WRITTEN: &str = "clidoc: wrote 3 files to out; see out/a.html";
@@ -304,7 +304,7 @@ const FAILING: &[Failing] = &[
     (21, ErrorKind::Unsupported, &[], 0, WRITTEN),
 ];
 
-// Whether a run ends so, and the calls came on the folder that should.
+// Whether a run ends so, and made the calls on the folder that it should.
 fn ends_so<'a>(
     global: Global,
     folder: &'a Folder,
@@ -353,7 +353,7 @@ fn pages_are_written_into_a_folder(rt: HostRuntime) {
     }
 }
 
-// What is not told, of the folder or of a place in it, changes nothing.
+// What a failed call does not say of the folder or of a place in it changes nothing.
 #[test]
 fn what_is_not_told_changes_nothing(rt: HostRuntime) {
     for call in 1..3usize {
@@ -383,7 +383,7 @@ const LEFT: &[u8] =
 const LEFT_LINES: &str =
     "clidoc: out/.a.1.0123abcd.new is of a run that was stopped or goes onclidoc: out/\".x\\u{1b}.0123ABCD.new\" is of a run that was stopped or goes onclidoc: wrote 3 files to out; see out/a.html";
 
-// Nothing that a run before has left is touched.
+// Nothing that an earlier run left is touched.
 #[test]
 fn what_a_run_has_left_is_told(rt: HostRuntime) {
     let folder = Folder::new(CALLS).listing(LEFT);
@@ -419,7 +419,7 @@ const NOTHING: &[(&str, &[u8], &[&str], &str)] = &[
     ),
 ];
 
-// Words, the bytes of the file of which they tell, and the lines.
+// Words, the bytes of the file that they name, and the lines.
 const FILES: &[(&str, &[u8], &str)] = &[
     (
         "clidoc|full|my.toml",
@@ -497,7 +497,7 @@ fn json_file_is_told(
     ends_so(global, &folder, words, b"", 1, line)
 }
 
-// Whether a run on a file tells this of it, where it can be opened.
+// Whether a run on a file reports this of it, where it can be opened.
 fn file_is_told(global: Global, words: &str, bytes: &'static [u8], line: &str) -> bool {
     let folder = Folder::new(&["open my.toml"]).with_file("my.toml", bytes);
     ends_so(global, &folder, words, b"", 1, line)
@@ -552,7 +552,7 @@ fn files_are_told_by_their_names(rt: HostRuntime) {
     );
 }
 
-// Whether a growth is refused on so much memory, and no file written. None where it is done, or anything else comes.
+// Whether a growth is refused on that much memory, and no file written. None where it is done, or anything else comes.
 fn is_without_memory(global: Global, budget: usize) -> Option<bool> {
     let Ok(heap) = LocalHeap::new(global, budget) else {
         return None;
@@ -588,7 +588,7 @@ fn a_fault_writes_no_file(rt: HostRuntime) {
     assert!(rt; writes_when_ample(rt.alloc()));
 }
 
-// How many files are made on so much memory. None where a growth is refused.
+// How many files are made on that much memory. None where a growth is refused.
 fn count_on(global: Global, budget: usize) -> Option<usize> {
     let Ok(heap) = LocalHeap::new(global, budget) else {
         return None;
@@ -616,8 +616,8 @@ fn a_refused_growth_makes_no_files(rt: HostRuntime) {
     assert!(rt; count_on(rt.alloc(), AMPLE) == Some(3));
 }
 
-// Names of files with bars between them, and behind an arrow the line that refuses them, if they are refused. The first
-// that is refused is told, with the first behind it that is like it.
+// Names of files with bars between them, and after an arrow the line that refuses them, if they are refused. The first
+// that is refused is reported, with the first after it that is like it.
 const NAMES: &str = "a.1|a-b.1|a.md
 aaaaaaaaaaaaaaaaaaaaaaaaaaaaaaaaaaaaaaaaaaaaaaaaaaaaaaaaaaaaaaaaaaaaaaaaaaaaaaaaaaaaaaaaaaaaaaaaaaaaaaaaaaaaaaaaaaaaaaaaaaaaaaaaaaaaaaaaaaaaaaaaaaaaaaaaaaaaaaaaaaaaaaaaaaaaaaaaaaaaaaaaaaaaaaaaaaaaaaaa
 aaaaaaaaaaaaaaaaaaaaaaaaaaaaaaaaaaaaaaaaaaaaaaaaaaaaaaaaaaaaaaaaaaaaaaaaaaaaaaaaaaaaaaaaaaaaaaaaaaaaaaaaaaaaaaaaaaaaaaaaaaaaaaaaaaaaaaaaaaaaaaaaaaaaaaaaaaaaaaaaaaaaaaaaaaaaaaaaaaaaaaaaaaaaaaaaaaaaaaaaa => clidoc: file name aaaaaaaaaaaaaaaaaaaaaaaaaaaaaaaaaaaaaaaaaaaaaaaaaaaaaaaaaaaa.. is over 200 bytes long
@@ -662,7 +662,7 @@ fn files_named(alloc: Global, names: &str) -> Result<Vec<PageFile>, AllocError> 
     Ok(files)
 }
 
-// Whether three names pass on so much memory. None where a growth is refused.
+// Whether three names pass on that much memory. None where a growth is refused.
 fn pass_on(files: &[PageFile], global: Global, budget: usize) -> Option<bool> {
     let Ok(heap) = LocalHeap::new(global, budget) else {
         return Some(false);

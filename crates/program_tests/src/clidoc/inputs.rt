@@ -12,7 +12,7 @@ use watched::{ReadError, Watched};
 
 const INPUT: &[u8] = b"abcde";
 
-// How many bytes are read by this script where so many may be. None where there are more.
+// How many bytes are read by this script where that many may be. None where there are more.
 fn read(global: Global, script: Script<'_>, most: usize) -> Option<usize> {
     let mut reader = Watched::new(Bounded::new(ScriptedReader::new(INPUT, script), most));
     let read = match reader.read_all(global) {
@@ -40,7 +40,7 @@ fn no_more_is_read_than_may_be(rt: HostRuntime) {
     }
 }
 
-// Whether the input is written where so many bytes may be, and else said to be over.
+// Whether the input is written where that many bytes may be, and otherwise reported as too long.
 fn is_written(global: Global, most: usize) -> Option<bool> {
     let mut writer = Watched::new(Bounded::new(Vec::new(global), most));
     let is_written = writer.write_all(INPUT).is_ok();
@@ -80,7 +80,7 @@ fn is_told(
     is_told_on(global, ROOM, words, input, (variable, said), line)
 }
 
-// The same, on so much memory.
+// The same, on that much memory.
 fn is_told_on(
     global: Global,
     room: usize,
@@ -96,7 +96,7 @@ fn is_told_on(
     Ok(status == ExitCode::from(1) && desk.has_printed(0, true))
 }
 
-// Whether a byte more than may be read is said.
+// Whether a byte more than may be read is reported.
 fn is_long(
     global: Global,
     mib: usize,
@@ -115,7 +115,7 @@ fn a_long_input_is_said(rt: HostRuntime) {
     assert!(rt; is_long(rt.alloc(), 2, ("CLIDOC_INPUT_MIB", "2"), set) == Ok(true));
 }
 
-// Whether a page of more than a MiB is said, and nothing of it written.
+// Whether a page of more than a MiB is reported, and nothing of it written.
 fn is_large(global: Global) -> Result<bool, AllocError> {
     let line = "clidoc: the page is over 1 MiB long; CLIDOC_OUTPUT_MIB sets the bound";
     let mut input = String::from_str(global, "name = 'a'\nabout = '    ")?;
@@ -145,7 +145,7 @@ fn many(global: Global) -> Result<String, AllocError> {
     Ok(input)
 }
 
-// Whether the line is told of what a deep page of many takes, where there is so much memory, and nothing written.
+// Whether this line is reported for a deep page of many, on that much memory, and nothing written.
 fn is_much(global: Global, room: usize, line: &str) -> Result<bool, AllocError> {
     let input = many(global)?;
     let words = "clidoc|markdown|--deep";
@@ -162,7 +162,7 @@ fn a_page_that_takes_much_is_said(rt: HostRuntime) {
     assert!(rt; is_much(rt.alloc(), LITTLE, "clidoc: no memory") == Ok(true));
 }
 
-// What is said to be a bound and is none, and how it is shown.
+// What is given as a bound and is not one, and how it is shown.
 const NO_BOUNDS: &[(&str, &str)] = &[
     ("0", "0"),
     ("+1", "+1"),
@@ -170,7 +170,7 @@ const NO_BOUNDS: &[(&str, &str)] = &[
     ("a\u{1b}", "\"a\\u{1b}\""),
 ];
 
-// Whether it is told that what the variable says is no bound.
+// Whether it is reported that what the variable says is not a bound.
 fn is_no_bound(
     global: Global,
     variable: &str,

@@ -38,7 +38,7 @@ pub const IN_JSON: &[u8] = b"{\"name\": \"app\", \"about\": \"Prints things\", \
 {\"short\": \"v\", \"long\": \"verbose\", \"help\": \"Talk more\", \"required\": true}]}
 ";
 
-// The same behind white space, in another order, with escapes, and with other ends of lines.
+// The same after white space, in another order, with escapes, and with other ends of lines.
 const SAME: &[&[u8]] = &[
     IN_JSON,
     b"\n\t\r {\"option\":[{\"required\":true,\"help\":\"Talk\\u0020mor\\u0065\",\"long\":\"verbose\",\"short\":\"v\"}],\"\\u0061bout\":\"Prints things\",\"name\":\"app\"}",
@@ -83,7 +83,8 @@ fn json_gives_the_pages_of_toml(rt: HostRuntime) {
     }
 }
 
-// The lines that are said, and behind a line of signs the input of which they are said. Between rows stands another.
+// The lines that are reported, and after a line of signs the input that they are about. Another such line separates
+// rows.
 //
 // A member of an object has the place of its key. Faults of the JSON come first, since they leave no description.
 const FAULTS: &str = "-:1:1: name is missing
@@ -201,7 +202,7 @@ fn says_what_is_wrong_in_json(rt: HostRuntime) {
     }
 }
 
-// The same of what would better be said otherwise.
+// The same of what should be said differently.
 const WARNINGS: &str = "====
 {\"name\": \"app\", \"about\": \"Greets people.\"}
 ----
@@ -220,14 +221,14 @@ fn says_what_is_better_in_json(rt: HostRuntime) {
 
 const OPENING: &str = "{\"name\":\"c\",\"command\":[\n";
 
-// Commands in one another, each in an object and an array.
+// Nested commands, each in an object and an array.
 fn nested(global: Global, depth: usize) -> Result<String, AllocError> {
     let opening = OPENING.repeat(global, depth)?;
     let closing = "]}".repeat(global, depth)?;
     format!(in global; "{opening}{{\"name\":\"c\"}}{closing}")
 }
 
-// Whether so many commands in one another give this status, and this page or this line.
+// Whether that many nested commands give this status, and this page or this line.
 fn nested_answer(
     global: Global,
     depth: usize,

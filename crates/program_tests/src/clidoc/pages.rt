@@ -85,8 +85,8 @@ pub fn page_of(global: Global, form: Form) -> Page<'static, Global> {
 pub const HELP: &[u8] =
     b"Prints things\n\nUsage: app -v\n\nOptions:\n    -v, --verbose  Talk more\n";
 
-/// The page in memory of the description in a file of this name. The engine's promises over ends that tell their bytes
-/// say which page it is.
+/// The page in memory of the description in a file of this name. The engine's promises over ends with known bytes say
+/// which page it is.
 pub fn page<'a>(
     heap: &'a LocalHeap,
     global: Global,
@@ -134,7 +134,7 @@ pub fn whole_page(global: Global, form: Form, input: &[u8]) -> Option<Vec<u8>> {
     Some(kept)
 }
 
-// A front of a text, and the line and the column of the place behind it.
+// A front of a text, and the line and the column of the place after it.
 const FRONTS: &[(&str, usize, usize)] = &[
     ("", 1, 1),
     ("ab", 1, 3),

@@ -1,13 +1,14 @@
-//! What is said of descriptions that would better say something otherwise.
+//! What is reported of descriptions that should say something differently.
 use crate::programs::ends_with;
 use crate::stand_ins::desk::Desk;
 use crate::stand_ins::runs::Ends;
 use std::alloc::Global;
 
-// The lines that are said, and behind a line of signs the input of which they are said. Between rows stands another.
+// The lines that are reported, and after a line of signs the input that they are about. Another such line separates
+// rows.
 //
-// Warnings come by their places, the first 20 at most. What is about a text has the place of its key, and what is about a
-// table that of its header.
+// Warnings come in the order of their places, the first 20 at most. What is about a text has the place of its key, and
+// what is about a table that of its header.
 const ROWS: &str = "====
 name = 'app'
 about = 'Greets people.'
@@ -314,14 +315,14 @@ long = 'u'
 long = 'v'
 ";
 
-// Whether these words lead to this status, and the lines are said, if there are any.
+// Whether these words lead to this status, and the lines are reported, if there are any.
 fn is_status(global: Global, words: &str, row: (&str, &str), status: u8) -> bool {
     let (lines, input) = row;
     let desk = Desk::new(global, words, Ends::new(input.as_bytes(), b""), lines);
     ends_with(global, &desk, status, 0, !lines.is_empty())
 }
 
-/// Whether the lines are said, and are a failure where it is strict alone.
+/// Whether the lines are reported, and are a failure only where the check is strict.
 pub fn is_said(global: Global, row: &str) -> bool {
     let Some((lines, input)) = row.split_once("====\n") else {
         return false;

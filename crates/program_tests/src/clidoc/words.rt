@@ -64,7 +64,7 @@ fn is_completion<A: Allocator>(choice: &Choice<'_, A>) -> bool {
     )
 }
 
-// Whether the words choose what they say, on so much memory. None where a growth is refused.
+// Whether the words choose what they say, on that much memory. None where a growth is refused.
 fn chosen(global: Global, budget: usize, words: &[&str]) -> Option<bool> {
     let Ok(heap) = LocalHeap::new(global, budget) else {
         return Some(false);

@@ -16,7 +16,7 @@ fn ending_of(outcome: Result<(), Fault>) -> Ending {
     }
 }
 
-/// How a run on a text ends. None where its ends tell otherwise.
+/// How a run on a text ends. None where its ends contradict it.
 pub fn text_ran<A: Allocator + Copy>(alloc: A, form: Form, ends: &Ends<'_>) -> Option<Ending> {
     let mut reader = Watched::new(ends.reader());
     let mut writer = Watched::new(ends.writer());
@@ -28,7 +28,7 @@ pub fn text_ran<A: Allocator + Copy>(alloc: A, form: Form, ends: &Ends<'_>) -> O
     }
 }
 
-/// How a run on the sample ends. None where its writer tells otherwise.
+/// How a run on the sample ends. None where its writer contradicts it.
 pub fn sample_ran<A: Allocator + Copy>(alloc: A, form: Form, ends: &Ends<'_>) -> Option<Ending> {
     let mut writer = Watched::new(ends.writer());
     let ending = ending_of(run_sample(alloc, form, &mut writer));

@@ -22,7 +22,7 @@ pub const PAGE: &[u8] = b"hello\nworld ";
 pub const SAMPLE: &[u8] =
     b"Prints things\n\nUsage: app -v\n\nAvailable options:\n    -v, --verbose  Talk more\n";
 
-// A text's page in memory. The engine's promises over ends that tell their bytes say which page it is.
+// A text's page in memory. The engine's promises over ends with known bytes say which page it is.
 fn text_page<'a>(
     heap: &'a LocalHeap,
     form: Form,

@@ -1,5 +1,5 @@
-//! Arenas with little room. An arena gives no room out twice, but for that of its last block: so with a little more room
-//! each time, one growth of a run after another is the first that is refused, also where a heap would have room again that
+//! Arenas with little room. An arena gives no room out twice, except that of its last block. So with a little more room
+//! each time, each growth of a run in turn is the first that is refused, also where a heap could give out again what
 //! was given back.
 
 use bumpalo::Bump;
@@ -9,7 +9,7 @@ use std::alloc::{AllocError, Global};
 /// How many bytes an arena has: more than a run on a small page takes.
 pub const BYTES: usize = 65536;
 
-/// An arena that has so many bytes left and gets no more.
+/// An arena that has that many bytes left and gets no more.
 pub fn arena_of(global: Global, room: usize) -> Result<Bump, AllocError> {
     let arena = Bump::try_with_capacity(global, BYTES)?;
     arena.set_allocation_limit(Some(0));

@@ -17,7 +17,7 @@ use std::io::{BufRead, BufReader, ErrorKind, Lines, Write};
 use std::random::RandomSource;
 use std::rt::{Env, Files};
 
-/// The byte behind each word that cannot be read: no text holds it.
+/// The byte after each word that cannot be read: no text holds it.
 const GARBLE: u8 = 0xFF;
 
 /// What a program is run on, and what it should print.
@@ -55,7 +55,7 @@ impl<'a> Desk<'a> {
         self
     }
 
-    /// The same, but no word behind the program's name is a text, so the words cannot be read.
+    /// The same, but no word after the program's name is a text, so the words cannot be read.
     pub fn garbled(mut self) -> Desk<'a> {
         self.garbles_words = true;
         self
@@ -72,7 +72,7 @@ impl<'a> Desk<'a> {
         self
     }
 
-    /// Whether so many bytes of the page were written, and nothing else, and the line where it should be, else nothing.
+    /// Whether that many bytes of the page were written and nothing else, and the line where it should be.
     pub fn has_printed(&self, count: usize, says: bool) -> bool {
         let calls = self.output.get().calls;
         let said = self.said.get();
@@ -145,13 +145,13 @@ impl<'a> Input for Desk<'a> {
         self.reader().lines(alloc)
     }
 
-    // Without a room of its own the reader passes each call on.
+    // Without a buffer of its own the reader passes each call on.
     fn reader(&self) -> BufReader<ScriptedReader<'a>> {
         BufReader::with_capacity(self.global, 0, self.input).unwrap()
     }
 }
 
-// There are no files but those of the folder.
+// There are no files except those of the folder.
 impl<'a> Files for Desk<'a> {
     type File = FolderFile<'a>;
 

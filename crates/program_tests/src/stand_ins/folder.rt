@@ -48,7 +48,7 @@ impl Folder {
         }
     }
 
-    /// The same, but the call of this number, counted from 0, fails, and behind it come these.
+    /// The same, but the call of this number, counted from 0, fails, and after it come these.
     pub fn failing(
         mut self,
         call: usize,
@@ -72,13 +72,13 @@ impl Folder {
         self
     }
 
-    /// The same, but it lists these names, each with a NUL behind it.
+    /// The same, but it lists these names, each with a NUL after it.
     pub fn listing(mut self, names: &'static [u8]) -> Folder {
         self.names = names;
         self
     }
 
-    /// Whether the calls came, and no other.
+    /// Whether these calls came, and no others.
     pub fn is_done(&self) -> bool {
         let whole = match self.fails_at {
             Some((call, _)) => call.saturating_add(1).saturating_add(self.then.len()),
@@ -137,7 +137,7 @@ impl Folder {
         }
     }
 
-    /// Bytes that are others each time.
+    /// Bytes that differ each time.
     pub fn draw(&self, bytes: &mut [u8]) -> io::Result<()> {
         self.call("draw", "", b"")?;
         let draw = self.draws.get();
@@ -175,7 +175,7 @@ impl Folder {
     }
 }
 
-// Whether a call is told so. Blanks stand between its parts, and no page begins with one.
+// Whether a call is written so. Blanks stand between its parts, and no page begins with one.
 fn is_call(told: &str, verb: &str, path: &str, rest: &[u8]) -> bool {
     let Some(told) = told.strip_prefix(verb) else {
         return false;

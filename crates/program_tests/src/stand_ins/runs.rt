@@ -43,7 +43,7 @@ impl<'a> Ends<'a> {
         ScriptedWriter::new(self.page, self.writes)
     }
 
-    /// Whether a run over this reader ends as its calls tell, with the mark exactly where one failed.
+    /// Whether a run over this reader ends as its calls say, with the mark exactly where one failed.
     pub fn have_read(&self, ending: Ending, reader: Watched<ScriptedReader<'_>>) -> bool {
         let is_marked = reader.failed();
         let read = reader.into_inner().calls.read();
@@ -55,7 +55,7 @@ impl<'a> Ends<'a> {
         }
     }
 
-    /// Whether a run over this writer, which should be offered the page, ends as its calls tell, and the mark stands
+    /// Whether a run over this writer, which should be offered the page, ends as its calls say, and the mark stands
     /// exactly where one failed. No call comes where there is no page.
     pub fn have_written(&self, ending: Ending, writer: Watched<ScriptedWriter<'_>>) -> bool {
         let is_marked = writer.failed();

@@ -68,7 +68,7 @@ pub enum Answer {
 }
 
 impl Answer {
-    /// What comes of it where so many bytes can be moved.
+    /// What comes of it where that many bytes can be moved.
     pub fn outcome(self, most: usize) -> Outcome
         ensures { IfOk result (λ moved. moved ≤ most) }
     {
@@ -79,7 +79,7 @@ impl Answer {
     }
 }
 
-/// The answers of an end: these, one a call, and then so many bytes at most a call, but for one that may fail.
+/// The answers of an end: these, one a call, and then at most that many bytes a call, except for one that may fail.
 #[derive(Clone, Copy)]
 pub struct Script<'a> {
     answers: &'a [Answer],
@@ -159,7 +159,7 @@ pub struct Calls {
     pub count: usize,
     /// How many bytes were moved.
     pub moved: usize,
-    /// How many of them moved none or failed, but those that were interrupted, which are made again.
+    /// How many of them moved none or failed, except those that were interrupted, which are made again.
     pub ends: usize,
     /// What the last one of the others answered.
     pub last: Outcome,
@@ -189,7 +189,7 @@ impl Calls {
         self.last = outcome;
     }
 
-    /// What reading to the end answers by these calls: how many bytes there were, or the kind of the error. None where
+    /// What reading to the end returns by these calls: how many bytes there were, or the kind of the error. None where
     /// a call came that should not have come.
     pub fn read(&self) -> Option<Outcome> {
         match (self.ends, self.last) {
@@ -200,7 +200,7 @@ impl Calls {
         }
     }
 
-    /// What writing so many bytes answers by these calls. None where a call came that should not have come, or is
+    /// What writing that many bytes returns by these calls. None where a call came that should not have come, or is
     /// missing.
     pub fn written(&self, length: usize) -> Option<Result<(), ErrorKind>> {
         match (self.ends, self.last) {
@@ -287,7 +287,7 @@ impl<'a> ScriptedWriter<'a> {
         self
     }
 
-    // Takes these of so many bytes, and answers whether they are those that should be offered.
+    // Takes these of that many bytes, and returns whether they are those that should be offered.
     fn take(&mut self, taken: &[u8], offered: usize) -> bool {
         let Some((front, left)) = self.left.split_at_checked(taken.len()) else {
             return false;
@@ -326,7 +326,7 @@ pub static SIZES: [usize; 9] = [1, 63, 64, 65, 4095, 4096, 4097, 64 * 1024, 64 *
 /// More than any buffer.
 pub const LARGE: usize = (1 << 20) + 1;
 
-/// At least so many letters, of which neighbours differ.
+/// At least that many letters, of which neighbours differ.
 pub fn letters(global: Global, size: usize) -> Result<String, AllocError> {
     let unit = "abcdefghijk".repeat(global, 64)?;
     unit.repeat(global, size / 704 + 1)
@@ -335,7 +335,7 @@ pub fn letters(global: Global, size: usize) -> Result<String, AllocError> {
 /// How many answers are drawn at once.
 pub const TURNS: usize = 16;
 
-/// So many of the letters, from the first one on, or all where there are no more.
+/// That many of the letters, from the first one on, or all where there are no more.
 pub fn front(letters: &str, size: usize) -> &str {
     letters.get(..size).unwrap_or(letters)
 }

@@ -52,7 +52,7 @@ pub fn write_in<'a>(
     }
 }
 
-/// Whether a call has made a tree, which is shown, with so many free bytes.
+/// Whether a call has made a tree, which is shown, with that many free bytes.
 pub fn is_made<'a>(
     rt: &impl Abort,
     arena: &'a Bump,
@@ -96,7 +96,7 @@ fn value<A: Allocator>() -> Item<A> {
     }
 }
 
-/// Whether the short names of the tree were put behind others, with so many free bytes.
+/// Whether the short names of the tree were put after others, with that many free bytes.
 pub fn shorts_are_put<'a>(
     rt: &impl Abort,
     arena: &'a Bump,
@@ -114,7 +114,7 @@ pub fn shorts_are_put<'a>(
     is_done
 }
 
-/// Shows what the calls that take no memory say of a tree, with so many free bytes.
+/// Shows what the calls that take no memory say of a tree, with that many free bytes.
 pub fn read_is_shown(
     rt: &impl Abort,
     arena: &Bump,
