@@ -1,9 +1,9 @@
 #!/usr/bin/env python3
-"""What pages show stands word by word in a file: each caller of a crate's CALLING.md in the crate `callers`, which the gate proves, and the
+"""What pages show is also in a file, word by word: each caller of a crate's CALLING.md in the crate `callers`, which the gate proves, and the
 description of README.md in `examples/`. The description of the README's pictures is the one that the gate runs `clidoc` on, and that of
 `clidoc` itself the one that it holds.
 
-Prints what does not. Ends with status 1 where there is any. `callers.py write` first writes each caller that stands between marks, which name its
+Prints what is not, and then ends with status 1. `callers.py write` first writes each caller that stands between marks, which name its
 file.
 """
 import difflib
@@ -21,7 +21,7 @@ BESIDE = 32
 
 
 def unlike_their_files():
-    """What is said of the descriptions of README.md that are not those of their files."""
+    """What is reported of the descriptions of README.md that are not those of their files."""
     readme = (TOP / "README.md").read_text(encoding="utf-8")
     block = re.search(r"(?m)^The description is `examples/greet\.toml`.*\n\n((?:(?: {4}.*)?\n)+?)\n(?=\S)", readme)
     lines = [line[4:] for line in block[1].splitlines()] if block else []
@@ -38,7 +38,7 @@ def unlike_their_files():
 
 
 def nearest(caller, proved):
-    """The file of callers that is most like a caller, and the first line of it that the caller has not."""
+    """The file of callers that is most like a caller, and the first line of it that the caller does not have."""
     lines = caller.splitlines()
     name = max(sorted(proved), key=lambda it: difflib.SequenceMatcher(None, lines, proved[it].splitlines()).ratio())
     other = next((it for it in proved[name].splitlines() if it not in lines), "")

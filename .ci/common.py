@@ -33,7 +33,7 @@ def with_those_below(names, used):
     return found
 
 
-# Crates that are no libraries for others: tests, equations, and callers.
+# Crates that are not libraries for others: tests, equations, and callers.
 NO_LIBRARIES = re.compile(r"\w+_tests|rows|callers")
 
 
@@ -57,7 +57,7 @@ def modules(library, top=TOP):
 
 
 def handed_on(files):
-    """The names that public modules hand on from private ones."""
+    """The names that public modules re-export from private ones."""
     names = set()
     for _, public, text in files:
         if public:
@@ -73,7 +73,7 @@ def refuse(script, why):
 
 
 def top_of(script):
-    """The repository that a script is to look at: the folder that its one word names, or else this one."""
+    """The repository that a script is to look at: the folder that its one word names, otherwise this one."""
     words = sys.argv[1:]
     if len(words) > 1 or not all((pathlib.Path(word) / "crates").is_dir() for word in words):
         refuse(script, "expected nothing, or the folder of a repository")

@@ -1,6 +1,6 @@
 #!/usr/bin/env python3
-"""The table of crates in docs/ARCHITECTURE.md: of each crate of crates.txt the first sentence that its source says of itself, and the crates here that
-it stands on, but for those that these stand on.
+"""The table of crates in docs/ARCHITECTURE.md: for each crate of crates.txt the first sentence of its source, and the crates here that it
+stands on, except those that these stand on.
 
 `crates.py write` writes it between its marks. Without a word it prints what is not as the sources say, and ends with status 1 where anything is.
 """
@@ -21,7 +21,7 @@ def sentence(name):
 
 
 def directly_below(name, used):
-    """The crates here that one uses, but for those that another of them uses too."""
+    """The crates here that one uses, except those that another of them uses too."""
     here = [it for it in used[name] if it in used]
     return [it for it in here if not any(it in common.with_those_below([other], used) for other in here if other != it)]
 

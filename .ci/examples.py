@@ -14,7 +14,7 @@ EXAMPLE = re.compile(r"(?m)^ *-- e\.g\. (.*(?:\n *--     .*)*)$")
 
 
 def words(text):
-    """A text with one blank for each stretch of them."""
+    """A text with one blank for each run of white space."""
     return " ".join(text.split())
 
 

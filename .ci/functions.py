@@ -1,4 +1,4 @@
-"""The functions of a crate: where they stand, as the toolchain's own tokens tell, and what a check calls them."""
+"""The functions of a crate: where they stand, by the toolchain's own tokens, and what a check calls them."""
 import collections
 import json
 import pathlib
@@ -8,7 +8,7 @@ import subprocess
 
 import common
 
-# Lines are counted from 0. Of a function:
+# Lines are counted from 0. A function has:
 #   module   the words of the path of the module that it stands in
 #   path     its file, below the crate's folder
 #   head     the line of its `fn`
@@ -33,7 +33,7 @@ def rattle(*words):
 
 
 def tokens_of(files):
-    """For each file its tokens that are code, and so no comment, no clause and no text: each with its line."""
+    """For each file its tokens that are code, not a comment, a clause or a text: each with its line."""
     for part in re.split(r"(?m)^file \d+\n", rattle("fmt", "--tokens", *files))[1:]:
         rows = (row.split(" ", 4) for row in part.splitlines())
         yield [(json.loads(text), int(line) - 1) for line, _, _, kind, text in rows if kind == "Code"]
@@ -68,7 +68,7 @@ class Reader:
             self.depth += (text in ("(", "[")) - (text in (")", "]"))
 
     def item(self, line):
-        """The item whose head was read: a function, an impl or a trait, the name of a module, or else None."""
+        """The item whose head was read: a function, an impl or a trait, the name of a module, otherwise None."""
         around = [item for item, _ in self.open]
         words = [text for text, _, depth in self.head if not depth and text not in ("(", "[")]
         at = next((at for at, word in enumerate(words) if word in ITEMS), None)
@@ -98,7 +98,7 @@ class Reader:
 
 
 def impl_of(head):
-    """The impl that has these words behind `impl`."""
+    """The impl that has these words after `impl`."""
     parameters = head[: behind_angles(head)] if head[0] == "<" else []
     own = {word for before, word in zip(parameters, parameters[1:]) if before in ("<", ",", "const")}
     head = head[len(parameters) :]
@@ -157,7 +157,7 @@ class Crate:
         return function.module if function.module in homes else homes[0] if len(homes) == 1 else None
 
     def place_of(self, function):
-        """The words of the function's name behind that of the crate, which are those of its folder in proofs/. They
+        """The words of the function's name after that of the crate, which are those of its folder in proofs/. They
         are not known of one in an impl of a trait: a check makes a name for that impl out of its words."""
         if not function.block:
             return [*function.module, function.name]
@@ -165,7 +165,7 @@ class Crate:
 
     def asked(self, function):
         """What `rt check --only` takes for the function: its name, or the module of one in an impl of a trait. No
-        word at all stands for the whole crate."""
+        word stands for the whole crate."""
         return "::".join(function.module if is_of_trait(function) else self.place_of(function))
 
     def unit_of(self, function):

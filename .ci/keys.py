@@ -1,5 +1,5 @@
 #!/usr/bin/env python3
-"""docs/keys.md has just the keys of a description that `description_toml` reads, in its order: of each table those that it passes to `check_keys`.
+"""docs/keys.md has just the keys of a description that `description_toml` reads, in its order: for each table those that it passes to `check_keys`.
 
 Prints what differs. Ends with status 1 where anything does.
 """
@@ -10,7 +10,7 @@ import common
 
 TOP = common.top_of("keys")
 PAGE = TOP / "docs" / "keys.md"
-# The list of keys in the reader, of each table of the page by its heading.
+# The list of keys in the reader for each table of the page, by its heading.
 LISTS = {
     "The top": "DESCRIPTION_KEYS",
     "[[option]]": "OPTION_KEYS",

@@ -19,12 +19,12 @@ HEAD = "# The contracts of public calls\n\nMade from the sources by `.ci/proved.
 Call = namedtuple("Call", "owner name requires ensures text")
 HEADER = re.compile(r"(?m)^( *)pub (?:const )?fn (\w+)")
 CLAUSE = re.compile(r"(?:\s|//[^\n]*\n)*(ensures|requires)\b(?: (\w+))? \{")
-# What a model says is no promise of a call.
+# What a model says is not a promise of a call.
 OF_MODELS = {"Value", "view", "coded", "counted", "invariant", "inverse", "use", "laws"}
 
 
 def after_brackets(text, start):
-    """The place behind the bracket that closes the one at `start`."""
+    """The place after the bracket that closes the one at `start`."""
     pairs, depth = {"(": ")", "[": "]", "{": "}"}, 0
     for place in range(start, len(text)):
         depth += (text[place] in pairs) - (text[place] in pairs.values())

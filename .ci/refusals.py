@@ -1,7 +1,7 @@
 #!/usr/bin/env python3
 """Each public call of a library that can meet an allocation failure stands in docs/lists/REFUSALS.md, with the test that makes each of its allocations fail in turn.
 
-The libraries are those of crates.txt. A call can meet a failure where it answers a `Result`, unless its error is one of those named here.
+The libraries are those of crates.txt. A call can meet a failure where it returns a `Result`, unless its error is one of those named here.
 Prints what is missing there, and rows that name no such call or no test. Ends with status 1 where there is any.
 """
 import re
@@ -11,16 +11,16 @@ import common
 
 TOP = common.top_of("refusals")
 PAGE = TOP / "docs" / "lists" / "REFUSALS.md"
-# These take their memory of `Global`, in which a test can make nothing fail.
+# These take their memory from `Global`, where a test can make nothing fail.
 OF_GLOBAL = {"lasting_names"}
-# Errors that are no allocation failure: `from_names` of two empty lists, a misplaced item, a name that no file may have, and what a stream answers.
+# Errors that are not an allocation failure: `from_names` of two empty lists, a misplaced item, a name that no file may have, and what a stream returns.
 OTHER_ERRORS = {"NoName", "&Item", "NameFault", "io::Error"}
 CALL = re.compile(r"(?m)^( *)pub fn (\w+)(?:<[^{}]*?>)?\(([^{}]*?)\)\s*->\s*(.*?)(?=\n\s*(?:where|requires|ensures|\{)|\s*\{)", re.S)
 ROW = re.compile(r"(?m)^\| `([\w:]+)` \| `(\w+)::((?:\w+::)*)(\w+)`")
 
 
 def arguments(text):
-    """The parts of a text between its commas, but for those inside brackets."""
+    """The parts of a text between its commas, except those inside brackets."""
     parts, depth = [""], 0
     for character in text:
         depth += (character in "<([") - (character in ">)]")
@@ -32,7 +32,7 @@ def arguments(text):
 
 
 def error_of(result, aliases):
-    """The error that a result's type names, without its own arguments; None where it is no `Result`."""
+    """The error that a result's type names, without its own arguments; None where it is not a `Result`."""
     result = " ".join(result.split())
     if (name := re.match(r"\w+$", result)) and name[0] in aliases:
         return error_of(aliases[name[0]], aliases)

@@ -1,7 +1,7 @@
 #!/usr/bin/env python3
 """Tests of the scripts, most on copies in a temporary folder: some seconds.
 
-`.ci/run`, `.ci/mutants`, `test` and `install` call the toolchain's `rt`, and `release` calls `install`. Here stand-ins answer in their place.
+`.ci/run`, `.ci/mutants`, `test` and `install` call the toolchain's `rt`, and `release` calls `install`. Here stand-ins take their place.
 """
 import importlib.machinery
 import importlib.util
@@ -440,7 +440,7 @@ class Run(OverStandIn):
         for path in ("callers", "refusals", "keys", "examples", "proved", "crates", "prose", "scripts_test"):
             (self.folder / ".ci" / f"{path}.py").write_text("")
         self.stand_in("rt", "echo '9 passed, 0 failed'")
-        # What tells the memory that is free.
+        # What reports how much memory is free.
         self.stand_in("awk", "echo 0")
         status, told, _ = self.call(self.folder / ".ci" / "run", RT_JOBS="")
         self.assertEqual((status, told.splitlines()[-1]), (0, "9 passed, 0 failed"))
@@ -457,8 +457,8 @@ class Tests(OverStandIn):
             (self.folder / "crates" / path).parent.mkdir(parents=True, exist_ok=True)
             (self.folder / "crates" / path).write_text(text)
 
-    # It stands for the run of a program: of each case it says by its words how it ends, and whether the output is that which is stored, or
-    # prints it where none is.
+    # It stands for the run of a program: for each case it says in its words how it ends, and whether the output is the stored one, or
+    # prints it where none is stored.
     CASES = """cd "$5"; for case in *.args; do case "$(cat $case)" in %s) how='%s';; *) how='ended status=0 runners=1';; esac
         name=${case%%.args}; sed s/^/read:/ $name > out; [ -f $name.stdout ] || { echo "== $name"; cat out; }
         [ -f $name.stdout ] && how="$how output=$(cmp -s out $name.stdout && echo expected || echo differs)"
@@ -632,7 +632,7 @@ class Speed(OverStandIn):
         self.assertIn("no valgrind", why)
 
 
-# It stands for `rt`. Of a body `wrong` a goal is open, of `unsaid` no report tells, `same` is proved, and `stray` does not compile. Of `odd` a
+# It stands for `rt`. Of a body `wrong` a goal is open, no report names `unsaid`, `same` is proved, and `stray` does not compile. Of `odd` a
 # goal is open in a report alone.
 STAND_IN = r"""
 import pathlib, re, sys

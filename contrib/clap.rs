@@ -1,4 +1,4 @@
-//! Writes a clap program as a description in JSON, but for what arguments need and exclude beside groups of one.
+//! Writes a clap program as a description in JSON, except what arguments need and exclude other than by groups of which one is given.
 use clap::{Arg, ArgAction, Command, ValueHint::*};
 use serde_json::{json, Value};
 
@@ -110,7 +110,7 @@ fn words(arg: &Arg) -> String {
     names.map_or_else(|| arg.get_id().to_string().to_uppercase(), |names| names.join(" "))
 }
 
-// The table without what says nothing. What is not required says so.
+// The table without empty values. An argument that is not required says so.
 fn without_empty(table: Value) -> Value {
     let mut table = if let Value::Object(table) = table { table } else { return table };
     let empty = [json!(null), json!(false), json!(""), json!([])];

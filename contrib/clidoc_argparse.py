@@ -1,6 +1,6 @@
 """Writes the parser of an argparse program as a description that clidoc reads, in JSON: `clidoc_argparse.dump(parser)`.
 
-What a description cannot carry is left out: the text under the title of a group, types, and prefixes but `-`.
+What a description cannot carry is left out: the text under the title of a group, types, and prefixes except `-`.
 """
 
 import argparse, inspect, json, re, textwrap
@@ -40,7 +40,7 @@ class Level:
             yield without_empty({**said, **Level(one).table()})
 
     def entries(self, actions):
-        """Options, choices, positional values and commands that stand under one title."""
+        """Options, choices, positional values and commands under one title."""
         lists = [one for one in actions if isinstance(one, argparse._SubParsersAction)]
         plain = [one for one in actions if one not in lists and not isinstance(one, argparse._HelpAction)]
         choices = [group for group in self.parser._mutually_exclusive_groups
@@ -91,7 +91,7 @@ class Level:
 
 
 def spelling(action):
-    """An option's names and its value, or a syntax where these do not say it."""
+    """An option's names and its value, or a syntax where these cannot say it."""
     short = [name[1:] for name in action.option_strings if name[:2] != "--" and len(name) == 2]
     long = [name[2:] for name in action.option_strings if name[:2] == "--"]
     if max(len(short), len(long)) < 2 and len(short + long) == len(action.option_strings) and action.nargs in (None, 0):

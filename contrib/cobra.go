@@ -1,4 +1,4 @@
-// Package clidoc writes a cobra program as a description in JSON, but for types and for which flags stand together.
+// Package clidoc writes a cobra program as a description in JSON, except types and which flags go together.
 package clidoc
 
 import (
@@ -58,7 +58,7 @@ func commands(parent *cobra.Command, group string) []table {
 	return made
 }
 
-// The values that the words of a usage name, as `NAME`, `[NAME]` and `NAME...`; or the usage, where a word is another.
+// The values that the words of a usage name, as `NAME`, `[NAME]` and `NAME...`; or the usage, where a word is of another form.
 func positionals(usage string) ([]table, string) {
 	made := []table{}
 	for _, word := range strings.Fields(strings.ReplaceAll(usage, "[flags]", ""))[1:] {

@@ -4,7 +4,7 @@ import unicodedata
 
 import texts
 
-# What `White_Space` of Unicode has beside the control characters.
+# What `White_Space` of Unicode has besides the control characters.
 BLANKS = set("\u0020\u0085\u00a0\u1680\u2028\u2029\u202f\u205f\u3000") | {chr(code) for code in range(0x2000, 0x200b)}
 PLAIN = {"\\": "\\\\", " ": "\\s", "\n": "\\n", "\t": "\\t", "\r": "\\r"}
 
@@ -29,7 +29,7 @@ def help_of(table):
 
 
 def page(form, answer):
-    """The page that an answer spells; an answer that is no text stands for itself."""
+    """The page that an answer spells; an answer that is not a text stands for itself."""
     if not answer.startswith("'"):
         return answer
     escapes = {"\\\\": "\\", "\\s": " ", "\\n": "\n", "\\t": "\t", "\\r": "\r"}

@@ -7,8 +7,8 @@
   folder or a file of another owner. What a link leads to keeps its bytes, and the page is whole.
 - Two runs write into one folder at once, and each page is whole.
 - KILLS (200) runs are killed at a random moment: each page is whole, of before or of now, at most one file is beside
-  a place, and the next run tells of it.
-- A disk has room for so many pages of 4 KiB, and no more: each page is whole, and nothing is beside it. Needs root.
+  a place, and the next run reports it.
+- A disk has room for only a number of pages of 4 KiB: each page is whole, and nothing is beside it. Needs root.
 
 Prints counts and what did not hold. Ends with status 1 where something did not.
 """

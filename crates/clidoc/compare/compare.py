@@ -5,7 +5,7 @@
 
 Makes COUNT descriptions (100) from SEED (1), with hostile texts and fixed words, writes each as TOML or as JSON, and runs the built program, `out/clidoc`, on it in each
 form, for the application and for a command to which random words lead. `pages` is the definition of the pages as a program. Then `clidoc` is run on the same
-descriptions with a planted fault each, and the line that tells it is looked for (`faults.py`).
+descriptions with a planted fault each, and the line that reports it is looked for (`faults.py`).
 Prints how many pages and lines agree and how many differ, and the first that differs. Ends with status 1 where any differs.
 """
 import concurrent.futures
@@ -73,7 +73,7 @@ def pages(cases, seed):
 
 
 def lines(cases, seed):
-    """The same of data with a planted fault, in a form by turns. What should come out on standard error is a pattern of one of its lines."""
+    """The same of data with a planted fault, in each form in turn. What should come out on standard error is a pattern of one of its lines."""
     chances = random.Random(seed)
     number = 0
     for table, _ in cases[len(list(page_cases.EXAMPLES.glob("*.toml"))) :]:

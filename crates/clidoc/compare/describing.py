@@ -41,7 +41,7 @@ class Describer:
         return self.text().replace("\n", " ").replace("\t", " ")
 
     def word(self):
-        """A text on one line with something in it, all of which is seen."""
+        """A text on one line that is not empty, all of which is seen."""
         return "".join(c for c in self.line() if ord(c) not in HIDDEN) or "x"
 
     def title(self):
@@ -199,7 +199,7 @@ class Describer:
         return self.level(table, depth)
 
     def aliases(self, table, names):
-        """Other names, of which one may be the name itself."""
+        """Other names, one of which may be the name itself."""
         others = [self.fresh(names, self.command_name) for _ in range(self.random.randint(1, 3))]
         return others + ([table["name"]] if self.some(0.1) else [])
 
@@ -284,7 +284,7 @@ class Writer:
         return "{ " + ", ".join(f"{self.key(key)} = {self.value(item)}" for key, item in data.items()) + " }"
 
     def table(self, table, path=()):
-        """The lines of a table, those of the tables in it behind its own values."""
+        """The lines of a table, those of the tables in it after its own values."""
         lines, below = [], []
         for key, data in table.items():
             if isinstance(data, list) and data and all(isinstance(item, dict) for item in data) and self.random.random() < 0.8:

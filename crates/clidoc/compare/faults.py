@@ -28,7 +28,7 @@ LISTS = ["help_option", "option", "choice", "group", "positional", "command", "t
 
 
 def tables(table, kind="description", way=(), alternative=False):
-    """Each table of a description: itself, its kind, the way to it, and whether it is an option of a choice."""
+    """Each table of a description: itself, its kind, the path to it, and whether it is an option of a choice."""
     yield table, kind, way, alternative
     for key in LISTS:
         for number, inner in enumerate(table.get(key, []), 1):
@@ -68,7 +68,7 @@ def faults(table, kind, way, alternative):
 
 
 def values(table, kind, alternative):
-    """Faults in what is said of values."""
+    """Faults in values."""
     if kind == "option":
         for key, said in [("default", "x"), ("values", ["x"])]:
             if "syntax" not in table:
@@ -85,7 +85,7 @@ def values(table, kind, alternative):
 
 
 def syntaxes(table):
-    """Faults in how an option is written, by a name that no other one has."""
+    """Faults in how an option is written, with a name that no other option has."""
     own = ["short", "long", "value", "syntax"]
     for text, said in [("", "is empty"), ("\u3000", "is blank"), ("-☃,", "holds an empty piece"), ("-☃, \u3000", "holds an empty piece"), ("-☃[", "holds a bracket that is in no pair"), ("-☃ [X}", "holds a bracket that is in no pair"), ("-☃\tX", "holds a control character")]:
         yield {"syntax": text}, own, f"syntax {said}"
@@ -126,7 +126,7 @@ WHY = {"": "is empty", "a b": "holds a blank", "a\n": "holds a blank", "a\u0007"
 
 
 def names(kind):
-    """Names that are none."""
+    """Texts that are not names."""
     for key in NAMES.get(kind, []):
         for name, why in WHY.items():
             yield {key: name}, [], f"{key} {why}"
@@ -151,7 +151,7 @@ def said_of_a_section(section):
 
 
 def planted(table, random):
-    """The data with a fault, and a pattern of the line that tells it: one for each kind of fault, at a table of its kind."""
+    """The data with a fault, and a pattern of the line that reports it: one for each kind of fault, at a table of its kind."""
     places = list(tables(table))
     random.shuffle(places)
     seen = set()
@@ -169,6 +169,6 @@ def planted(table, random):
 
 
 def line_of(way, said):
-    """What a line is that tells a fault: its place, the way to its table, in which names may stand behind the steps, and what is wrong."""
+    """The line that reports a fault: its place, the path to its table, in which names may follow the steps, and what is wrong."""
     steps = ", ".join(rf"{step}( \(.+?\))?" for step in way)
     return re.compile(rf"-:\d+:\d+: {steps + ': ' if way else ''}{re.escape(said)}(; .*|, at line \d+)?")

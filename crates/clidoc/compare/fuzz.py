@@ -4,7 +4,7 @@
     compare/fuzz.py PROGRAM SECONDS [SEED]
 
 Each input is one of them, of at most 64 KiB, in which bytes, lines and pieces of others are put in, taken out, doubled
-or changed. A run has to end with status 0, or with 1 and lines on standard error, each of one line's characters alone,
+or changed. A run has to end with status 0, or with 1 and lines on standard error, each only of characters of a line,
 within ten seconds. Prints how many runs there were by form and status, the longest time, and the most memory.
 """
 import collections

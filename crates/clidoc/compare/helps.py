@@ -5,8 +5,8 @@
 
 FOLDER is made by `helps_corpus.py`. It has for each program what it prints, NAME.txt, and what a person reads there:
 
-- NAME.names: each option name that begins a line or stands in the usage, as it is typed. After a `?` stands one that
-  may be taken for a name or not. Both names of `--[no-]x` are there, the second after a `?`; operands such as `if=FILE`
+- NAME.names: each option name that begins a line or stands in the usage, as it is typed. One that may be
+  taken for a name or not stands after a `?`. Both names of `--[no-]x` are there, the second after a `?`; operands such as `if=FILE`
   and names in examples and running text are not.
 - NAME.values: after a name and a tab the word for its value, if the first line of the name has one.
 
@@ -79,7 +79,7 @@ def texts(data):
 
 
 def lines(text, draft, data):
-    """The lines of the text of which the draft has not all words, and the words that it has too often."""
+    """The lines of the text of which the draft does not have all words, and the words that it has too often."""
     kept = {key: each for key, each in data.items() if key != "name"}
     said = [*texts(kept), *re.findall(r"(?m)^# left out:(.*)$", draft)]
     left = collections.Counter(word for each in said for word in words(each))

@@ -88,7 +88,7 @@ def unpacked(packages, room):
 
 
 def version(package, room):
-    """The version of the package in the room, or of that which is installed."""
+    """The version of the package in the room, or of the installed one."""
     if found := list((room / "debs").glob(f"{package}_*.deb")):
         return found[0].name.split("_")[1].replace("%3a", ":")
     return run(["dpkg-query", "-W", "-f", "${Version}", package]).stdout.decode()
@@ -109,7 +109,7 @@ def surroundings(room):
 
 
 def truths():
-    """Of each program, the rows of names that a person reads in its text, and those of the words for values."""
+    """For each program, the rows of names that a person reads in its text, and those of the words for values."""
     found = {}
     for line in TRUTH.read_text(encoding="utf-8").splitlines():
         if line.startswith("== "):

@@ -1,10 +1,10 @@
 #!/usr/bin/env python3
-"""Puts hostile texts into descriptions, and looks whether a page brings one to its medium as a command.
+"""Puts hostile texts into descriptions, and checks whether a page brings one to its medium as a command.
 
     compare/hostile.py [STEP]
 
 Each text of `hostile_texts.py`, or with STEP each STEP-th, stands once at each key that takes a text, a word, a title or a name, in a description
-that is harmless else.
+that is otherwise harmless.
 The built program, `out/clidoc`, refuses it, in one line and without a page, or makes its pages. These are read as their readers read them:
 
 - on the console, by a terminal (`pyte`, where Python has it) and as bytes: no control character but newlines and tabs, and the words that stand around the text;
@@ -45,7 +45,7 @@ KEYS = [
     "option.default", "option.values", "option.syntax", "group.title", "group.help", "positional.value", "positional.default", "positional.help", "topic.title", "topic.text",
     "command.name", "command.aliases", "command.help", "command.about", "command.usage", "command.footer",
 ]
-# By the short name of the command no text stands in the words.
+# The short name of the command keeps texts out of the words.
 FORMS = ["usage", "full", "brief", "html", "man", "man --deep", "man --command=C", "full --command=C", "usage --command=C --width=40"]
 # The words of a manual page's title line that take any text.
 TITLE = {"date", "vendor", "title"}
@@ -115,7 +115,7 @@ def description(key, text):
 
 
 def visible(key, text):
-    """What a page shows of the text at the key, but of one with a list, before whose items each medium has a mark of its own."""
+    """What a page shows of the text at the key; nothing for one with a list, before whose items each medium has a mark of its own."""
     if key.split(".")[-1] not in LITERALS:
         return text
     blocks = texts.blocks(text)
@@ -143,7 +143,7 @@ def shows(page, text):
 
 
 def commands(page):
-    """The control characters of a page, but those that are white space: a text may hold newlines and tabs."""
+    """The control characters of a page, except those that are white space: a text may hold newlines and tabs."""
     return sorted({f"U+{ord(c):04X}" for c in page if unicodedata.category(c) == "Cc" and c not in "\t\n"})
 
 
@@ -196,7 +196,7 @@ def elements(page):
 
 
 def tame(key, text):
-    """The text with `x` for what a tag, a comment or a reference is made of. Lines and fences stay, and in a syntax what parts words."""
+    """The text with `x` for what a tag, a comment or a reference is made of. Lines and fences stay, and so does what separates words in a syntax."""
     if key == "option.syntax":
         return re.sub(r"[&/!?\"']", ".", text).translate(str.maketrans("<>", "()"))
     return re.sub(r"[<>&/!?=\"'\[\]]", "x", text)
@@ -222,7 +222,7 @@ def on_manual(key, page, text, folder):
 
 
 def refusal(given):
-    """What is wrong with how a description is refused; None where it is not refused."""
+    """What is wrong with the way a description is refused; None where it is not refused."""
     status, page, told = run([CLIDOC, "check"], given)
     if not status:
         return None

@@ -24,7 +24,7 @@ HTML = [
     "<svg/onload=x>", "<math>", "<b\n>", "<\u0130mg>", "\uff1cb\uff1e",
 ]
 
-# Marks of markdown, fences, the text of TOML itself, and what writing systems turn about.
+# Marks of markdown, fences, the text of TOML itself, and what turns the direction of writing around.
 OTHER = [
     "\n```\n", "\n```html\n<b>\n```\n", "```", "\n    code\n", "\n\n", "\n\n\n\n", " \n \n ", "# h", "\n# h\n", "[x](javascript:y)", "![x](y)", "**b**", "_i_", "`c`", "\n- a\n", "\n1. a\n", "\n> q\n", "\n---\n", "|a|b|",
     "'''", "\"\"\"", "\n[[option]]\n", "\nname = \"x\"\n", "%s%n", "$(id)", "`id`", "; id", "\t", "\t\t\t", "\u202e", "\u200b", "\u00a0", "\u2028", "\ufeff", "\ufffd", "a" * 300, "a " * 300, "\u0301" * 40, "\U0001f468\u200d\U0001f469",

@@ -64,7 +64,7 @@ def is_json(text):
 
 
 def seen(form, ran):
-    """What a run gave, but for places."""
+    """What a run gave, except for places."""
     status, output, reported = ran
     return status, output, sorted(PLACE.sub(b"", reported).splitlines()) if form == "check" else reported
 

@@ -4,8 +4,8 @@
     compare/layouts.py ask [COUNT [SEED]] > REQUESTS
     compare/layouts.py judge ANSWERS
 
-The first prints requests to `replay`, of which docs/replay.md tells, for the paragraphs and items of COUNT random
-descriptions (100) from SEED (1), each at some widths. The second reads what `replay` answers to them, and says how
+The first prints requests to `replay` (docs/replay.md), for the paragraphs and items of COUNT random
+descriptions (100) from SEED (1), each at some widths. The second reads the answers of `replay`, and says how
 many layouts by `pages/console.py` agree. Each that differs is printed. Ends with status 1 where one does.
 """
 import random

@@ -4,7 +4,7 @@
     compare/man_trees.py [COUNT [FOLDER..]]
 
 Takes pages of others' making: each manual page below the folders (`/usr/share/man`), its sections, and its paragraphs and
-entries, these behind a title line of their own, since few whole pages are of the language that a page is written in; and
+entries, these after a title line of their own, since few whole pages are of the language that a page is written in; and
 COUNT random rows of requests and lines (20,000).
 
 What `sheet_reader` reads, which is `specs/Reader` of `man_page` as a program, has to be what `mandoc -T tree` has:
@@ -39,7 +39,7 @@ TITLE = ".TH a 1 2026-01-01 b c\n"
 SECTION = re.compile(r"(?m)^(?=\.S[HS] )")
 PART = re.compile(r"(?m)^(?=\.(?:S[HS] |PP$|TP$|IP$|IP \\\(bu 2$|SY |RS))")
 NODE = re.compile(r"(?P<at> *)(?P<text>.*) \((?P<kind>root|block|head|body|elem|text|comment)\) \*?\d+:\d+.*")
-# How a tree spells what is not of ASCII.
+# How a tree spells what is not ASCII.
 LETTER = re.compile(r"\\\[u([0-9A-F]{4,6})\]")
 FONTS = {"b": "B", "i": "I"}
 
@@ -97,7 +97,7 @@ class Node:
 
 
 def tree(text):
-    """The tree of `mandoc -T tree`. A text stands four columns in from what it is in, and may begin with blanks."""
+    """The tree of `mandoc -T tree`. A text is indented by four columns from what it is in, and may begin with blanks."""
     top = Node("root", "")
     open_nodes = [(-4, top)]
     for line in mandoc(["tree"], text).split("\n\n", 1)[1].splitlines():
@@ -106,7 +106,7 @@ def tree(text):
             raise ValueError(f"no line of a tree: {line!r}")
         column = len(match["at"])
         if match["kind"] == "text":
-            # A text may look as if it stood deeper, and is in the last node that is open and no element.
+            # A text may look as if it stood deeper: it is in the last open node that is not an element.
             while open_nodes[-1][1].kind in ("elem", "block") or column < open_nodes[-1][0] + 4:
                 open_nodes.pop()
             start = open_nodes[-1][0] + 4

@@ -1,20 +1,20 @@
 #!/usr/bin/python3
-"""Makes the pages of descriptions by `pages`, and reads them as others read them.
+"""Makes the pages of descriptions by `pages`, and has other programs read them.
 
     compare/media.py [COUNT [SEED]]
 
 Takes those of `examples/`, and COUNT random ones (100) from SEED (1), of each all levels, in full and in brief, and
 each page with those below it.
 
-- A manual page is read by `man_reader`, which gives what `man` keeps; `groff` and `mandoc` say nothing of it, but of
-  a date, and of what is wider than a line; `lexgrog` reads one that has a summary; and the text that `groff` shows
+- A manual page is read by `man_reader`, which gives what `man` keeps; `groff` and `mandoc` warn of nothing in it
+  except a date, and what is wider than a line; `lexgrog` reads one that has a summary; and the text that `groff` shows
   holds each word of the page in order.
 - A page in markdown is read by `markdown_reader` and by `cmark`, which both give what `markdown` keeps.
 - A page in HTML is parsed by `html5lib` in its strict mode as the tree that it was written from, and so is what
-  stands in its body alone; `tidy` warns of empty elements alone; no id stands twice, each link shows something and
+  stands in its body alone; `tidy` warns only of empty elements; no id stands twice, each link shows something and
   leads to a place on the page, there is one `main`, and no heading skips a rank.
-- On the console no part of a usage that fits is broken at 40, 80 and 120 columns, and no line is wider than the width
-  but by a word of its own.
+- On the console no part of a usage that fits is broken at 40, 80 and 120 columns, and only a line of one word is wider
+  than the width.
 
 Needs Debian's packages `groff`, `mandoc`, `man-db`, `cmark`, `python3-html5lib` and `tidy`. Prints each fault and
 counts. Ends with status 1 where there is a fault.

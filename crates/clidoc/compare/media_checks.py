@@ -1,4 +1,4 @@
-"""What is wrong with a page in each medium, as those say that read it."""
+"""What is wrong with a page in each medium, by the programs that read it."""
 import re
 import subprocess
 import tempfile
@@ -65,7 +65,7 @@ def man_faults(page):
 def lexgrog_faults(page, text):
     first = page.inside[0]
     name = "-".join(first.said["names"])
-    # A name with a dash at an end is none for it, and it looks under NAME.
+    # It does not take a name with a dash at an end for one, and it looks under NAME.
     if (
         not first.children("summary")
         or "," in name
@@ -192,7 +192,7 @@ def link_faults(nodes):
 
 
 def heading_faults(nodes):
-    """A rank that is passed over, or not one `main`. Where a page has a usage alone, its title stands behind the name."""
+    """A rank that is skipped, or not exactly one `main`. Where a page has only a usage, its title stands after the name."""
     if len([node for node in nodes if node.kind == "main"]) != 1:
         yield "there is not one main"
     ranks = [0] + [int(node.kind[1]) for node in nodes if re.fullmatch("h[1-6]", node.kind)]
@@ -221,7 +221,7 @@ def console_faults(page, width):
 
 
 def is_one_word(row, terms):
-    """Whether a line holds one word, behind a term or not, or a term alone."""
+    """Whether a line holds one word, after a term or not, or a term alone."""
     text = row.strip(" ")
     rests = [text, *[row[4 + len(term) :].strip(" ") for term in terms if row.startswith("    " + term)]]
     return any(" " not in rest.removeprefix("- ") for rest in rests)

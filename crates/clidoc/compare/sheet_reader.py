@@ -15,9 +15,9 @@ class Refused(Exception):
 @dataclasses.dataclass
 class Said:
     """What a page says: a `heading`, a `plain`, `tagged`, `bulleted` or `continued` paragraph, an `example` or a
-    `synopsis`. `place` is the rank of a heading, and of paragraphs and examples the indents, the innermost first: of so
-    many columns, or None for a usual one. `front` is what stands before the lines, and is nothing but of a heading, of
-    what has a tag and of a synopsis. Each line is a list of glyphs, and in `written` a list of lines of the text."""
+    `synopsis`. `place` is the rank of a heading, and of paragraphs and examples the indents, the innermost first: a
+    number of columns, or None for a usual one. `front` is what stands before the lines, and is empty except for a
+    heading, what has a tag and a synopsis. Each line is a list of glyphs, and in `written` a list of lines of the text."""
 
     kind: str
     place: object

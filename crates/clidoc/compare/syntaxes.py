@@ -2,7 +2,7 @@
 import re
 
 BRACKETS = {"[": "]", "(": ")", "<": ">", "{": "}"}
-# Where a name may begin: at the start, and behind these.
+# Where a name may begin: at the start, and after these.
 PLACE = r"(?<![^ ,|\[(<{])"
 RUN = r"[^ ,=|\[\]()<>{}]"
 NAME = rf"-*(?!-){RUN}{RUN}*"

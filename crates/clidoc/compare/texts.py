@@ -1,4 +1,4 @@
-"""The styled parts of texts: what stands between backquotes, lines of code in topics, and the notes behind a help."""
+"""The styled parts of texts: what stands between backquotes, lines of code in topics, and the notes after a help."""
 import itertools
 import re
 
@@ -43,7 +43,7 @@ def parts(text):
 
 
 def noted(text, notes):
-    """A help with notes behind its first paragraph."""
+    """A help with notes after its first paragraph."""
     if not notes:
         return None if text is None else parts(text)
     if text is None:
@@ -56,7 +56,7 @@ def noted(text, notes):
 
 
 def kinds(text):
-    """The lines of a topic but those of fences, each with whether it is code."""
+    """The lines of a topic except those of fences, each with whether it is code."""
     is_fenced, found = False, []
     for line in text.split("\n"):
         has_ink = bool(line.strip(" "))
@@ -77,7 +77,7 @@ def stretches(text):
 
 
 def empty_lines(lines):
-    """How many empty lines these begin with."""
+    """How many empty lines are at the start of these."""
     return len(list(itertools.takewhile(lambda line: not line, lines)))
 
 

@@ -1,6 +1,6 @@
 """Runs `clidoc` many times: the built program, or one that `rt try` compiles with checks, unproved.
 
-`CLIDOC` in the environment names the program; else it is `out/clidoc`, and where that is not there, `rt try` runs all
+`CLIDOC` in the environment names the program; otherwise it is `out/clidoc`, and where that is not there, `rt try` runs all
 calls after one compilation.
 """
 import concurrent.futures
@@ -16,7 +16,7 @@ ENDED = re.compile(rb"case=call-(\d+) run=(\S+)(?: status=(\d+))?.*")
 
 
 def runs(calls):
-    """Of each call, which is its words and its standard input, the status, the output, and what was reported."""
+    """For each call, which is its words and its standard input, the status, the output, and what was reported."""
     if not os.path.exists(PROGRAM):
         return tried(calls)
     with concurrent.futures.ThreadPoolExecutor(2) as pool:

@@ -3,7 +3,7 @@
 
     compare/compare.py [SHELL..]
 
-What each shell offers at the places of `cursor_places` is compared with what stands there, and the line behind a tab
+What each shell offers at the places of `cursor_places` is compared with what is listed there, and the line after a tab
 with that of `LINES`. Then hostile descriptions are tried: nothing of them is run, and all their names and values are
 offered. A shell that is not there is left out. The scripts are those of `prototype.py`: the fixed programs of the crate,
 with the table that this plain program makes.
@@ -37,7 +37,7 @@ def room_of(folder):
 
 
 def home_of(folder):
-    """A home whose owner has been at one host, which is told to each shell where it looks for hosts."""
+    """A home whose owner has been at one host, which each shell finds where it looks for hosts."""
     known = folder / "home" / ".ssh" / "known_hosts"
     known.parent.mkdir(parents=True)
     known.write_text("depot.example.org ssh-ed25519 AAAA\n")
@@ -45,7 +45,7 @@ def home_of(folder):
 
 
 def plain(words):
-    """Words as they are meant: zsh quotes files, and leaves out the slash behind a folder."""
+    """Words as they are meant: zsh quotes files, and leaves out the slash after a folder."""
     return {word.rstrip("/") for word in words}
 
 

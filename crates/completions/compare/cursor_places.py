@@ -209,7 +209,7 @@ PLACES = {
     ],
 }
 
-# What the line is behind a tab, in bash and in zsh.
+# What the line is after a tab, in bash and in zsh.
 LINES = {
     "tar.toml": [
         ("--form", "--format=", "--format="),

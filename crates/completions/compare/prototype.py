@@ -1,5 +1,5 @@
 #!/usr/bin/env python3
-"""The table of a description's completions and its script for a shell, as a plain program: the words of `src/programs.rt` round the table.
+"""The table of a description's completions and its script for a shell, as a plain program: the words of `src/programs.rt` around the table.
 
     compare/prototype.py SHELL FILE
 """
@@ -51,7 +51,7 @@ def words(syntax):
 
 
 def named(word):
-    """The names of a word, and what stands behind them."""
+    """The names of a word, and what follows them."""
     front = re.match(r"[^][(){}<>=,| ]*", word)[0]
     if front.startswith("-") and front.strip("-"):
         return [front], word[len(front):]

@@ -1,4 +1,4 @@
-"""Shells that tell what they offer at a cursor: bash and zsh behind a pseudo terminal, fish by `complete -C`."""
+"""Shells that report what they offer at a cursor: bash and zsh on a pseudo terminal, fish by `complete -C`."""
 import os
 import pathlib
 import pty
@@ -6,7 +6,7 @@ import select
 import subprocess
 import time
 
-# Each word that a shell tells ends with this byte.
+# Each word that a shell reports ends with this byte.
 END = b"\0"
 
 BASH = r"""
@@ -46,7 +46,7 @@ cd "$ROOM"; : >"$TOLD"
 
 
 class Terminal:
-    """An interactive shell behind a pseudo terminal."""
+    """An interactive shell on a pseudo terminal."""
 
     def __init__(self, shell, script, room, told, home):
         self.told = pathlib.Path(told)
@@ -68,7 +68,7 @@ class Terminal:
         os.write(self.terminal, keys)
 
     def wait(self):
-        """What the shell tells, when it does."""
+        """What the shell reports, when it does."""
         end = time.monotonic() + 20
         shown = b""
         while not self.told.exists():
@@ -81,7 +81,7 @@ class Terminal:
         return [word.decode() for word in said.split(END)[:-1]]
 
     def offers(self, typed):
-        """The line behind a tab, and the words that are offered for the one at the cursor."""
+        """The line after a tab, and the words that are offered for the one at the cursor."""
         self.send(typed.encode() + b"\t\x18q")
         line, *words = self.wait()
         return line, set(words)

@@ -25,7 +25,7 @@ CLOSERS = {"[": "]", "{": "}"}
 
 
 def after_string(text, at):
-    """Behind a string, of any of the four kinds."""
+    """The place after a string, of any of the four kinds."""
     mark = text[at]
     if text.startswith(mark * 3, at):
         at += 3
@@ -42,7 +42,7 @@ def after_string(text, at):
 
 
 def key(text, at):
-    """The parts of a dotted key, and behind it and the blanks after it."""
+    """The parts of a dotted key, and the place after it and the blanks that follow."""
     parts = []
     while True:
         if text[at] in "\"'":
@@ -64,7 +64,7 @@ def key_equals(text, at):
 
 
 def after_value(text, at):
-    """Behind a value."""
+    """The place after a value."""
     first = text[at]
     if first in "\"'":
         return after_string(text, at)
@@ -83,7 +83,7 @@ def after_value(text, at):
 
 
 def along(parts, path):
-    """What is left of the path behind a dotted key: a list, empty where the key brings the path. None where it leads
+    """What is left of the path after a dotted key: a list, empty where the key brings the path. None where it leads
     elsewhere."""
     for number, part in enumerate(parts):
         if number == len(path):
@@ -171,7 +171,7 @@ def place(text, path):
 
 
 def paths(value, path=()):
-    """Each path in a value but the empty one."""
+    """Each path in a value except the empty one."""
     inside = value.items() if isinstance(value, dict) else enumerate(value) if isinstance(value, list) else ()
     for step, inner in inside:
         yield [*path, step]

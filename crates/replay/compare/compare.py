@@ -4,7 +4,7 @@
     compare/compare.py REQUESTS ANSWERS [PROGRAM ..]
 
 REQUESTS has a request a line; its own answer lines (`= ..`) are left out, so a file of answers serves too. ANSWERS has the same
-requests, each with its answers behind it. PROGRAM is the command to run; without one it is the built program, out/replay.
+requests, each followed by its answers. PROGRAM is the command to run; without one it is the built program, out/replay.
 Prints how many answers agree and how many differ, and the first that differ.
 Ends with status 1 where any differs.
 """
@@ -16,7 +16,7 @@ SHOWN = 20
 
 
 def split(text):
-    """Each line that is no answer, with its answers as a list of (key, answer); `^` is resolved."""
+    """Each line that is not an answer, with its answers as a list of (key, answer); `^` is resolved."""
     rows = []
     for line in text.split("\n"):
         if not line.startswith("= "):

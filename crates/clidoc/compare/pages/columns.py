@@ -2,7 +2,7 @@
 import re
 import unicodedata
 
-# A letter with what joins it: marks, and letters behind a joiner.
+# A letter with what joins it: marks, and letters after a joiner.
 CLUSTER = re.compile(
     "(?:.\ufe0f?[\U0001f3fb-\U0001f3ff]?(?:\u200d.\ufe0f?[\U0001f3fb-\U0001f3ff]?)+)|.\ufe0f|.", re.DOTALL
 )

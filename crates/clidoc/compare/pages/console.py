@@ -31,7 +31,7 @@ def letters(nodes):
 
 
 def behind(first, others, lines):
-    """The lines, the first one behind one prefix and the others behind another. Nothing stands before an empty one."""
+    """The lines, the first one after one prefix and the others after another. Nothing stands before an empty one."""
     return [(others if number else first) + line if line else "" for number, line in enumerate(lines)]
 
 
@@ -57,13 +57,13 @@ def blocks_lines(blocks, width):
 
 
 def term_text(entry):
-    """The terms of an entry, a lone long name as far in as one behind a short name."""
+    """The terms of an entry, a lone long name indented as far as one after a short name."""
     text = ", ".join(plain(term.inside) for term in entry.children("term"))
     return "    " + text if text.startswith("--") else text
 
 
 def help_column(level):
-    """The column of each help: two behind the widest term that is not too wide."""
+    """The column of each help: two after the widest term that is not too wide."""
     widths = [
         columns(term_text(entry))
         for section in level.children("section")
@@ -84,7 +84,7 @@ def entry_lines(entry, column, width):
 
 
 def entries_lines(entries, column, width):
-    """Entries. Below one of several blocks stands an empty line, if another one follows."""
+    """Entries. An empty line follows one of several blocks, if there is another one."""
     found, is_parted = [], False
     for entry in entries:
         found += ([""] if is_parted else []) + entry_lines(entry, column, width)
@@ -100,7 +100,7 @@ def section_lines(section, column, width):
 
 
 def at_bars(piece):
-    """A part cut behind its outermost bars, without white space at the ends."""
+    """A part cut after its outermost bars, without white space at the ends."""
     depths = list(itertools.accumulate((letter in "[({<") - (letter in "])}>") for letter in piece))
     bars = [(depth, place) for place, depth in enumerate(depths) if piece.startswith("| ", place)]
     cuts = [place + 1 for depth, place in bars if depth == min(bars)[0]]
@@ -108,7 +108,7 @@ def at_bars(piece):
 
 
 def pieces(part, width):
-    """What of a part is not broken: the whole if it fits, else what its outermost bars part, else what blanks part."""
+    """What of a part is not broken: the whole if it fits, else what its outermost bars separate, else what blanks separate."""
     found = [part]
     for cut in [at_bars, lambda piece: piece.split(" ")]:
         found = [small for piece in found for small in ([piece] if columns(piece) <= width else cut(piece))]
@@ -116,7 +116,7 @@ def pieces(part, width):
 
 
 def form_lines(form, before, width):
-    """A form behind a number of columns. Other lines begin under its first part, or four columns in where the widest
+    """A form after a number of columns. Other lines begin under its first part, or four columns in where the widest
     does not fit there."""
     names, parts = plain(form.child("names").inside), [plain(part.inside) for part in form.children("part")]
     column = before + columns(names) + 1
@@ -133,7 +133,7 @@ def form_lines(form, before, width):
 
 
 def usage_lines(usage, word, width):
-    """The forms of a usage, the first behind a word and the others under it."""
+    """The forms of a usage, the first after a word and the others under it."""
     found = []
     for form in usage.inside:
         lines = form_lines(form, columns(word), width)

@@ -11,7 +11,7 @@ def shown(tables):
 
 
 def value(word):
-    """The word for a value: as it is where it is in capitals, and else between `<` and `>`."""
+    """The word for a value: as it is where it is in capitals, otherwise between `<` and `>`."""
     is_capital = all(letter.isupper() or letter in "0123456789-_" for letter in word)
     return element("value", word if is_capital else f"<{word}>")
 
@@ -23,7 +23,7 @@ def styled(syntax):
 
 
 def option_terms(option):
-    """Each name, and the value behind the last; of a syntax its pieces."""
+    """Each name, and the value after the last; the pieces of a syntax."""
     if "syntax" in option:
         return [styled(piece) for piece in syntaxes.pieces(option["syntax"])]
     names = [lead + option[key] for lead, key in [("-", "short"), ("--", "long")] if key in option]
@@ -54,7 +54,7 @@ def command_terms(command):
 
 
 def notes(table, words):
-    """What is said of a table but its help: pieces of one text."""
+    """What is said of a table except its help: pieces of one text."""
     said = [
         ("env", "env", lambda name: [name]),
         ("default", "default", lambda line: [str(line)]),
@@ -71,7 +71,7 @@ def first(blocks, brief):
 
 
 def body(table, words, brief):
-    """The blocks of the help, and the notes: behind it where it is one paragraph, else as a last one."""
+    """The blocks of the help, and the notes: after it where it is one paragraph, else as a last one."""
     blocks, said = first(texts.blocks(table.get("help")), brief), notes(table, words)
     if not said:
         return blocks
@@ -115,7 +115,7 @@ def rows(members, words, brief):
 
 
 def once(found):
-    """Of rows with one key the first."""
+    """The first of the rows with one key."""
     keys = set()
     for row in found:
         if row[0] not in keys:

@@ -1,6 +1,6 @@
 """A page in HTML.
 
-`arranged` is its tree of elements. Nothing is left out but the summary and what points to the pages beside it.
+`arranged` is its tree of elements. Nothing is left out except the summary and what points to the pages beside it.
 """
 from pages.ids import of_level
 from pages.level import without_references

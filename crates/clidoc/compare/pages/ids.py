@@ -14,7 +14,7 @@ def of_level(names):
 
 
 class Numbered:
-    """Ids below one level. The second with one id, and each later one, has its number behind it."""
+    """Ids below one level. The second with one id, and each later one, has its number after it."""
 
     def __init__(self, names):
         self.level, self.counts = of_level(names), {}

@@ -30,13 +30,13 @@ def all_below(level, names):
 
 
 def summary(about, help_blocks):
-    """The first paragraph of the help, or else that of `about`, on one line and without the full stop at its end."""
+    """The first paragraph of the help, otherwise that of `about`, on one line and without the full stop at its end."""
     paragraphs = [block for block in help_blocks + about if is_a(block, "paragraph")]
     return element("summary", *(one_line(paragraphs[0].inside) if paragraphs else []))
 
 
 class LevelPage:
-    """The page of one level, which may stand behind another on one page: then it names no pages beside it."""
+    """The page of one level, which may follow another on one page: then it names no pages beside it."""
 
     def __init__(self, top, level, names, brief=False, is_first=True):
         self.top, self.level, self.names, self.brief, self.is_first = top, level, names, brief, is_first
@@ -80,7 +80,7 @@ class LevelPage:
         return element("entry", *[element("term", *term) for term in terms], element("body", *body), **leads)
 
     def topics(self):
-        """The topics, and behind them notes and references, with the topics that have their titles in front."""
+        """The topics, and after them notes and references, with the topics that have their titles in front."""
         last = {"notes": self.blocks(self.level.get("footer")), "see_also": self.references()}
         for key, own in last.items():
             named = [topic for topic in self.level.get("topic", []) if self.place(topic) == key]

@@ -24,7 +24,7 @@ def arranged(page):
 
 
 def capital(section):
-    """A section with its title in capitals. The names of a level are no title."""
+    """A section with its title in capitals. The names of a level are not a title."""
     return element("section", element("heading", plain(section.child("heading").inside).upper()), *section.inside[1:])
 
 
@@ -40,7 +40,7 @@ def top_section(page, level):
 
 
 def own_sections(page, level):
-    """All but NAME. What NAME shows is not said once more."""
+    """All except NAME. What NAME shows is not said again."""
     usage, about = level.children("usage"), level.child("about").inside
     if level is page.inside[0] and is_only(about, level.child("summary").inside):
         about = []
@@ -112,13 +112,13 @@ def title_line(words):
 
 
 def guarded(line, is_code=False):
-    """A line that is no request, and keeps its blanks. Some readers of names drop most glyphs at the front of a line."""
+    """A line that is not a request, and keeps its blanks. Some readers of names drop most glyphs at the front of a line."""
     front = "\\&" if line.startswith((".", "\\(")) or not is_code and line[:1] in ("", " ") else ""
     return front + line + ("\\&" if line.endswith(" ") else "")
 
 
 def has_letter(text):
-    """Whether a text has a letter, as which any character counts that is not of ASCII."""
+    """Whether a text has a letter; any character that is not ASCII counts as one."""
     return any(letter.isalpha() or not letter.isascii() for letter in text)
 
 
@@ -188,7 +188,7 @@ def entry_lines(entry):
 
 
 def ends_sentence(text):
-    """Whether a text ends with a stop, and what may close behind one."""
+    """Whether a text ends with a stop, and what may close after one."""
     return re.search(r"[.?!][)\]\"'* \u0080-\U0010ffff]*\Z", text) is not None
 
 

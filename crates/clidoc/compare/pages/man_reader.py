@@ -1,4 +1,4 @@
-"""Reads a manual page, by the requests and escapes of man(7) that one may have. Else it raises `Refused`."""
+"""Reads a manual page, by the requests and escapes of man(7) that one may have. Otherwise it raises `Refused`."""
 import re
 
 from pages.tree import element
@@ -95,7 +95,7 @@ def within(text):
 
 
 def filled(lines):
-    """A paragraph or an item: a line, and behind each `.br` one more."""
+    """A paragraph or an item: a line, and after each `.br` one more."""
     inside = list(within(filled_line(lines)))
     while lines.is_at("br"):
         lines.take("br")
@@ -137,7 +137,7 @@ def list_of(lines):
 
 
 def blocks(lines):
-    """Blocks, up to a request that is none of theirs."""
+    """Blocks, up to a request that is not one of theirs."""
     found = []
     while lines.is_at_text() or lines.is_at("PP", "IP", "RS"):
         if lines.is_at("IP"):

@@ -19,7 +19,7 @@ AT_FRONT = re.compile(r"[#+>=~-]|[0-9]+(?=[.)])")
 
 
 def arranged(page):
-    """The blocks of all levels. Behind the first page everything but the names is one rank lower."""
+    """The blocks of all levels. After the first page everything except the names is one rank lower."""
     links, found = Links(page), []
     for number, level in enumerate(page.inside):
         rank = 3 if number else 2
@@ -58,7 +58,7 @@ def entry_list(entries, links):
 
 
 def entry_blocks(entry, links):
-    """The terms, each in a span of its own, and the first paragraph behind them. A name that holds `]:` is no link: at
+    """The terms, each in a span of its own, and the first paragraph after them. A name that holds `]:` is not a link: at
     the front of a line that would be the definition of a link."""
     terms = [[element("literal", plain(term.inside))] for term in entry.children("term")]
     if "to" in entry.said and "]:" not in entry.said["to"][-1]:

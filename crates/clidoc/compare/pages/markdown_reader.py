@@ -1,4 +1,4 @@
-"""Reads markdown as CommonMark says, as far as a page is written in it. Else it raises `Refused`.
+"""Reads markdown as CommonMark says, as far as a page is written in it. Otherwise it raises `Refused`.
 
 | CommonMark | In cmark's XML | Tree |
 |---|---|---|
@@ -11,11 +11,11 @@
 | link, autolink, and the destination | `link`, `destination` | link, its address |
 
 An entry of a list is an item: its terms are the code spans at its front, with a comma and a blank between two, and
-behind them stands ` \u2014 ` and the first paragraph of what is said of it. A usage is code.
+after them stands ` \u2014 ` and the first paragraph of what is said of it. A usage is code.
 
 Not read, since none is written: indented code, setext headings, thematic breaks, quotes, numbered lists, HTML,
-emphasis, images, link references, entities but `&#32;`, `&#123;`, and `&amp;` in an autolink, paragraphs that go on
-in a second line without a hard break, and control characters but tabs and newlines.
+emphasis, images, link references, entities except `&#32;`, `&#123;`, and `&amp;` in an autolink, paragraphs that continue
+in a second line without a hard break, and control characters except tabs and newlines.
 """
 import re
 
@@ -87,7 +87,7 @@ def is_close(line, ticks):
 
 
 def list_of(lines, at):
-    """Items: lines that begin with `- `, and those below that are two columns in, or empty before such."""
+    """Items: lines that begin with `- `, and those below that are indented by two columns, or empty before such."""
     found = []
     while at < len(lines) and lines[at].startswith("- "):
         own, at = [lines[at][2:]], at + 1
@@ -123,7 +123,7 @@ def within(text):
 
 
 def inline(text, at, in_link):
-    """What stands behind a place, in a link up to the bracket that closes its text, and where that ends."""
+    """What follows a place, in a link up to the bracket that closes its text, and where that ends."""
     found = []
     while at < len(text) and not (in_link and text[at] == "]"):
         match = INLINE.match(text, at)

@@ -8,7 +8,7 @@ FENCE = re.compile(r"```+[^`]*")
 ITEM = re.compile(r" {0,3}- [ \t]*[^ \t].*")
 # A backquote that stands beside no other one.
 SINGLE = re.compile(r"(?<!`)`(?!`)")
-# Printable ASCII but blanks, `<`, `>` and backquotes.
+# Printable ASCII except blanks, `<`, `>` and backquotes.
 LINK = re.compile(r"<(https?://[!-;=?-_a-~]+)>")
 
 
@@ -64,7 +64,7 @@ def blank(_):
 
 
 def fence(lines):
-    """The lines up to the next that begins with three backquotes. None are nothing."""
+    """The lines up to the next that begins with three backquotes. No lines are nothing."""
     inside = list(itertools.takewhile(lambda line: not line.startswith("```"), lines[1:]))
     return [element("code", "\n".join(inside))] if inside else [], len(inside) + 2
 
@@ -95,7 +95,7 @@ def paragraph(lines):
 
 
 def within(lines):
-    """What stands within the lines. One that begins with a blank, but the first, begins on a new line."""
+    """What stands within the lines. One that begins with a blank, except the first, begins on a new line."""
     parts = []
     for number, line in enumerate(lines):
         if number:
@@ -126,7 +126,7 @@ def links(text):
 
 
 def spaced(parts):
-    """Blanks that follow one another are one: that of a text stays, before that of a literal. None stands at the ends
+    """A run of blanks becomes one: that of a text stays rather than that of a literal. None stands at the ends
     or beside a line break."""
     places = [
         (kind, number, " " if letter == "\t" else letter)

@@ -23,7 +23,7 @@ import typing
 
 
 class Piece(str):
-    """A text that is not joined to those beside it. In markdown what may go on behind it counts at its end."""
+    """A text that is not joined to those beside it. In markdown, escapes at its end allow for what may follow."""
 
 
 class Element(typing.NamedTuple):
@@ -44,7 +44,7 @@ def is_a(node, *kinds):
 
 
 def element(kind, *inside, **said):
-    """An element. Texts that are neighbours are one, but for pieces, and an empty one is nothing."""
+    """An element. Texts that are neighbours are one, except pieces, and an empty one is nothing."""
     whole = []
     for child in inside:
         if type(child) is str and whole and type(whole[-1]) is str:
@@ -69,7 +69,7 @@ def without_pieces(node):
 
 
 def one_line(nodes):
-    """What stands within a line, with blanks for line breaks, and without the full stop at its end, but behind another."""
+    """What stands within a line, with blanks for line breaks, and without the full stop at its end, unless another is before it."""
     inside = [" " if is_a(node, "break") else node for node in nodes]
     if inside and isinstance(inside[-1], str) and not inside[-1].endswith(".."):
         inside[-1] = inside[-1].removesuffix(".").rstrip(" ")
@@ -77,7 +77,7 @@ def one_line(nodes):
 
 
 def joined(groups, between):
-    """The groups one behind another, with a text between two."""
+    """The groups one after another, with a text between two."""
     whole = []
     for group in groups:
         whole += [between, *group] if whole else group

@@ -15,7 +15,7 @@ def has_bar(parts):
 
 
 def called(option):
-    """An option by its short name, if any; of a syntax the first piece that is more than a name, or else the first."""
+    """An option by its short name, if any; of a syntax the first piece that is more than a name, else the first."""
     if "syntax" in option:
         pieces = [styled(piece) for piece in syntaxes.pieces(option["syntax"])]
         more = [piece for piece in pieces if len(piece) > 1 or not is_a(piece[0], "literal")]
@@ -75,7 +75,7 @@ def command_parts(level, words):
 
 
 def parts_of(level, words):
-    """The parts behind the names, in order."""
+    """The parts after the names, in order."""
     groups = level.get("group", [])
     named = [part for table in [level, *groups] for part in option_parts(table)]
     positionals = [positional for table in [*groups, level] for positional in shown(table.get("positional", []))]
@@ -102,7 +102,7 @@ BRACKETS = {ord(letter): chr(bracket) for bracket, letter in LETTERS.items()}
 
 
 def read_parts(line):
-    """The parts of a line: what blanks outside of brackets part, read as a syntax."""
+    """The parts of a line: what blanks outside of brackets separate, read as a syntax."""
     alone = unpaired(line)
     marked = "".join(letter.translate(LETTERS) if place in alone else letter for place, letter in enumerate(line))
     cut = "".join(

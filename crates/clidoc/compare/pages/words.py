@@ -30,5 +30,5 @@ def words_of(top):
 
 
 def same_title(text, other):
-    """Whether two titles are the same but for case."""
+    """Whether two titles are the same except for case."""
     return title(text).casefold() == title(other).casefold()
