@@ -55,7 +55,7 @@ pub tags_of_names :
     × (tag (195 ∷ 169 ∷ []) ≡ codes "_c3_a9")
 tags_of_names = (refl, refl)
 
--- a text as the usage, and nothing else that is said
+-- a text as the usage, and nothing else
 abbrev own_usage : TextsSaid
 own_usage = record { about = None; header = None; footer = None; usage = Some (codes "U"); topics = [] }
 

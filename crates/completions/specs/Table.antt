@@ -92,7 +92,7 @@ listed_option o = shown_option (times o.repeated) o
 abbrev pub options_entries : List OptSaid → List EntrySaid
 options_entries options = flat_map listed_option options
 
--- of the options of a choice, each but the first that is shown is one in place of the one before
+-- of the options of a choice, each except the first shown one stands in place of the one before
 abbrev pub what_behind : (what : List ℕ) → OptSaid → List ℕ
 what_behind what o = if o.hidden then what else codes "or"
 
@@ -129,7 +129,7 @@ initial_entries (Some c) = lone (codes "alias") (encode_utf8 c) ∷ []
 abbrev pub alias_entries : CommandNames → List EntrySaid
 alias_entries names = initial_entries names.initial ++ map (lone (codes "alias")) names.aliases
 
--- what is said about a level
+-- the text about a level
 abbrev pub about_of : LevelSaid → Option (List ℕ)
 about_of (level texts required options choices gs positionals subcommands) = texts.about
 
@@ -153,7 +153,7 @@ abbrev pub has_commands : CommandsSaid → Bool
 has_commands no_commands = false
 has_commands (commands first others) = true
 
--- whether there is a positional value or a command, hidden or not
+-- whether there is a positional value or a command, hidden or shown
 abbrev pub takes_words : List PositionalSaid → CommandsSaid → Bool
 takes_words positionals subcommands = has_places positionals || has_commands subcommands
 

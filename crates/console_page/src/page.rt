@@ -160,8 +160,8 @@ fn are_permitted_texts<B: Allocator>(usage_word: &str, parts: &[Part<'_, B>]) ->
 /// Each line of a paragraph is laid out by itself, by `bpaf_doc`, and prefixes are put before the result: `page_text`
 /// says each byte.
 ///
-/// `Character` comes where a text or the word has a control character but newline and tab, or a noncharacter; else an
-/// error comes only where an allocation failed.
+/// `Character` comes where a text or the word has a control character other than newline and tab, or a noncharacter;
+/// else an error comes only where an allocation failed.
 pub fn console_page<A: Allocator + Copy, B: Allocator>(
     alloc: A,
     width: usize,
@@ -198,8 +198,8 @@ fn are_permitted_usages<B: Allocator>(forms: &[Form<'_, B>]) -> bool
 
 /// The forms of a usage alone, as lines of that many columns.
 ///
-/// `Character` comes where a text has a control character but newline and tab, or a noncharacter; else an error comes
-/// only where an allocation failed.
+/// `Character` comes where a text has a control character other than newline and tab, or a noncharacter; else an error
+/// comes only where an allocation failed.
 pub fn console_usage<A: Allocator + Copy, B: Allocator>(
     alloc: A,
     width: usize,

@@ -16,7 +16,7 @@ use Rattle.description.specs.declared.levels.Level.{Level, Level-F, fold-Level}
 use Rattle.description.specs.declared.levels.Group.{Group, Group-F, fold-Group}
 use Rattle.description.specs.declared.levels.Command.{Command, Command-F, fold-Command}
 
--- a text that there may be
+-- an optional text
 abbrev pub text_of : Option (Bor (List ℕ)) → Option (List ℕ)
 text_of = option_map (λ text. text.now)
 

@@ -65,7 +65,7 @@ pub struct Command<'a, A: Allocator = Global> {
 }
 
 impl<'a, A: Allocator + Copy> Level<'a, A> {
-    /// A level without texts, on which nothing can be given yet. Of commands that it gets, one has to be given.
+    /// A level without texts, on which nothing can be given yet. Once it has commands, one of them has to be given.
     pub fn new(alloc: A) -> Level<'a, A>
         ensures { level_said result ≡ empty_level }
     {

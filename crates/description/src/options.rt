@@ -21,8 +21,8 @@ pub enum Spelling<'a> {
     /// By its name, followed by the word for the value of the option, if it has one.
     Names(Name),
     /// All of it as one text: `--color[=WHEN]`, `-n, --line, --number`, `--[no-]edit`, `if=FILE`. A usage shows
-    /// the first of the ways between commas outside brackets that is more than a name, or the first of all. Nothing of
-    /// it is checked.
+    /// the first of the ways between commas outside brackets that is more than a name, or the first of all. It is not
+    /// checked.
     Syntax(&'a str),
 }
 

@@ -70,6 +70,7 @@ abbrev pub description_characters : DescriptionSaid → List ℕ
 description_characters d =
     chars d.name ++ (chars d.section ++ (characters_of d.date ++ (characters_of d.vendor ++ (characters_of d.title ++ (chars d.language ++ (flat_map chars (each_word d.words) ++ (flat_map option_characters d.help_options ++ level_characters d.level)))))))
 
--- no text and no name of a description that a TOML text gives holds a control character but newline and tab, nor a noncharacter
+-- no text and no name of a description that a TOML text gives holds a control character other than newline and tab, nor
+-- a noncharacter
 abbrev pub TextsArePlain : Type 0
 TextsArePlain = (ms : Members) (d : DescriptionSaid) → described ms ≡ Some d → list_all is_text_character (description_characters d) ≡ true

@@ -8,8 +8,8 @@ ghost use Rattle.description_laws.specs.Plain.{TextsArePlain};
 ghost use Rattle.description_laws.specs.ReadOnce.{TitlesAreReadOnce};
 ghost use Rattle.description_laws.specs.Written.{PagesAreWritten};
 
-/// No text and no name of a description that a TOML text gives holds a control character but newline and tab, nor a
-/// noncharacter of Unicode.
+/// No text and no name of a description that a TOML text gives holds a control character other than newline and tab,
+/// nor a noncharacter of Unicode.
 pub fn texts_are_plain()
     ensures { TextsArePlain }
 {}

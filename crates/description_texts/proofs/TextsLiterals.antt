@@ -53,7 +53,7 @@ module _ (text : List ℕ) (at : ℕ) (behind_quote : Bool) (within : at < lengt
   split_next : lone_parts text ≡ onto_front (take at text) (lone_split behind_quote (get_or text at 0 ∷ drop (at + 1) text))
   split_next = so_far ∙ ap (λ us. onto_front (take at text) (lone_split behind_quote us)) (drop_more text at 0 within)
 
-  -- a backquote that stands beside no other one
+  -- a backquote with no other beside it
   pub cut_here : is_lone behind_quote (get_or text at 0) (drop (at + 1) text) ≡ true → IsLoneCut text (take at text) (drop (at + 1) text)
   cut_here lone =
       let b = get_or text at 0 in

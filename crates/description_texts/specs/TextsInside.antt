@@ -15,7 +15,7 @@ is_white b = b == 32 || b == 9
 abbrev pub without_white_front : List ℕ → List ℕ
 without_white_front text = drop (prefix_len is_white text) text
 
--- whether a text is at its end, or goes on with white space
+-- whether a text is at its end, or continues with white space
 abbrev pub is_edge_front : List ℕ → Bool
 is_edge_front [] = true
 is_edge_front (b ∷ text) = is_white b
@@ -41,7 +41,7 @@ abbrev pub begins_quote : List ℕ → Bool
 begins_quote [] = false
 begins_quote (b ∷ text) = is_quote b
 
--- a backquote that stands beside no other one
+-- a backquote with no other beside it
 abbrev pub is_lone : (behind_quote : Bool) → ℕ → List ℕ → Bool
 is_lone behind_quote b text = is_quote b && not behind_quote && not (begins_quote text)
 
@@ -73,7 +73,7 @@ without_white_end text = if is_white (last_byte text) then take (length text - 1
 abbrev pub end_kept : (inner behind : List ℕ) → List ℕ
 end_kept inner behind = if is_edge_front behind then without_white_end inner else inner
 
--- what stands between two such backquotes is a literal, unless it is of blanks alone
+-- what stands between two such backquotes is a literal, unless it is only blanks
 abbrev pub quoted : (before inner behind : List ℕ) → Line
 quoted before inner behind =
     if list_all is_white inner then words (96 ∷ []) ∷ words inner ∷ words (96 ∷ []) ∷ []

@@ -14,7 +14,7 @@ draft_of gathering = record {
   words = flat_map (λ text. text.now) gathering.words.items;
 }
 
--- a text that is cut at its first backquote that stands beside no other one
+-- a text that is cut at its first backquote with no other beside it
 pub record IsLoneCut (text before behind : List ℕ) : Type 0 where
   pub parts : lone_parts text ≡ before ∷ lone_parts behind
   pub apart : begins_quote behind ≡ false

@@ -70,7 +70,7 @@ infixl 10 ◌>>=◌
 abbrev pub ◌>>=◌ : {A B : Type 0} → Option A → (A → Option B) → Option B
 o >>= f = option_and_then f o
 
--- a syntax stands beside no name
+-- a syntax does not stand beside a name
 abbrev pub spelling_from : Option ℕ → Option (List ℕ) → Option (List ℕ) → Option SpellingSaid
 spelling_from s l None = option_map named (name_from s l)
 spelling_from None None (Some text) = Some (syntax text)
@@ -92,7 +92,7 @@ pub record ValueSaid : Type 0 where
   pub values : Option (List ℕ)
   pub hint : ValueHint
 
--- a text where there is none of another kind
+-- a text where there is nothing of another kind
 abbrev pub unless_there : (other : Bool) → Option (List ℕ) → Option (Option (List ℕ))
 unless_there true (Some text) = None
 unless_there other text = Some text

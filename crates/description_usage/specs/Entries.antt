@@ -93,7 +93,7 @@ option_word (syntax text) = syntax_word text
 abbrev pub option_entry : WordsSaid → OptSaid → (help : List BlockSaid) → EntrySaid
 option_entry fixed o help = record { word = option_word o.spelling; target = None; terms = option_terms o; body = body (option_notes fixed o) help }
 
--- A positional value of which nothing is said has no entry. Its entry is called as it is shown.
+-- A positional value that has no help and no notes has no entry. An entry is called as the value is shown.
 abbrev pub entry_if_said : (word : List ℕ) → (terms : List Line) → (body : List BlockSaid) → Option EntrySaid
 entry_if_said word terms [] = None
 entry_if_said word terms (first ∷ others) = Some (record { word = word; target = None; terms = terms; body = first ∷ others })

@@ -20,7 +20,7 @@ in_square repeated inside = words (codes "[") ∷ inside ++ words (codes "]" ++ 
 abbrev pub in_round : (repeated : Bool) → Line → Line
 in_round repeated inside = words (codes "(") ∷ inside ++ words (codes ")" ++ dots repeated) ∷ []
 
--- what may be left out stands in square brackets; what may not, in round ones where it would be taken apart
+-- what may be left out stands in square brackets; what may not stands in round ones where it would be split
 abbrev pub enclosed : (required repeated apart : Bool) → Line → Line
 enclosed false repeated apart inside = in_square repeated inside
 enclosed true repeated true inside = in_round repeated inside

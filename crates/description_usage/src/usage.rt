@@ -25,8 +25,8 @@ use std::alloc::{AllocError, Allocator};
 
 // ---- brackets
 
-// How an item stands in brackets: whether it has to be given, whether it is repeated, and whether it would be taken
-// apart without them.
+// How an item stands in brackets: whether it has to be given, whether it is repeated, and whether it would be split
+// without them.
 #[derive(Clone, Copy)]
 struct Manner {
     is_required: bool,

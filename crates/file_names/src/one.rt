@@ -8,7 +8,7 @@ ghost use Rattle.file_names.specs.Names.{is_slash, stem};
 
 use crate::NameFault;
 
-/// How many bytes a name has at most.
+/// How many bytes a name may have.
 const MOST: usize = 200;
 
 /// Refuses a name that no file may have, whatever other files there are.

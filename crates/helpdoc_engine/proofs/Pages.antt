@@ -8,7 +8,7 @@ use Rattle.bpaf_doc.specs.Html.Page.{IsHtmlOf, IsHtmlPageOf}
 use Rattle.helpdoc_engine.specs.declared.words.Form.{Form}
 use Rattle.helpdoc_engine.specs.Rendering.{IsPage, IsRendering, page_bytes}
 
--- a text of which both are said is a page
+-- a text for which both hold is a page
 pub page_of_text : {A : Type 0} (title : List (List ℕ)) (form : Form) (document : List Part) (text : String A)
     → IsRendering title form document (string_bytes text) → string_bytes text ≡ page_bytes title form document → IsPage title form document (string_bytes text)
 page_of_text title form document text rendering exact = record { utf8 = IsUtf8-string_bytes text; rendering = rendering; exact = exact }

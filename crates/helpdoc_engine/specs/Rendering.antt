@@ -41,7 +41,7 @@ page_bytes title Html document = html_page true false document
 page_bytes title Markdown document = markdown_page true document
 page_bytes title Man document = roff_page (title_page title) document
 
--- a page of the document in this form: a text of which the renderer's promise holds, and its exact clause
+-- a page of the document in this form: a text for which the renderer's promise and its exact clause hold
 pub record IsPage (title : List (List ℕ)) (form : Form) (document : List Part) (output : List ℕ) : Type 0 where
   pub utf8 : IsUtf8 output
   pub rendering : IsRendering title form document output

@@ -21,6 +21,6 @@ pub record WritesBeginning (title : List (List ℕ)) (form : Form) (document : L
   pub whole : IsPage title form document page
   pub written : AppendsPart before after page
 
--- there is a page of the document of which the fact holds
+-- there is a page of the document for which the fact holds
 abbrev pub HasPage : List (List ℕ) → Form → List Part → (List ℕ → Type 0) → Type 0
 HasPage title form document Fact = (page : List ℕ) × IsPage title form document page × Fact page

@@ -126,7 +126,7 @@ pub const WIDTHS: &[Row<'static>] = &[
         "name = 'a'\nabout = 'A'\n[[option]]\nshort = 's'\nlong = 'abcdefghi-abcdefghi-abcdefghi-abcdefghi-abcdefghi-abcde'\nvalue = 'V'\nhelp = 'X'\n[[option]]\nlong = 'abcdefghi-abcdefghi-abcdefghi-abcdefghi-abcdefghi-abcder'\nrequired = true\nhelp = 'X'\n[[choice]]\n[[choice.option]]\nlong = 'abcdefghi-abcdefghi-abcdefghi-abcdefghi-abcdefghi-abcdee'\nvalue = 'V'\nhelp = 'X'\n",
         "choice 0 option 0 - as an item of a usage it has 62 columns, over 60\n",
     ),
-    // Not one that no usage shows.
+    // Nothing about an option that no usage shows.
     (
         "name = 'a'\nabout = 'A'\n[[help_option]]\nlong = 'abcdefghi-abcdefghi-abcdefghi-abcdefghi-abcdefghi-abcde'\nvalue = 'V'\nhelp = 'X'\n[[option]]\nlong = 'abcdefghi-abcdefghi-abcdefghi-abcdefghi-abcdefghi-abcdef'\nvalue = 'V'\nhidden = true\n[[command]]\nname = 'c'\nhelp = 'C'\nusage = 'c'\n[[command.option]]\nlong = 'abcdefghi-abcdefghi-abcdefghi-abcdefghi-abcdefghi-abcdeg'\nvalue = 'V'\nhelp = 'X'\n",
         "",

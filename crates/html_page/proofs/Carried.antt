@@ -23,7 +23,7 @@ use Rattle.html_page.proofs.Attributes.{AreBalanced, event_values, given_in, ope
 abbrev pub place : List ℕ → List ℕ
 place id = codes "#" ++ id
 
--- these ids, and links of which each target is as it has to be
+-- these ids, and links each of whose targets is as it has to be
 pub record Carries (P : List ℕ → Type 0) (own : List (List ℕ)) (es : List Event) : Type 0 where
   pub balanced : AreBalanced es
   pub ids : given_in (codes "id") es ≡ own

@@ -82,7 +82,7 @@ Tail [] = Unit {0}
 Tail (b ∷ []) = ⊥
 Tail (b ∷ c ∷ bs) = (b ≡ 58) × (c ≡ 58)
 
--- no byte but a blank is a colon first
+-- only a blank is written with a colon first
 no_colon_first : (b : ℕ) (t u : List ℕ) → id_byte b ++ t ≡ 58 ∷ u → ⊥
 no_colon_first b t u e = by (id_byte b) (first_of_byte b) (byte_colon b) e where
   by : (bs : List ℕ) → (c : ℕ) × (cs : List ℕ) × (bs ≡ c ∷ cs) → NoColon bs → bs ++ t ≡ 58 ∷ u → ⊥

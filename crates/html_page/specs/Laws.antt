@@ -122,7 +122,7 @@ is_parted (b ∷ c ∷ bytes) = not (b == 32 && c == 32) && is_parted (c ∷ byt
 abbrev pub AreTitles : List (List ℕ) → Type 0
 AreTitles titles = (list_all is_parted titles ≡ true) × (are_distinct titles ≡ true)
 
--- No two elements of a page have one id. Where entries or headings of a chapter are alike, the later ones have a number in
--- their ids, of which at most 64 digits are written: so this is said of pages with fewer than 2 ^ 64 ids.
+-- No two elements of a page have one id. Where entries or headings of a chapter are alike, the later ones have a number
+-- in their ids, of which at most 64 digits are written: so this holds for pages with fewer than 2 ^ 64 ids.
 abbrev pub IdsAreDistinct : Type 0
 IdsAreDistinct = (frame : FrameSaid) (top : ChapterSaid) → AreTitles (titles_in top) → length (ids_in (page_tree frame top)) < 2 ^ 64 → are_distinct (ids_in (page_tree frame top)) ≡ true

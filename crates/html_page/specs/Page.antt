@@ -208,7 +208,7 @@ abbrev mutual
   chapters_links no_chapters = []
   chapters_links (chapters first others) = chapter_links first ++ chapters_links others
 
--- where there is any but the first
+-- where there is any besides the first
 abbrev pub nav_events : FrameSaid → ChapterSaid → List Event
 nav_events frame (chapter title name about parts below) =
     if has_links parts below then inside Nav (text_in (Heading Two) frame.contents ++ inside Ul (chapter_links (chapter title name about parts below)))

@@ -92,12 +92,12 @@ fn finish<A: Allocator>(extent: Extent, page: Page<A>) -> Result<String<A>, Page
 /// The HTML page of a chapter and of those below it, or what stands in its body. A reader of HTML reads the page,
 /// whole, as the tree that the rules give. It reads a fragment as what the body of that tree holds, where the fragment
 /// is all that stands in the body of a page, whatever the language and the head of that are; white space may stand
-/// before and after it. Nothing is said of a body that holds more.
+/// before and after it. No promise is made for a body that holds more.
 ///
 /// `Language` and `Title` come where the language is not a language tag, or the title of the top has no ink;
-/// `Character` where a text has a control character but newline and tab, or a noncharacter; `NoInk` where a heading, a
-/// paragraph or a list has no ink; `Id` where the title of a chapter is empty; `Misplaced` where a term has a link, or
-/// a list has no entries; and `Refused` where an allocation failed. `Style` does not come.
+/// `Character` where a text has a control character other than newline and tab, or a noncharacter; `NoInk` where a
+/// heading, a paragraph or a list has no ink; `Id` where the title of a chapter is empty; `Misplaced` where a term has
+/// a link, or a list has no entries; and `Refused` where an allocation failed. `Style` does not come.
 pub fn html_page<A: Allocator + Copy, B: Allocator>(
     alloc: A,
     extent: Extent,

@@ -34,7 +34,7 @@ fn put_lone_section<A: Allocator + Copy, B: Allocator>(
     end(page)
 }
 
-// A section of which `about` stands above.
+// A section whose `about` stands above.
 fn put_own_section<A: Allocator + Copy, B: Allocator>(
     alloc: A,
     page: &mut Page<A>,

@@ -64,7 +64,7 @@ choice_json c = object_with (options_at (codes "option") c.options ++ flag_unles
 abbrev pub choices_at : (key : List ℕ) → List ChoiceSaid → List Field
 choices_at key cs = list_at key (map choice_json cs)
 
--- a value with a default may be left out without a word
+-- a value with a default may be left out without a key that says so
 abbrev pub flags_of_positional : PositionalSaid → List Field
 flags_of_positional p =
     flag_unless (not (is_some p.default)) (codes "required") p.required

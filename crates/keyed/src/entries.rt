@@ -108,7 +108,7 @@ fn section_of(
     }
 }
 
-// The entry of a line that brings the path, of which that many steps lead to the table where the line stands.
+// The entry of a line that brings the path, where that many steps of it lead to the table in which the line stands.
 fn entry_in_line<'t>(
     alloc: Global,
     start: &'t str,

@@ -95,6 +95,6 @@ unfolding IsDistinct
 distinct [] h = tt
 distinct (k ∷ ks) h = (apart k.now ks h.0, distinct ks h.1)
 
--- keys that ascend are texts of which none stands twice
+-- ascending keys are distinct texts
 pub each_once : (ks : List (Bor (List ℕ))) → IsStrictlySortedBy cmp ks → EachOnce (texts ks)
 each_once ks d = AllPairs-from_IsDistinct bytes_decides (texts ks) (distinct ks (IsDistinct-from_sorted cmp ks d))

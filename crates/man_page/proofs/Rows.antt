@@ -33,10 +33,10 @@ pub writes :
     -- literals at the front of a word and within one, of other letters, and without a letter
     × IsWrittenAs (block (paragraph ((words (codes "a (") ∷ literal (codes "--b") ∷ words (codes "), ") ∷ literal (codes "c ") ∷ literal (195 ∷ 169 ∷ []) ∷ literal (codes "d") ∷ words (codes "\n") ∷ literal (codes "-1") ∷ []) ∷ (words [] ∷ literal (codes "e") ∷ page (codes "f") ∷ []) ∷ [])) ∷ [])
     (codes ".PP\na (\\fB\\-\\-b\\fP), \\fB\\%c \\fP\\fB\\%" ++ (195 ∷ 169 ∷ codes "\\fP\\fBd\\fP \\fB\\-1\\fP\n.br\n\\fB\\%e\\fP\\fBf\\fP(1)\n"))
-    -- items, of which one has lines that begin with a glyph and one has none; and code
+    -- items, one of which has lines that begin with a glyph and one of which has none; and code
     × IsWrittenAs (block (bullets (((words (codes "'i") ∷ []) ∷ (words (codes "^k ") ∷ []) ∷ (words (codes "~l") ∷ []) ∷ []) ∷ [] ∷ ((literal (codes "j") ∷ []) ∷ []) ∷ [])) ∷ block (code (codes "\t.%" ∷ codes "\"" ∷ [])) ∷ [])
     (codes ".IP \\(bu 2\n\\&\\(aqi\n.br\n\\&\\(hak \\&\n.br\n\\&\\(til\n.IP \\(bu 2\n.IP \\(bu 2\n\\fB\\%j\\fP\n.PP\n.RS 4\n.EX\n\t.%\n\\&\\(dq\n.EE\n.RE\n")
-    -- usages, of which one has no name, with items that would end a sentence
+    -- usages, one of which has no name, with items that would end a sentence
     × IsWrittenAs (usage (record { name = codes "a b"; items = (words (codes "[") ∷ literal (codes "-a") ∷ words (codes " B]") ∷ []) ∷ (words (codes ".") ∷ []) ∷ [] ∷ (words (codes "[") ∷ value (codes "X...") ∷ words (codes "]") ∷ []) ∷ (literal (codes "a?'") ∷ []) ∷ (words (codes "!") ∷ page (codes "p") ∷ []) ∷ (words (codes ".x") ∷ []) ∷ [] } ∷ record { name = []; items = [] } ∷ []) ∷ [])
     (codes ".SY \"a b\"\n[\\fB\\-a\\fP\\~B]\n\\&.\\&\n\\&\n[\\fIX...\\fP]\\&\n\\fBa?\\(aq\\fP\\&\n!\\fBp\\fP(1)\n\\&.x\n.YS\n.SY \"\"\n.YS\n")
 writes = ((refl, refl), (refl, refl), (refl, refl), (refl, refl), (refl, refl), (refl, refl), (refl, refl))

@@ -121,7 +121,7 @@ begins_behind front (value text) = begins_word front text
 begins_behind front (link text) = begins_word front text
 begins_behind front (page name) = false
 
--- pieces, of which the first is at the front of a word or not
+-- pieces, the first of which is at the front of a word or not
 abbrev pub pieces_from : Role → Bool → Bool → List ℕ → Line → List ℕ
 pieces_from role guarded front section [] = []
 pieces_from role guarded front section (piece ∷ line) =

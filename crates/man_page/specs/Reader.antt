@@ -543,7 +543,7 @@ next_line (Some read) line = done_if read (line_of line)
 
 -- ---- the page
 
--- the lines of a text, of which a newline ends each but the last
+-- the lines of a text, each except the last ended by a newline
 abbrev pub lines : List ℕ → List (List ℕ)
 lines bytes = slice_split (λ b. b == newline) bytes
 

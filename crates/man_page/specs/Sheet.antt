@@ -12,7 +12,7 @@ pub record Glyph : Type 0 where
   pub byte : ℕ
   pub font : Font
 
--- what a paragraph has before it: nothing, its tag, a bullet, or nothing but the indent of a tagged one
+-- what a paragraph has before it: nothing, its tag, a bullet, or only the indent of a tagged one
 pub data Kind : Type 0 where
   Plain : Kind
   Tagged : List Glyph → Kind

@@ -574,7 +574,7 @@ fn write_page<A: Allocator + Copy, B: Allocator>(
 /// The manual page that says these parts in order, after a title line of these words. A reader of man(7) reads it,
 /// whole, as what was said, except what a manual page has no form for.
 ///
-/// `Character` comes where a text or a word of the title line has a control character but newline and tab, or a
+/// `Character` comes where a text or a word of the title line has a control character other than newline and tab, or a
 /// noncharacter; else an error comes only where an allocation failed.
 pub fn manual_page<A: Allocator + Copy, B: Allocator>(
     alloc: A,

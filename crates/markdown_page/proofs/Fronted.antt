@@ -112,7 +112,7 @@ guarded_is line = guarded_from false line
 
 -- ---- what is written in parts
 
--- two parts, of which the last may fail
+-- two parts, the last of which may fail
 pub appended : {T E : Type 0} (r : Result T E) (out a b mid new whole : List ℕ) → mid ≡ out ++ a → new ≡ (if is_ok r then mid ++ b else mid) → whole ≡ a ++ b → OnOk r (new ≡ out ++ whole)
 appended (Ok v) out a b mid new whole m n w = n ∙ ap (λ x. x ++ b) m ∙ append_assoc out a b ∙ ap (λ x. out ++ x) (sym w)
 appended (Err e) out a b mid new whole m n w = tt

@@ -30,7 +30,7 @@ pub writes :
     -- literals: that touch, with backquotes, with blanks at an end, of blanks, and empty ones
     × IsWrittenAs (block (paragraph ((literal (codes "-a") ∷ literal [] ∷ words [] ∷ literal (codes "b") ∷ words (codes ", ") ∷ literal (codes "``") ∷ words (codes " ") ∷ literal (codes "a`b``c") ∷ words (codes " ") ∷ literal (codes " a") ∷ words (codes " ") ∷ literal (codes " \t") ∷ words (codes "`") ∷ literal (codes "`") ∷ []) ∷ (literal (codes "``` `` `") ∷ []) ∷ [])) ∷ [])
     (codes "\n`-ab`, ` `` ` ```a`b``c``` `  a ` `  `\\``` ` ``\\\n```` ``` `` ` ````\n")
-    -- links: to an address, and texts that are none
+    -- links: to an address, and texts that are not links
     × IsWrittenAs (block (paragraph ((link (codes "https://a.b/c?d=1&e=_*") ∷ words (codes " ") ∷ link (codes "https://a b") ∷ words (codes " ") ∷ link (codes "a_") ∷ page [] ∷ []) ∷ [])) ∷ [])
     (codes "\n<https://a.b/c?d=1&amp;e=_*> https://a b a\\_\n")
     -- an entry with two terms, and code, items and a paragraph in its body; one without anything; and links
@@ -39,7 +39,7 @@ pub writes :
     -- lists that touch are one
     × IsWrittenAs (block (bullets (((words (codes "a") ∷ []) ∷ []) ∷ [])) ∷ block (bullets (((literal (codes "```") ∷ words (codes "b") ∷ []) ∷ []) ∷ [])) ∷ [])
     (codes "\n- a\n\n- ` ``` `b\n")
-    -- usages, of which one has no name, and none
+    -- usages, one of which has no name, and no usage
     × IsWrittenAs (usage (record { name = codes "a b"; items = (words (codes "[") ∷ literal (codes "-a") ∷ words (codes " B]") ∷ []) ∷ (value (codes "C") ∷ []) ∷ [] } ∷ record { name = []; items = [] } ∷ []) ∷ usage [] ∷ [])
     (codes "\n```\na b [-a B] C\n\n```\n\n```\n```\n")
 writes = ((refl, refl), (refl, refl), (refl, refl), (refl, refl), (refl, refl), (refl, refl), (refl, refl), (refl, refl), (refl, refl), (refl, refl))

@@ -88,7 +88,7 @@ line_bytes line = flat_map piece_bytes line
 
 -- ---- blocks, nested in that many items
 
--- a paragraph without lines is none, and neither is an item without them
+-- a paragraph without lines is nothing, and so is an item without them
 abbrev pub paragraph_kept : ℕ → List Line → List Said
 paragraph_kept level [] = []
 paragraph_kept level (line ∷ lines) = Paragraph level (map line_kept (line ∷ lines)) ∷ []

@@ -382,7 +382,7 @@ same_paragraph read (Some line) = Some (record read {
   stand = stand_behind line.breaks;
 })
 
--- a line of text; one that goes on with a paragraph without a line break is not of this part
+-- a line of text; one that continues a paragraph without a line break is not of this part
 abbrev pub text_line : Reading → Stand → ℕ → List ℕ → Option Reading
 text_line read Between level line = new_paragraph read.said level (inlines false line)
 text_line read Filled level line = None
@@ -472,7 +472,7 @@ next_line (Some read) line = next_in read read.stand line
 
 -- ---- the page
 
--- the lines of a text, of which a newline ends each but the last
+-- the lines of a text, each except the last ended by a newline
 abbrev pub lines : List ℕ → List (List ℕ)
 lines bytes = slice_split (λ b. b == newline) bytes
 

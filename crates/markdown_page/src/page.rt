@@ -205,8 +205,8 @@ fn write_page<A: Allocator + Copy, B: Allocator>(
 /// The page in markdown that says these parts in order, under this title. A reader of CommonMark reads it, whole, as
 /// what was said, except what markdown has no form for.
 ///
-/// `Character` comes where the title or a text has a control character but newline and tab, or a noncharacter; else an
-/// error comes only where an allocation failed.
+/// `Character` comes where the title or a text has a control character other than newline and tab, or a noncharacter;
+/// else an error comes only where an allocation failed.
 pub fn markdown_page<A: Allocator + Copy, B: Allocator>(
     alloc: A,
     title: &str,

@@ -44,7 +44,7 @@ fn note_run<A: Allocator>(seen: &mut Vec<bool, A>, run: usize) -> Result<(), All
     Ok(())
 }
 
-// Notes how long the runs of backquotes of a text are: of which length, less one, is at each place.
+// Notes how long the runs of backquotes of a text are: each place says whether there is a run of that length, less one.
 #[tactic(auto, using(crate::proofs::Runs::runs_next))]
 fn note_runs<A: Allocator>(seen: &mut Vec<bool, A>, text: &str) -> Result<(), AllocError>
     ensures { OnOk result (seen.new.items ≡ with_runs [] 0 text.now) }

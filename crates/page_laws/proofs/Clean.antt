@@ -133,7 +133,7 @@ module _ (good : ℕ → Bool) where
   pub cut_out : (x : List ℕ) (a : ℕ) (y : List ℕ) → a < 128 → Clean good (x ++ a ∷ y) → Halves x y
   cut_out x a y small h = record { front = (cut_before x a y small h).front; back = (cut_behind x a y small h).back }
 
-  -- the next byte counts to what stands before
+  -- the next byte counts as part of what stands before
   pub next : (p : List ℕ) (b : ℕ) (text : List ℕ) → Clean good (p ++ b ∷ text) → Clean good ((p ++ b ∷ []) ++ text)
   next p b text h = subst (Clean good) (sym (append_assoc p (b ∷ []) text)) h
 

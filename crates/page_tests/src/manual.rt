@@ -1,4 +1,4 @@
-//! Whole pages: what is written of what is said; and lines of a paragraph, and items of a usage.
+//! Whole pages, each with what is written for it; and lines of a paragraph, and items of a usage.
 use crate::said::{Said, Shown, parts};
 use crate::{tide, tide_save};
 use man_page::{TitleLine, manual_page};

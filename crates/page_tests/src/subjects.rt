@@ -99,7 +99,7 @@ pub fn tide_in<'p>(
     })
 }
 
-/// The level that `TITLES` are of.
+/// The level whose titles are `TITLES`.
 pub fn tide<'p>(
     alloc: Global,
     store: &'p Bump,

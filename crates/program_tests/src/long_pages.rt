@@ -34,7 +34,7 @@ const USAGE: Frame = (
     "@\n",
 );
 
-// Around what a description says in short.
+// Around the short text of a description.
 const FULL: Frame = (
     Asked::Clidoc(Form::Full),
     "name = \"app\"\nabout = \"@\"\n",

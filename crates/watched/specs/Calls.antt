@@ -36,7 +36,7 @@ pub record ReadFails {S : Type 0} (reads : Tells S) (before : S) (error : Error)
   pub room : List ℕ
   pub failed : reads between (Err error) room after
 
--- the reads gave an input to its end, which is a text of which the fact holds
+-- the reads gave an input to its end, which is a text for which the fact holds
 abbrev pub GivesText : {S : Type 0} → Tells S → S → S → (List ℕ → Type 0) → Type 0
 GivesText reads before after Fact = (input : List ℕ) × ReadsToEnd reads before input after × IsUtf8 input × Fact input
 

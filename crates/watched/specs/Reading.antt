@@ -18,7 +18,7 @@ is_failed_read (Err (Failed error)) = true
 is_failed_read (Err NotUtf8) = false
 is_failed_read (Err (Refused error)) = false
 
--- no read was interrupted and ended everything for that reason
+-- the error is not that of an interrupted read, which is made again
 abbrev pub IsRetried : ReadError → Type 0
 IsRetried (Failed error) = error_kind error ≢ Interrupted
 IsRetried NotUtf8 = ⊤

@@ -40,7 +40,7 @@ pub record ReadsAll (before after : Option (List ℕ)) (input : List ℕ) : Type
   pub given : Consumes before after input
   pub ended : IsAtEnd after
 
--- all that the reader had left is a text, of which the fact holds
+-- all that the reader had left is a text, for which the fact holds
 abbrev pub ReadsText : Option (List ℕ) → Option (List ℕ) → (List ℕ → Type 0) → Type 0
 ReadsText before after Fact = (input : List ℕ) × ReadsAll before after input × IsUtf8 input × Fact input
 

@@ -62,7 +62,7 @@ pub fn expecting<R: Eprint>(rt: &R, line: &str) -> ExitCode
     ExitCode::from(WRONG_WORDS)
 }
 
-/// The status of a run: the one that it returns, or `FAILURE`, and then its fault is said on standard error.
+/// The status of a run: the one that it returns, or `FAILURE`, and then its fault is reported on standard error.
 pub fn status_of<R: Eprint, F: Display + Drop>(rt: &R, outcome: Result<ExitCode, F>) -> ExitCode
     ensures ok { IfOk outcome (λ status. result ≡ status) }
     ensures err { OnErr outcome (result ≡ ExitCode.FAILURE) }

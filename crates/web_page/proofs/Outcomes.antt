@@ -99,7 +99,7 @@ text_misplaced T draft words w h = rw (w, h) refl
 pub text_placed : {T : Type 0} (draft : Draft) (words : List ℕ) (r : Result T PageError) → are_written words ≡ true → may_stand draft Words ≡ true → FailsOnlyBy None r → FailsOnlyBy (text_fault draft words) r
 text_placed draft words r w h f = rw (w, h) f
 
--- how the code's tests come to those of an end
+-- how the code's tests lead to those of an end
 pub around_now : {at : ℕ} (bytes : List ℕ) (here : Open) (outers : List Open) (now : Draft) (o : IsOngoing bytes at here outers) → draft_of bytes ≡ now → is_around outers ≡ is_inside_body now.open_elements
 around_now bytes here outers now o v = around_is here outers o.draft.open_elements o.draft.nodes o.are_open ∙ ap (λ (d : Draft). is_inside_body d.open_elements) (seen bytes here outers now o v)
 

@@ -64,7 +64,7 @@ whole_page draft = (with_end (with_end draft)).nodes
 
 -- ---- why a call fails
 
--- a character that can be given back: no noncharacter, and no control character but newline and tab
+-- a character that can be given back: no noncharacter, and no control character other than newline and tab
 abbrev pub is_written : ℕ → Bool
 is_written c = not (is_noncharacter c) && (c == 9 || c == 10 || not (is_control c))
 

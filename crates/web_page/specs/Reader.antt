@@ -196,7 +196,7 @@ pub record Opening : Type 0 where
   pub attributes : List Attribute
 
 pub data Mode : Type 0 where
-  -- in the document type, of which these bytes are left
+  -- in the document type, with these bytes of it left
   Doctype : List ℕ → Mode
   -- in content: texts, tags and references
   Content : Mode

@@ -18,7 +18,7 @@ pub enum PageError {
     /// The style has `</` in it.
     #[error("the style has `</` in it")]
     Style,
-    /// A text or an attribute has a noncharacter in it, or a control character but newline and tab.
+    /// A text or an attribute has a noncharacter in it, or a control character other than newline and tab.
     #[error("a control character or a noncharacter in a text")]
     Character,
     /// The id is empty or has white space in it, or the element takes none.

@@ -14,7 +14,7 @@ use std::alloc::{AllocError, Allocator};
 /// What a line begins that does not belong to the lines above it.
 #[derive(Clone, Copy, Debug, PartialEq, Eq)]
 pub enum Kind {
-    /// Nothing: it is of blanks alone.
+    /// Nothing: the line is only blanks.
     Blank,
     /// Lines of code up to the next fence.
     Fence,
@@ -57,7 +57,7 @@ fn quotes(line: &str) -> usize
         .count()
 }
 
-/// Whether a line is of blanks alone.
+/// Whether a line is only blanks.
 pub fn is_blank_line(line: &str) -> bool
     ensures { result ≡ list_all is_blank line.now }
 {
@@ -91,7 +91,7 @@ fn has_marker(line: &[u8]) -> bool
     line.starts_with(b"- ") && !are_all_white(&line[2..])
 }
 
-/// Of what kind a line is.
+/// The kind of a line.
 #[tactic(auto, using(crate::proofs::TextsBounds::bounds), unfolding(crate::specs::Texts::kind_of))]
 pub fn kind_of(line: &str) -> Kind
     ensures { result ≡ kind_of line.now }

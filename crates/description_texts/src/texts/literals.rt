@@ -1,4 +1,4 @@
-//! Literals within a line: what stands between two backquotes that stand beside no other one.
+//! Literals within a line: what stands between two backquotes with no other beside them.
 
 ghost use Rattle.std.specs.Prelude.{◌≡◌, ◌≤◌, ◌<◌, ◌+◌, ◌++◌, [], ◌∷◌, drop, length, slice_index, MatchOption};
 ghost use Rattle.std.specs.List.{list_all};
@@ -26,7 +26,7 @@ fn is_quote_at(bytes: &[u8], at: usize) -> bool
     }
 }
 
-// Whether at a place there is a backquote that stands beside no other one.
+// Whether at a place there is a backquote with no other beside it.
 fn is_lone(bytes: &[u8], at: usize, is_behind_quote: bool) -> bool
     requires { at < length bytes.now }
     ensures { result ≡ is_lone is_behind_quote (slice_index bytes.now at) (drop (at + 1) bytes.now) }
@@ -34,7 +34,7 @@ fn is_lone(bytes: &[u8], at: usize, is_behind_quote: bool) -> bool
     bytes[at] == b'`' && !is_behind_quote && !is_quote_at(bytes, at + 1)
 }
 
-// Cuts a text at its first backquote that stands beside no other one.
+// Cuts a text at its first backquote with no other beside it.
 fn split_lone(text: &str) -> Option<(&str, &str)>
     ensures { MatchOption result (lone_parts text.now ≡ text.now ∷ []) (λ cut. IsLoneCut text.now cut.0.now cut.1.now) }
 {

@@ -41,7 +41,7 @@ pub fn without_white_front(text: &str) -> &str
     &text[white_len(text)..]
 }
 
-/// Whether a text is at its end, or goes on with white space.
+/// Whether a text is at its end, or continues with white space.
 pub fn is_edge_front(text: &str) -> bool
     ensures { result ≡ is_edge_front text.now }
 {

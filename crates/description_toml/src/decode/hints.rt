@@ -12,7 +12,7 @@ use description::hints::ValueHint;
 use std::alloc::Allocator;
 use toml::{Table, Value};
 
-/// What is wrong with what is said of the value of a flag.
+/// What is wrong with a key about the value of a flag.
 pub const BESIDE_NONE: &str = " stands beside no value and no syntax";
 
 /// What a shell offers for a value, at the key `hint`; files by default. It may not stand beside a list of values, nor

@@ -236,7 +236,7 @@ fn option_texts<'a, A: Allocator + Copy>(
     })
 }
 
-// Whether something has to be given, which may be left out where it has a default.
+// Whether something has to be given; with a default it never has to.
 fn required_beside<'a, A: Allocator + Copy>(
     teller: &mut Teller<'a, A>,
     default: Option<&str>,

@@ -136,7 +136,7 @@ pub fn refused_as_short(character: char) -> Refusal
     }
 }
 
-// How many bytes a name has at most.
+// How many bytes a name may have.
 const MOST: usize = 200;
 
 fn refused_if_long(text: &str) -> Refusal

@@ -25,7 +25,7 @@ use lasting_names::Names;
 use std::alloc::Allocator;
 use toml::{Table, Value};
 
-/// The table that a value has to be.
+/// The table that a value is, if it is one.
 pub fn table_of<'a, A: Allocator + Copy>(
     teller: &mut Teller<'a, A>,
     value: &'a Value,

@@ -122,7 +122,7 @@ fn command<A: Allocator + Copy>(rt: &impl Abort, alloc: A, below: Meta<A>, sign:
 /// A description, a header, a footer and a usage.
 pub type Texts<'a> = [&'a str; 4];
 
-// Each of them another.
+// Each of them differs.
 const FULL: Texts<'static> = ["what", "head", "foot", "use"];
 
 /// None of them.

@@ -100,7 +100,7 @@ fn names_of_a_help_text_are_compared(rt: HostRuntime) {
     }
 }
 
-// The same, where it is said what is wrong.
+// The same, where something is reported to be wrong.
 const WRONG: &[(&str, &[u8], &[u8], &str)] = &[
     (
         "clidoc|against|my.txt",

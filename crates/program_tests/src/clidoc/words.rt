@@ -1,4 +1,4 @@
-//! What words choose, with each growth refused in turn. Which words choose what is said by a clause of `choose`.
+//! What words choose, with each growth refused in turn. A clause of `choose` says which words choose what.
 use clidoc_engine::reading::WordFault;
 use clidoc_engine::words::{Choice, ConsoleForm, Extent, Page, Shell, choose};
 use linked_list_allocator::LocalHeap;

@@ -3,7 +3,7 @@ use Rattle.std.specs.Str.{IsCharBoundary}
 use Rattle.console_page.specs.Usage.{cut_bars}
 use Rattle.console_page.proofs.cuts.push_cut_at.Given as goal
 
--- what is written, what follows the last cut, and what the rest comes to, is all
+-- what is written, what follows the last cut, and what the rest comes to, make up the whole
 abbrev pub invariant-loop-at : goal.invariant-loop-at
 invariant-loop-at g l = record {
   in_order : l.start ≤ l.at;

@@ -5,7 +5,7 @@ use Rattle.page_model.specs.View.{part_of}
 use Rattle.console_page.specs.Page.{parts_text}
 use Rattle.console_page.proofs.page.push_parts.Given as goal
 
--- what is written, and what the parts that are left come to, is all
+-- what is written, and what the remaining parts come to, make up the whole
 abbrev pub invariant-loop-part : goal.invariant-loop-part
 invariant-loop-part g l = record {
   utf8 : shadow (Utf8 l.margin);

@@ -3,7 +3,7 @@ use Rattle.std.specs.Io.KnownBytes.{Appends}
 use Rattle.watched.specs.Calls.{Moves}
 use Rattle.watched.proofs.Watched.write_all.Given as goal
 
--- all but the rest was written, and no write has failed
+-- everything except the rest was written, and no write has failed
 abbrev pub invariant-loop-rest : goal.invariant-loop-rest
 invariant-loop-rest g l =
     (l.self.marked ≡ l.fn.self.marked)
