@@ -1,4 +1,4 @@
--- Lemmas. What proves one function stands beside this folder, under the function's path.
+-- Lemmas. What proves one function is beside this folder, under the function's path.
 pub mod Labels
 pub mod Equality
 pub mod Clones

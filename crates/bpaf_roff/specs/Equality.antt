@@ -10,7 +10,7 @@ module _ {L : Type 0} where
   abbrev pub IsSamePiece : (L → L → Bool) → Piece L → Piece L → Type 0
   IsSamePiece eq p q = IsTrue (eq p.label q.label) × (p.text ≡ q.text)
 
-  -- whether they are
+  -- the same as a test
   abbrev pub piece_eq : (L → L → Bool) → Piece L → Piece L → Bool
   piece_eq eq = eq_of_both (on (λ (p : Piece L). p.label) eq) (on (λ (p : Piece L). p.text) (pointwise nat_eq))
 

@@ -8,8 +8,8 @@ pub record Piece (L : Type 0) : Type 0 where
   pub label : L
   pub text : List ℕ
 
--- the pieces with a text put last: in the last piece if that is to be and the labels are equal, else as a piece of its
--- own
+-- the pieces with a text appended: to the last piece if squashing is on and the labels are equal, else as a piece of
+-- its own
 -- e.g. pieces_after_push nat_eq true (record { label = 7; text = codes "a" } ∷ []) 7 (codes "b")
 --     ≡ record { label = 7; text = codes "ab" } ∷ []
 abbrev pub pieces_after_push : {L : Type 0} → (L → L → Bool) → Bool → List (Piece L) → L → List ℕ → List (Piece L)
@@ -25,15 +25,15 @@ pub record Labelled (L : Type 0) : Type 0 where
   pub pieces : List (Piece L)
   pub squash : Bool
 
--- no pieces, and each text by itself
+-- no pieces, with squashing off
 abbrev pub no_pieces : {L : Type 0} → Labelled L
 no_pieces = record { pieces = []; squash = false }
 
--- with a text put last
+-- with a text appended
 abbrev pub with_text : {L : Type 0} → (L → L → Bool) → Labelled L → L → List ℕ → Labelled L
 with_text eq m label text = record m { pieces = pieces_after_push eq m.squash m.pieces label text }
 
--- with texts put last, in order
+-- with texts appended, in order
 abbrev pub with_texts : {L : Type 0} → (L → L → Bool) → Labelled L → List (L × List ℕ) → Labelled L
 with_texts eq m [] = m
 with_texts eq m (item ∷ items) = with_texts eq (with_text eq m item.0 item.1) items
@@ -56,7 +56,7 @@ pub record IsSumOf {L : Type 0} (clones : L → L → Type 0) (left right sum : 
   pub are_copies : AreCopies clones right.pieces copies
   pub is_sum : sum ≡ record left { pieces = left.pieces ++ copies }
 
--- a clone is no other value than what it is a clone of
+-- a clone is the same value as what it is a clone of
 abbrev pub ClonesAreSame : {L : Type 0} → (L → L → Type 0) → Type 0
 ClonesAreSame {L} clones = (x y : L) → clones x y → y ≡ x
 
@@ -68,6 +68,6 @@ payload_len {L} pieces = sum_by (λ (p : Piece L). length p.text) pieces
 abbrev pub labelled_text : {L : Type 0} → L × Bor (List ℕ) → L × List ℕ
 labelled_text item = (item.0, item.1.now)
 
--- a piece behind its two references
+-- a piece, from its two references
 abbrev pub piece_at : {L : Type 0} → Bor L × Bor (List ℕ) → Piece L
 piece_at item = record { label = item.0.now; text = item.1.now }

@@ -19,7 +19,7 @@ pub record Script : Type 0 where
 abbrev pub no_script : Script
 no_script = record { pieces = []; strip_newlines = false }
 
--- with pieces put last
+-- with pieces appended
 abbrev pub with_pieces : Script → List (Piece Escape) → Script
 with_pieces script more = record script { pieces = script.pieces ++ more }
 
@@ -103,7 +103,7 @@ items_pieces strip_newlines before (item ∷ items) =
 abbrev pub text_pieces : Bool → List (Font × List ℕ) → List (Piece Escape)
 text_pieces strip_newlines items = items_pieces strip_newlines None items
 
--- two lines that say what string an apostrophe is
+-- two lines that define how an apostrophe is written
 abbrev pub preamble : List ℕ
 preamble = codes ".ie \\n(.g .ds Aq \\(aq\n.el .ds Aq '\n"
 
@@ -116,7 +116,7 @@ preamble_for DontHandle = []
 abbrev pub rendering : Apostrophes → List (Piece Escape) → List ℕ
 rendering apostrophes pieces = preamble_for apostrophes ++ escaped apostrophes pieces
 
--- the text of a roff under way, and how its apostrophes are written
+-- the text of a roff that is still being written, and how its apostrophes are written
 pub record RoffText : Type 0 where
   pub bytes : List ℕ
   pub apostrophes : Apostrophes
@@ -125,10 +125,10 @@ pub record RoffText : Type 0 where
 abbrev pub text_of : Apostrophes → List (Piece Escape) → RoffText
 text_of apostrophes pieces = record { bytes = rendering apostrophes pieces; apostrophes = apostrophes }
 
--- with a piece written last
+-- with a piece appended
 unfoldable pub with_piece : RoffText → Piece Escape → RoffText
 with_piece text piece = record text { bytes = text.bytes ++ text_after text.apostrophes text.bytes (signs_of piece) }
 
--- with several, in order
+-- with several appended, in order
 abbrev pub with_written : RoffText → List (Piece Escape) → RoffText
 with_written = fold with_piece

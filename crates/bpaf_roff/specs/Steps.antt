@@ -1,4 +1,4 @@
--- How the code holds pieces, and what its private functions leave. Nobody has to believe it.
+-- How the code holds pieces, and what its private functions leave. This is internal.
 pub mod Labels
 pub mod Output
 pub mod Contexts

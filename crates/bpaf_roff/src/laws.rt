@@ -1,5 +1,5 @@
-//! Laws of the definitions that the contracts cite. Each function is a law: it holds where the
-//! function is proved, and calling it does nothing.
+//! Laws of the definitions that the contracts cite. Each function is a law: it holds where the function is proved, and
+//! calling it does nothing.
 
 ghost use Rattle.std.specs.Prelude.{◌≡◌, ◌++◌, ◌↔◌, ◌∷◌, [], List, ℕ, IsTrue, IsUtf8, false};
 ghost use Rattle.std.specs.List.{AllByRecursion, AllZip};
@@ -19,8 +19,8 @@ pub fn sums_associate<T>()
         → sum_of (sum_of left middle) right ≡ sum_of left (sum_of middle right) }
 {}
 
-/// Where a clone of a label equals it, as of a `String`, copies of pieces equal them: label by label, with the same
-/// texts.
+/// Where a clone of a label equals the label, as with a `String`, copies of pieces equal the pieces: label by label,
+/// with the same texts.
 #[tactic(auto, using(crate::proofs::lemmas::Clones::equal_copies))]
 pub fn copies_are_equal<T: Clone + PartialEq>()
     ensures { ((x y : T) → T.is_clone x y → IsTrue (T.eq x y))
@@ -28,7 +28,7 @@ pub fn copies_are_equal<T: Clone + PartialEq>()
         → AllZip (IsSamePiece T.eq) given copies }
 {}
 
-/// Nothing on the right changes nothing.
+/// Adding nothing on the right changes nothing.
 #[tactic(auto, using(crate::proofs::lemmas::Equality::right_equal))]
 pub fn nothing_on_the_right<T: Eq>()
     ensures same { (left : Labelled T) → sum_of left no_pieces ≡ left }
@@ -36,8 +36,8 @@ pub fn nothing_on_the_right<T: Eq>()
         → IsTrue (labelled_eq T.PartialEq.eq (sum_of left no_pieces) left) }
 {}
 
-/// Nothing on the left changes no piece. It turns squashing off, so it gives back an equal value
-/// exactly where that is off.
+/// Adding nothing on the left changes no piece. It turns squashing off, so the result is an equal value exactly where
+/// squashing was off.
 #[tactic(auto, using(crate::proofs::lemmas::Equality::left_equal))]
 pub fn nothing_on_the_left<T: Eq>()
     ensures pieces { (right : Labelled T) → (sum_of no_pieces right).pieces ≡ right.pieces }
@@ -55,8 +55,8 @@ pub fn sums_join<T>()
     ensures setting { (left right : Labelled T) → (sum_of left right).squash ≡ left.squash }
 {}
 
-/// Two monoids are equal where they have the same setting and as many pieces, each with a label
-/// equal to the one in its place and the same text.
+/// Two monoids are equal where they have the same setting and as many pieces, each with a label equal to the one in its
+/// place and the same text.
 pub fn equality_is_of_pieces<T: PartialEq>()
     ensures { (left right : Labelled T) → IsTrue (labelled_eq T.eq left right)
         ↔ ((left.squash ≡ right.squash) × AllZip (IsSamePiece T.eq) left.pieces right.pieces) }
@@ -68,7 +68,7 @@ pub fn equality_is_exact<T: PartialEq>()
     ensures { (left right : Labelled T) → IsTrue (labelled_eq T.eq left right) ↔ (left ≡ right) }
 {}
 
-/// To put texts last in two goes is to put them last in one.
+/// Appending texts in two steps is the same as appending them in one.
 #[tactic(auto, using(crate::proofs::lemmas::Sums::texts_follow))]
 pub fn texts_follow<T: PartialEq>()
     ensures { (m : Labelled T) (some more : List (T × List ℕ))
@@ -89,8 +89,7 @@ pub fn roff_sums_join()
         → (script_sum left right).strip_newlines ≡ right.strip_newlines }
 {}
 
-/// What pieces are rendered to goes on with more pieces after them: these are escaped as after the
-/// bytes before.
+/// The rendering of pieces continues where more pieces follow: these are escaped as after the bytes before them.
 #[tactic(auto, using(crate::proofs::lemmas::EscapedText::renderings_go_on))]
 pub fn renderings_go_on()
     ensures { (apostrophes : Apostrophes) (pieces more : List (Piece Escape))
@@ -99,7 +98,7 @@ pub fn renderings_go_on()
         ++ text_after apostrophes (escaped apostrophes pieces) (signs more) }
 {}
 
-/// Pieces that a writer puts behind the text of others come to the text of all.
+/// Pieces that a writer puts after the text of others come to the text of all.
 #[tactic(auto, using(crate::proofs::lemmas::Written::written_on))]
 pub fn writers_go_on()
     ensures { (apostrophes : Apostrophes) (pieces more : List (Piece Escape))

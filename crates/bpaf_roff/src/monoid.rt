@@ -18,13 +18,13 @@ struct Label<T> {
     label: T,
 }
 
-/// Labelled texts in order. A sum has those of the left side and then those of the right one.
+/// Labelled texts in order. A sum has the texts of the left side and then those of the right one.
 #[derive(Drop)]
 #[derive_where(Debug; T)]
 pub struct FreeMonoid<T, A: Allocator = Global> {
     payload: String<A>,
     labels: Vec<Label<T>, A>,
-    /// Whether a text put last goes into the last piece where their labels are equal.
+    /// Whether an appended text goes into the last piece where their labels are equal.
     pub squash: bool,
 }
 
@@ -44,7 +44,7 @@ impl<T, A: Allocator> Model for FreeMonoid<T, A> {
 }
 
 impl<T, A: Allocator + Copy> FreeMonoid<T, A> {
-    /// Nothing, with `squash` off.
+    /// No pieces, with `squash` off.
     pub fn new(alloc: A) -> Self
         ensures { result ≡ no_pieces }
     {
@@ -57,7 +57,7 @@ impl<T, A: Allocator + Copy> FreeMonoid<T, A> {
 }
 
 impl<T, A: Allocator> FreeMonoid<T, A> {
-    /// How many bytes all texts have.
+    /// How many bytes all texts have together.
     pub fn payload_size(&self) -> usize
         ensures { result ≡ payload_len self.now.pieces }
     {
@@ -76,14 +76,14 @@ impl<T, A: Allocator> FreeMonoid<T, A> {
     }
 }
 
-// Whether a text goes into the last piece.
+// Whether an appended text goes into the last piece.
 fn joins<T: PartialEq>(squash: bool, last: &T, label: &T) -> bool
     ensures { result ≡ (squash && T.eq last.now label.now) }
 {
     squash && last == label
 }
 
-// The label of a text that was put last, for which there is room.
+// The label of an appended text, for which there is room.
 fn push_label<T: PartialEq + Drop, A: Allocator>(
     labels: &mut Vec<Label<T>, A>,
     squash: bool,
@@ -107,7 +107,7 @@ fn push_label<T: PartialEq + Drop, A: Allocator>(
     }
 }
 
-// The first `count` labels, of which the last ends at `end`.
+// The first `count` labels, the last of which ends at `end`.
 fn cut_back<T: Drop, A: Allocator>(labels: &mut Vec<Label<T>, A>, count: usize, end: usize)
     ensures { labels.new.items ≡ ending_at end (take count labels.old.items) }
 {
@@ -134,7 +134,7 @@ impl<T: Drop, A: Allocator> FreeMonoid<T, A> {
         self.labels.len()
     }
 
-    // Leaves the first pieces alone.
+    // Leaves only the first pieces.
     pub(crate) fn truncate(&mut self, count: usize)
         ensures { self.new ≡ record self.old { pieces = take count self.old.pieces } }
     {
@@ -149,8 +149,8 @@ impl<T: Drop, A: Allocator> FreeMonoid<T, A> {
 }
 
 impl<T: PartialEq + Drop, A: Allocator> FreeMonoid<T, A> {
-    /// Puts a text last: into the last piece with `squash` on and its label equal, else as a piece
-    /// of its own. An error comes where a growth was refused, and nothing changed.
+    /// Appends a text: to the last piece if `squash` is on and its label equal, else as a piece of its own. An error
+    /// comes where an allocation failed; then nothing changed.
     pub fn append_str(&mut self, label: T, text: &str) -> Result<(), AllocError>
         ensures ok { OnOk result (self.new ≡ with_text T.eq self.old label text.now) }
         ensures err { OnErr result (self.new ≡ self.old) }
@@ -161,7 +161,7 @@ impl<T: PartialEq + Drop, A: Allocator> FreeMonoid<T, A> {
         Ok(())
     }
 
-    /// Puts a character last, as `append_str` puts a text.
+    /// Appends a character, as `append_str` appends a text.
     pub fn append_char(&mut self, label: T, text: char) -> Result<(), AllocError>
         ensures ok { OnOk result (self.new ≡ with_text T.eq self.old label (encode_utf8 text)) }
         ensures err { OnErr result (self.new ≡ self.old) }
@@ -172,7 +172,7 @@ impl<T: PartialEq + Drop, A: Allocator> FreeMonoid<T, A> {
         Ok(())
     }
 
-    /// `append_str`, for a chain. An error is that of `append_str`.
+    /// `append_str`, for a chain, with the same error.
     pub fn push_str(&mut self, label: T, text: &str) -> Result<&mut Self, AllocError>
         ensures same { IfOk result (λ monoid. monoid.ghost_name ≡ self.entry.ghost_name) }
         ensures pushed { IfOk result (λ monoid. monoid.now
@@ -182,7 +182,7 @@ impl<T: PartialEq + Drop, A: Allocator> FreeMonoid<T, A> {
         Ok(self)
     }
 
-    /// `append_char`, for a chain. An error is that of `append_char`.
+    /// `append_char`, for a chain, with the same error.
     pub fn push(&mut self, label: T, text: char) -> Result<&mut Self, AllocError>
         ensures same { IfOk result (λ monoid. monoid.ghost_name ≡ self.entry.ghost_name) }
         ensures pushed { IfOk result (λ monoid. monoid.now
@@ -192,8 +192,8 @@ impl<T: PartialEq + Drop, A: Allocator> FreeMonoid<T, A> {
         Ok(self)
     }
 
-    /// Puts each text last, in order. An error comes where a growth was refused, and nothing
-    /// changed, whatever was put last before it.
+    /// Appends each text, in order. An error comes where an allocation failed; then nothing changed, even if it came
+    /// after the first texts.
     pub fn extend<'a, I: Iterator<Item = (T, &'a str)> + Drop>(
         &mut self,
         items: I,
@@ -218,7 +218,7 @@ impl<T: PartialEq + Drop, A: Allocator> FreeMonoid<T, A> {
     }
 }
 
-// Puts the labels of another payload last, which stands `shift` bytes further on, or none of them.
+// Appends the labels of another payload, which stands `shift` bytes further on, or none of them.
 fn append_labels<T: Clone, A: Allocator>(
     labels: &mut Vec<Label<T>, A>,
     more: &[Label<T>],
@@ -246,9 +246,9 @@ fn append_labels<T: Clone, A: Allocator>(
 }
 
 impl<T: Clone, A: Allocator> FreeMonoid<T, A> {
-    /// Puts copies of the pieces of another last, each with a clone of its label: nothing is joined
-    /// where the two meet, and `squash` stays. An error comes where a growth was refused, or a label
-    /// could not be cloned, and nothing changed.
+    /// Appends copies of the pieces of another, each with a clone of its label. Nothing is joined where the two meet,
+    /// and `squash` stays. An error comes where an allocation failed or a label could not be cloned; then nothing
+    /// changed.
     pub fn add_assign<B: Allocator>(&mut self, other: &FreeMonoid<T, B>) -> Result<(), AllocError>
         ensures ok { OnOk result (IsSumOf T.is_clone self.old other.now self.new) }
         ensures exact { ClonesAreSame T.is_clone → OnOk result (self.new ≡ sum_of self.old other.now) }
@@ -264,8 +264,8 @@ impl<T: Clone, A: Allocator> FreeMonoid<T, A> {
         Ok(())
     }
 
-    /// This one with the pieces of another after its own, as `add_assign` leaves it.
-    /// An error comes where `add_assign` has one, and this one is given up.
+    /// This one with the pieces of another after its own, as `add_assign` leaves it. An error comes where `add_assign`
+    /// has one; then this one is dropped.
     pub fn add<B: Allocator>(mut self, other: &FreeMonoid<T, B>) -> Result<Self, AllocError>
         ensures ok { IfOk result (λ sum. IsSumOf T.is_clone self other.now sum) }
         ensures exact { ClonesAreSame T.is_clone → IfOk result (λ sum. sum ≡ sum_of self other.now) }
@@ -276,8 +276,7 @@ impl<T: Clone, A: Allocator> FreeMonoid<T, A> {
 }
 
 impl<T: Clone, A: Allocator + Copy> FreeMonoid<T, A> {
-    /// The same texts under clones of their labels, and the same setting. An error comes where
-    /// `add_assign` has one.
+    /// The same texts under clones of their labels, and the same setting. An error comes where `add_assign` has one.
     pub fn clone(&self) -> Result<Self, AllocError>
         ensures ok { IfOk result (λ copy. copy.squash ≡ self.now.squash
             × AreCopies T.is_clone self.now.pieces copy.pieces) }
@@ -290,7 +289,7 @@ impl<T: Clone, A: Allocator + Copy> FreeMonoid<T, A> {
     }
 }
 
-/// The pieces that are left, in order, each as its label and its text.
+/// The remaining pieces, in order, each as its label and its text.
 #[derive(Drop)]
 pub struct AnnotatedSlicesIter<'a, T> {
     text: &'a str,

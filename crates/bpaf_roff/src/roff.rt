@@ -26,7 +26,7 @@ pub enum Font {
     Italic,
 }
 
-/// The escape that restores the font before.
+/// The escape that restores the previous font.
 pub const RESTORE_FONT: &str = "\\fP";
 
 impl Font {
@@ -42,7 +42,7 @@ impl Font {
     }
 }
 
-/// A roff text as its calls made it.
+/// A roff text, as the pieces that its calls added.
 #[derive(Drop)]
 #[derive_where(Debug)]
 pub struct Roff<A: Allocator = Global> {
@@ -63,7 +63,7 @@ impl<A: Allocator> Model for Roff<A> {
 }
 
 impl<A: Allocator + Copy> Roff<A> {
-    /// Nothing, and newlines are kept.
+    /// An empty text that keeps newlines.
     pub fn new(alloc: A) -> Self
         ensures { result ≡ no_script }
     {
@@ -74,7 +74,7 @@ impl<A: Allocator + Copy> Roff<A> {
     }
 }
 
-// Whether the items before left this font.
+// Whether the items before left this font set.
 fn is_set(before: Option<Font>, font: Font) -> bool
     ensures { font_change before font ≡ (if result then [] else escape_pieces (font_escape font)) }
 {
@@ -104,7 +104,7 @@ impl<A: Allocator> Roff<A> {
         Ok(())
     }
 
-    // Answers `written`, and takes back what was put after the first pieces where it is an error.
+    // Returns `written`; where it is an error, first removes what was added after the first pieces.
     fn settle(&mut self, count: usize, written: Result<(), AllocError>) -> Result<(), AllocError>
         ensures same { result ≡ written }
         ensures ok { OnOk written (self.new ≡ self.old) }
@@ -152,8 +152,8 @@ impl<A: Allocator> Roff<A> {
         self.append_linebreak()
     }
 
-    /// Adds the line of a control: its name, which is written as it is, and after a blank each
-    /// argument. An error comes where a growth was refused, and nothing changed.
+    /// Adds the line of a control: its name, which is written as it is, and each argument after a blank. An error comes
+    /// where an allocation failed; then nothing changed.
     pub fn append_control(&mut self, name: &str, args: &[&str]) -> Result<(), AllocError>
         ensures ok { OnOk result (self.new
             ≡ with_pieces self.old (control_pieces name.now (map text_at args.now))) }
@@ -164,8 +164,7 @@ impl<A: Allocator> Roff<A> {
         self.settle(count, written)
     }
 
-    /// Adds the line of a control without arguments.
-    /// An error comes where a growth was refused, and nothing changed.
+    /// Adds the line of a control without arguments. An error comes where an allocation failed; then nothing changed.
     pub fn append_control0(&mut self, name: &str) -> Result<(), AllocError>
         ensures ok { OnOk result (self.new ≡ with_pieces self.old (control_pieces name.now [])) }
         ensures err { OnErr result (self.new ≡ self.old) }
@@ -173,8 +172,8 @@ impl<A: Allocator> Roff<A> {
         self.append_control(name, &[])
     }
 
-    /// Starts a line, unless the text is at a line start.
-    /// An error comes where a growth was refused, and nothing changed.
+    /// Starts a line, unless the text is at a line start. An error comes where an allocation failed; then nothing
+    /// changed.
     pub fn append_linebreak(&mut self) -> Result<(), AllocError>
         ensures ok { OnOk result (self.new ≡ with_pieces self.old linebreak_pieces) }
         ensures err { OnErr result (self.new ≡ self.old) }
@@ -182,8 +181,7 @@ impl<A: Allocator> Roff<A> {
         self.put(Escape::UnescapedAtNewline, "")
     }
 
-    /// Adds a text as it is.
-    /// An error comes where a growth was refused, and nothing changed.
+    /// Adds a text as it is. An error comes where an allocation failed; then nothing changed.
     pub fn append_escape(&mut self, text: &str) -> Result<(), AllocError>
         ensures ok { OnOk result (self.new ≡ with_pieces self.old (escape_pieces text.now)) }
         ensures err { OnErr result (self.new ≡ self.old) }
@@ -191,8 +189,8 @@ impl<A: Allocator> Roff<A> {
         self.put(Escape::Unescaped, text)
     }
 
-    /// Adds a text that is shown as it is, with blanks for its newlines if these are to be
-    /// stripped. An error comes where a growth was refused, and nothing changed.
+    /// Adds a text that is shown as it is, with blanks for its newlines if these are to be stripped. An error comes
+    /// where an allocation failed; then nothing changed.
     pub fn append_plaintext(&mut self, text: &str) -> Result<(), AllocError>
         ensures ok { OnOk result (self.new
             ≡ with_pieces self.old (plaintext_pieces self.old.strip_newlines text.now)) }
@@ -243,8 +241,8 @@ impl<A: Allocator> Roff<A> {
         Ok(())
     }
 
-    /// Adds plain texts, each in its font, and goes back to the font before after the last.
-    /// An error comes where a growth was refused, and nothing changed.
+    /// Adds plain texts, each in its font, and restores the previous font after the last. An error comes where an
+    /// allocation failed; then nothing changed.
     pub fn append_text(&mut self, items: &[(Font, &str)]) -> Result<(), AllocError>
         ensures ok { OnOk result (self.new
             ≡ with_pieces self.old (text_pieces self.old.strip_newlines (map labelled_text items.now))) }
@@ -256,9 +254,9 @@ impl<A: Allocator> Roff<A> {
     }
 }
 
-// The same calls in a chain. What an error leaves is said by the call that each hands on to.
+// The same calls in a chain. The call that each passes on to says what an error leaves.
 impl<A: Allocator> Roff<A> {
-    /// `append_control`, for a chain. An error is that of `append_control`.
+    /// `append_control`, for a chain, with the same error.
     pub fn control(&mut self, name: &str, args: &[&str]) -> Result<&mut Self, AllocError>
         ensures same { IfOk result (λ roff. roff.ghost_name ≡ self.entry.ghost_name) }
         ensures added { IfOk result (λ roff. roff.now
@@ -268,7 +266,7 @@ impl<A: Allocator> Roff<A> {
         Ok(self)
     }
 
-    /// `append_control0`, for a chain. An error is that of `append_control0`.
+    /// `append_control0`, for a chain, with the same error.
     pub fn control0(&mut self, name: &str) -> Result<&mut Self, AllocError>
         ensures same { IfOk result (λ roff. roff.ghost_name ≡ self.entry.ghost_name) }
         ensures added { IfOk result (λ roff. roff.now
@@ -278,7 +276,7 @@ impl<A: Allocator> Roff<A> {
         Ok(self)
     }
 
-    /// `append_linebreak`, for a chain. An error is that of `append_linebreak`.
+    /// `append_linebreak`, for a chain, with the same error.
     pub fn roff_linebreak(&mut self) -> Result<&mut Self, AllocError>
         ensures same { IfOk result (λ roff. roff.ghost_name ≡ self.entry.ghost_name) }
         ensures added { IfOk result (λ roff. roff.now ≡ with_pieces self.old linebreak_pieces) }
@@ -287,7 +285,7 @@ impl<A: Allocator> Roff<A> {
         Ok(self)
     }
 
-    /// `append_escape`, for a chain. An error is that of `append_escape`.
+    /// `append_escape`, for a chain, with the same error.
     pub fn escape(&mut self, text: &str) -> Result<&mut Self, AllocError>
         ensures same { IfOk result (λ roff. roff.ghost_name ≡ self.entry.ghost_name) }
         ensures added { IfOk result (λ roff. roff.now
@@ -297,7 +295,7 @@ impl<A: Allocator> Roff<A> {
         Ok(self)
     }
 
-    /// `append_plaintext`, for a chain. An error is that of `append_plaintext`.
+    /// `append_plaintext`, for a chain, with the same error.
     pub fn plaintext(&mut self, text: &str) -> Result<&mut Self, AllocError>
         ensures same { IfOk result (λ roff. roff.ghost_name ≡ self.entry.ghost_name) }
         ensures added { IfOk result (λ roff. roff.now
@@ -307,7 +305,7 @@ impl<A: Allocator> Roff<A> {
         Ok(self)
     }
 
-    /// `append_text`, for a chain. An error is that of `append_text`.
+    /// `append_text`, for a chain, with the same error.
     pub fn text(&mut self, items: &[(Font, &str)]) -> Result<&mut Self, AllocError>
         ensures same { IfOk result (λ roff. roff.ghost_name ≡ self.entry.ghost_name) }
         ensures added { IfOk result (λ roff. roff.now
@@ -319,8 +317,8 @@ impl<A: Allocator> Roff<A> {
 }
 
 impl<A: Allocator> Roff<A> {
-    /// Puts the pieces of another after its own, and takes its setting of newlines.
-    /// An error comes where a growth was refused, and nothing changed.
+    /// Puts the pieces of another after its own, and takes over the other's setting for newlines. An error comes where
+    /// an allocation failed; then nothing changed.
     pub fn add_assign<B: Allocator>(&mut self, other: &Roff<B>) -> Result<(), AllocError>
         ensures ok { OnOk result (self.new ≡ script_sum self.old other.now) }
         ensures err { OnErr result (self.new ≡ self.old) }
@@ -330,8 +328,8 @@ impl<A: Allocator> Roff<A> {
         Ok(())
     }
 
-    /// This one with another after it, as `add_assign` leaves it.
-    /// An error comes where a growth was refused, and this one is given up.
+    /// This one with another after it, as `add_assign` leaves it. An error comes where an allocation failed; then this
+    /// one is dropped.
     pub fn add<B: Allocator>(mut self, other: &Roff<B>) -> Result<Self, AllocError>
         ensures { IfOk result (λ sum. sum ≡ script_sum self other.now) }
     {
@@ -339,8 +337,8 @@ impl<A: Allocator> Roff<A> {
         Ok(self)
     }
 
-    /// Puts several after this one, in order. An error comes where a growth was refused, and
-    /// nothing changed, whatever was put after it before.
+    /// Puts several after this one, in order. An error comes where an allocation failed; then nothing changed, even if
+    /// it came after the first of them.
     pub fn extend<'a, B: Allocator + 'a, I: Iterator<Item = &'a Roff<B>> + Drop>(
         &mut self,
         items: I,
@@ -375,7 +373,7 @@ fn preamble(apostrophes: Apostrophes) -> &'static str
 }
 
 impl<A: Allocator + Copy> Roff<A> {
-    /// The same pieces and the same setting. An error comes where a growth was refused.
+    /// The same pieces and the same setting. An error comes where an allocation failed.
     pub fn clone(&self) -> Result<Self, AllocError>
         ensures { IfOk result (λ copy. copy ≡ self.now) }
     {
@@ -385,8 +383,8 @@ impl<A: Allocator + Copy> Roff<A> {
         })
     }
 
-    /// The text: the preamble where apostrophes are handled, and then the escaped pieces.
-    /// An error comes where a growth was refused.
+    /// The text: the preamble where apostrophes are handled, and then the escaped pieces. An error comes where an
+    /// allocation failed.
     pub fn render(&self, apostrophes: Apostrophes) -> Result<String<A>, AllocError>
         ensures { IfOk result (λ text. string_bytes text ≡ rendering apostrophes self.now.pieces) }
     {
@@ -394,15 +392,15 @@ impl<A: Allocator + Copy> Roff<A> {
         Ok(self.begin(apostrophes, room)?.into_string())
     }
 
-    /// What writes on behind the same text as that of `render`. Memory for `room` bytes is asked for at once.
-    /// An error comes where a growth was refused.
+    /// A writer that continues the text of `render`. Memory for `room` bytes is asked for at once. An error comes where
+    /// an allocation failed.
     pub fn begin(&self, apostrophes: Apostrophes, room: usize) -> Result<RoffWriter<A>, AllocError>
         ensures { IfOk result (λ writer. writer ≡ text_of apostrophes self.now.pieces) }
     {
         let mut out = Vec::with_capacity(*self.payload.allocator(), room)?;
         out.extend_from_slice(preamble(apostrophes).as_bytes())?;
         escape(self.payload.iter(), &mut out, apostrophes)?;
-        // `escape` puts a text behind a text.
+        // `escape` puts a text after a text.
         Ok(RoffWriter::new(out, apostrophes))
     }
 }

@@ -10,14 +10,13 @@ use crate::escape::{Apostrophes, Escape};
 use std::alloc::{AllocError, Allocator, Global};
 use std::marker::Model;
 
-/// Writes pieces behind a text, and keeps none of them: for a roff that is to be rendered once.
-/// `Roff::begin` makes one.
+/// Writes pieces after a text, and keeps none of them: for a roff that is to be rendered once. `Roff::begin` makes one.
 #[derive(Drop)]
 pub struct RoffWriter<A: Allocator = Global> {
     text: Vec<u8, A>,
     apostrophes: Apostrophes,
     at_line_start: bool,
-    // What a block of plain text becomes goes through it.
+    // Plain text is escaped here, a block at a time.
     room: [u8; ROOM],
 }
 
@@ -56,8 +55,7 @@ impl<A: Allocator> RoffWriter<A> {
         }
     }
 
-    /// Writes a piece behind the others.
-    /// An error comes where a growth was refused, and nothing changed.
+    /// Writes a piece after the others. An error comes where an allocation failed; then nothing changed.
     #[inline(always)]
     pub fn put(&mut self, label: Escape, text: &str) -> Result<(), AllocError>
         ensures ok { OnOk result (self.new ≡ with_piece self.old (piece label text.now)) }
@@ -90,7 +88,7 @@ impl<A: Allocator> RoffWriter<A> {
     pub fn into_string(self) -> String<A>
         ensures { string_bytes result ≡ self.bytes }
     {
-        // It is a text behind each piece, and so no pass looks whether the bytes are one.
+        // The bytes are a text after each piece, so they are not checked again.
         unsafe { String::from_utf8_unchecked(self.text) }
     }
 }

@@ -1,4 +1,5 @@
--- The letters that a terminal shows of a text. Sequences that command it are those of ECMA-48, and each letter takes one cell of its line.
+-- The letters that a terminal shows of a text. Escape sequences are those of ECMA-48, and each letter takes one cell of
+-- its line.
 use Rattle.std.specs.Prelude.{ℕ, Bool, true, false, not, ◌==◌, ◌||◌, ◌&&◌, List, [], ◌∷◌, ◌++◌, drop, reverse, flat_map, if◌then◌else◌, chars, encode_utf8, nat_le}
 use Rattle.std.specs.List.{fold}
 use Rattle.std.specs.Char.{is_control}
@@ -14,7 +15,7 @@ is_newline c = c == 10
 abbrev pub is_escape : ℕ → Bool
 is_escape c = c == 27
 
--- what begins a string that a terminal keeps to itself: DCS, SOS, OSC, PM, APC, behind an escape and alone
+-- what begins a string that a terminal does not show: DCS, SOS, OSC, PM, APC, after an escape and alone
 abbrev pub is_string_start : ℕ → Bool
 is_string_start c = c == 0x50 || (c == 0x58 || (c == 0x5D || (c == 0x5E || c == 0x5F)))
 
@@ -25,7 +26,8 @@ is_string_control c = c == 0x90 || (c == 0x98 || (c == 0x9D || (c == 0x9E || c =
 abbrev pub is_string_end : ℕ → Bool
 is_string_end c = c == 7 || c == 0x9C
 
--- whether a character belongs to what began before it: no control does, but that a string goes on to the end of its line
+-- whether a character belongs to what began before it: no control does, except that a string goes on to the end of its
+-- line
 abbrev pub belongs : Place → ℕ → Bool
 belongs at.Letters c = false
 belongs at.Escape c = is_between 0x20 0x7E c
@@ -54,7 +56,7 @@ entered c =
 -- what a terminal shows so far
 pub record Screen : Type 0 where
   pub place : Place
-  -- the letters up to the cursor, the last one first
+  -- the letters before the cursor, the last one first
   pub before : List ℕ
   -- those from the cursor on, in its line
   pub behind : List ℕ

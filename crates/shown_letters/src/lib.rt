@@ -10,12 +10,12 @@ mod screen;
 use screen::Screen;
 use std::alloc::{AllocError, Allocator};
 
-/// The letters that a terminal shows of a text: escape sequences are left out, a letter stands in place of the one that it
-/// is printed over, and of other control characters tabulators and newlines stay.
+/// The letters that a terminal shows of a text. Escape sequences are left out, as are control characters other than
+/// tabulators and newlines. A letter that is printed over another replaces it.
 ///
 /// # Errors
 ///
-/// Memory.
+/// An allocation failed.
 pub fn shown_letters<A: Allocator + Copy>(alloc: A, text: &str) -> Result<String<A>, AllocError>
     ensures exact { IfOk result (λ shown. string_bytes shown ≡ shown_letters text.now) }
 {

@@ -1,4 +1,4 @@
-//! Where a reader of a text is that commands a terminal.
+//! Where the reader of a text that is sent to a terminal is.
 
 ghost use Rattle.std.specs.Prelude.{◌≡◌};
 ghost use Rattle.shown_letters.specs.declared.place.Place.TheVariants as at;
@@ -31,7 +31,7 @@ impl Place {
         }
     }
 
-    /// The place after a character that does.
+    /// The place after a character that belongs to what began before it.
     pub fn after(self, character: char) -> Self
         ensures { result ≡ after self character }
     {

@@ -8,7 +8,7 @@ use crate::place::Place;
 use std::alloc::{AllocError, Allocator};
 use std::marker::Model;
 
-/// The letters up to the cursor, and those from it on in its line, the first one last.
+/// The letters before the cursor in order, and those from it to the end of its line in reverse.
 #[derive(Drop)]
 pub struct Screen<A: Allocator> {
     place: Place,
@@ -107,7 +107,7 @@ impl<A: Allocator> Screen<A> {
         }
     }
 
-    /// What a further character makes of a screen.
+    /// Takes the next character of the text.
     pub fn take(&mut self, character: char) -> Result<(), AllocError>
         ensures { OnOk result (self.new ≡ terminal.step self.old character) }
     {

@@ -1,4 +1,4 @@
--- How what is drafted is written in TOML.
+-- How drafts are written in TOML.
 use Rattle.std.specs.Prelude.{ℕ, ◌==◌, ◌&&◌, Bool, true, false, not, List, [], ◌∷◌, ◌++◌, codes, flat_map, if◌then◌else◌, Option, None, Some}
 use Rattle.std.specs.List.{list_all, slice_index_or}
 use Rattle.toml_pieces.specs.declared.toml.Quoting.{Quoting}
@@ -27,7 +27,7 @@ abbrev pub is_tame : List ℕ → Bool
 is_tame [] = true
 is_tame (b ∷ bs) = not (b == 34 && slice_index_or bs 0 34 == 34) && is_tame bs
 
--- how a piece of a text of many lines is quoted
+-- how a piece of a text of several lines is quoted
 abbrev pub quoting_of : List ℕ → Quoting
 quoting_of text = if is_tame text then quoting.Plain else quoting.Escaped
 
@@ -77,7 +77,7 @@ one_text (p ∷ ps) = escaped p.text ++ flat_map joined_piece ps
 abbrev pub line_piece : Piece → List ℕ
 line_piece p = lead_text p.lead ++ quoted (quoting_of p.text) p.text
 
--- a text of many lines begins after the first newline
+-- a text of several lines begins after the first newline
 abbrev pub many_text : List Piece → List ℕ
 many_text ps = flat_map line_piece ps
 
@@ -87,7 +87,7 @@ one_at key ps = key ++ (codes " = \"" ++ (one_text ps ++ codes "\"\n"))
 abbrev pub many_at : (key : List ℕ) → List Piece → List ℕ
 many_at key ps = key ++ (codes " = \"\"\"" ++ (many_text ps ++ codes "\"\"\"\n"))
 
--- a text, if there is something of it
+-- a text, unless it is empty
 abbrev pub text_at : (key : List ℕ) → List Piece → List ℕ
 text_at key [] = []
 text_at key (p ∷ ps) = if is_one (p ∷ ps) then one_at key (p ∷ ps) else many_at key (p ∷ ps)
@@ -103,7 +103,7 @@ items_text first others = escaped first ++ flat_map further_item others
 abbrev pub filled_list : (key first : List ℕ) → (others : List (List ℕ)) → List ℕ
 filled_list key first others = key ++ (codes " = [\"" ++ (items_text first others ++ codes "\"]\n"))
 
--- an array of texts, if there is one
+-- an array of texts, unless it is empty
 abbrev pub list_at : (key : List ℕ) → (texts : List (List ℕ)) → List ℕ
 list_at key [] = []
 list_at key (t ∷ ts) = filled_list key t ts

@@ -1,4 +1,4 @@
-//! Keys, tables and comments of TOML, written so that a person likes to read them.
+//! Keys, tables and comments of TOML, written to be read by people.
 #![tactic(auto)]
 
 mod toml;

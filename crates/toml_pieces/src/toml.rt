@@ -37,7 +37,7 @@ impl StandIns for Quoting {
     }
 }
 
-/// How a piece of a text follows the one above: on a line of its own, after a blank, as a line of code, or on a new
+/// How a piece of a text follows the one before it: on a line of its own, after a blank, as a line of code, or on a new
 /// line of the page.
 #[derive(Clone, Copy)]
 pub enum Lead {
@@ -79,7 +79,7 @@ impl Lead {
     }
 }
 
-// The first byte, and a quotation mark where there is none.
+// The first byte, or a quotation mark where there is none.
 fn first_or_quote(bytes: &[u8]) -> u8
     ensures { result ≡ slice_index_or bytes.now 0 34 }
 {
@@ -113,7 +113,7 @@ fn quoting_of(text: &str) -> Quoting
     }
 }
 
-/// Writes a text that stands between quotation marks on one line.
+/// Writes a text on one line, as it stands between quotation marks.
 pub fn push_escaped<A: Allocator>(out: &mut String<A>, text: &str) -> Result<(), AllocError>
     ensures { OnOk result (string_bytes out.new ≡ string_bytes out.old ++ toml.escaped text.now) }
 {
@@ -130,7 +130,7 @@ pub fn push_word<A: Allocator>(out: &mut String<A>, key: &str, text: &str) -> Re
     out.push_str("\"\n")
 }
 
-/// Writes a key, if there is a text for it.
+/// Writes a key with a text on one line, if there is a text.
 pub fn push_optional<A: Allocator>(
     out: &mut String<A>,
     key: &str,
@@ -239,7 +239,7 @@ fn push_many<A: Allocator>(
     out.push_str("\"\"\"\n")
 }
 
-/// Writes a key with a text of some lines, if there is something of it.
+/// Writes a key with a text of any number of lines, unless the text is empty.
 pub fn push_text<A: Allocator>(
     out: &mut String<A>,
     key: &str,
@@ -295,7 +295,7 @@ fn push_filled_list<A: Allocator>(
     out.push_str("\"]\n")
 }
 
-/// Writes a key with an array of texts, if there is one.
+/// Writes a key with an array of texts, unless the array is empty.
 pub fn push_list<A: Allocator>(
     out: &mut String<A>,
     key: &str,

@@ -1,4 +1,4 @@
--- What clones of labels leave of the places of the texts, and of the pieces that they show.
+-- What clones of labels keep of where the texts end, and of the pieces that they show.
 use Rattle.std.specs.Prelude.{◌≡◌, ℕ, ◌+◌, ◌<◌, suc, Bool, IsTrue, List, [], ◌∷◌, ◌++◌, take, length, refl}
 use Rattle.std.proofs.Common.{ap, sym, ◌∙◌, append_assoc, arith}
 use Rattle.std.proofs.lemmas.List.{map-append}
@@ -43,7 +43,7 @@ module _ {T : Type 0} (clones : T → T → Type 0) where
   AreCopies-pieces [] ms at p all = grind arith
   AreCopies-pieces (l ∷ ls) ms at p all = grind (arith, AreCopies-pieces ls)
 
-  -- where a clone is no other value, copies are what they are copies of
+  -- where a clone is always the same value, copies are what they are copies of
   AreCopies-same : ClonesAreSame clones → (ps qs : List (Piece T)) → AreCopies clones ps qs → qs ≡ ps
   AreCopies-same same ps qs = λ all. same_from_all_zip (IsCopyOf clones) ps qs all (λ p q c. ap (λ t. record { label = q.label; text = t }) c.0 ∙ ap (λ l. record { label = l; text = p.text }) (same p.label q.label c.1))
 

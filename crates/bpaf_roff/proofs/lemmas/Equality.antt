@@ -1,4 +1,4 @@
--- What equality of monoids tells.
+-- What equality of monoids says.
 use Rattle.std.specs.Prelude.{◌≡◌, ◌↔◌, Bool, true, false, List, [], ◌∷◌, IsTrue, nat_eq, refl}
 use Rattle.std.specs.Bool.{beq}
 use Rattle.std.specs.List.{AllZip}

@@ -1,4 +1,4 @@
--- What pieces of text are escaped to is text.
+-- Pieces of text are escaped to text.
 use Rattle.std.specs.Prelude.{◌≡◌, ℕ, true, List, [], ◌∷◌, ◌++◌, ◌<◌, ◌≤◌, map, IsUtf8, IsAscii, suc, refl}
 use Rattle.std.specs.List.{AllByRecursion}
 use Rattle.std.specs.Char.{IsScalar}
@@ -13,7 +13,7 @@ use Rattle.bpaf_roff.specs.Roff.{rendering}
 use Rattle.bpaf_roff.specs.declared.escape.Apostrophes.{Apostrophes}
 use Rattle.bpaf_roff.specs.declared.escape.Escape.{Escape}
 
--- signs are written one part after the other
+-- signs are written one part after another
 pub text_after-append : (q : Apostrophes) (before : List ℕ) (xs ys : List Sign) → text_after q before (xs ++ ys) ≡ text_after q before xs ++ text_after q (before ++ text_after q before xs) ys
 text_after-append q before [] ys = rw (append-nil before) refl
 text_after-append q before (x ∷ xs) ys = rw (text_after-append q (before ++ sign_text q before x) xs ys, append_assoc (sign_text q before x) (text_after q (before ++ sign_text q before x) xs), append_assoc before (sign_text q before x)) refl

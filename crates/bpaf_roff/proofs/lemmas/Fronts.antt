@@ -1,10 +1,10 @@
--- What is put last leaves in front.
+-- What appending leaves in front.
 use Rattle.std.proofs.lemmas.Grind.{common_steps}
 use Rattle.std.proofs.Common.{List, ◌++◌, ◌∙◌, length, ap, arith, take_all, take-append-drop, length-append}
 use Rattle.std.proofs.lemmas.List.{take-append-le, length-take}
 use Rattle.bpaf_roff.specs.Steps.Output.{KeepsFront}
 
--- what is put last keeps what was there
+-- appending keeps what was there
 pub KeepsFront-append : {X : Type 0} (old more : List X) → KeepsFront old (old ++ more)
 KeepsFront-append old more = take-append-le (length old) old more (omega arith) ∙ take_all (length old) old (omega arith)
 

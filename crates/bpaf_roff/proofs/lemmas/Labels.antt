@@ -1,4 +1,4 @@
--- What a text put last, a sum and a cut leave of the labels, and of the pieces that they show.
+-- What an appended text, a sum and a cut do to the labels, and to the pieces that they show.
 use Rattle.std.proofs.lemmas.Grind.{common_steps}
 use Rattle.std.proofs.Common.{◌≡◌, ℕ, zero, suc, ◌+◌, ◌-◌, ◌<◌, ◌≤◌, Bool, true, false, List, [], ◌∷◌, ◌++◌, length, take, drop, refl, ap, ◌∙◌, subst, arith, length-append, length-drop, take_all, take-append-drop}
 use Rattle.std.proofs.lemmas.List.{take-append-le, drop-append-le, drop_all, length-take-le, drop-take}
@@ -23,7 +23,7 @@ IsUtf8-added p w u v = grind (arith, take-append-le (length p) p w (omega arith)
 none_left : {X : Type 0} (n : ℕ) (p : List X) → n ≤ length p → drop n p ≡ [] → n ≡ length p
 none_left n p within e = let f = ap length e in omega (arith, length-drop n p)
 
--- places that are moved on are as far apart
+-- places that are moved on by the same amount are as far apart
 moved : (by at end : ℕ) → (by + end) - (by + at) ≡ end - at
 moved by at end = omega arith
 
@@ -51,7 +51,7 @@ module _ {T : Type 0} where
   ends_fit by n [] at p c fits = All-nil (λ (l : Label T). by + l.end < n)
   ends_fit by n (l ∷ ls) at p c fits = grind (arith, All-cons, ends_fit by n ls l.end (drop (l.end - at) p) c.3, length-drop)
 
-  -- two payloads, one after the other
+  -- two payloads, one after another
   pub pieces_of-append : (ls ms : List (Label T)) (at next : ℕ) (p q : List ℕ) → Cuts ls at p → next ≡ at + length p → pieces_of (ls ++ ms) at (p ++ q) ≡ pieces_of ls at p ++ pieces_of ms next q
   pieces_of-append [] ms at next p q c e = let f : next ≡ at = omega (arith, ap length c) in rw (c, f) refl
   pieces_of-append (l ∷ ls) ms at next p q c e = grind (arith, take-append-le, drop-append-le, length-drop, pieces_of-append ls ms l.end next (drop (l.end - at) p) q c.3)
@@ -169,7 +169,7 @@ module _ {T : Type 0} (eq : T → T → Bool) (squash : Bool) (t : T) (end e : �
   length-with_label (l ∷ m ∷ ls) = omega (arith, length-with_label (m ∷ ls))
   length-with_label x = grind arith
 
--- one text more
+-- one more text
 pub with_texts-push : {T : Type 0} (eq : T → T → Bool) (m : Labelled T) (xs : List (T × List ℕ)) (x : T × List ℕ) → with_texts eq m (xs ++ x ∷ []) ≡ with_text eq (with_texts eq m xs) x.0 x.1
 with_texts-push eq m [] x = refl
 with_texts-push eq m (y ∷ xs) x = with_texts-push eq (with_text eq m y.0 y.1) xs x

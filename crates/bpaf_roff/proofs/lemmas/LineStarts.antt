@@ -11,7 +11,7 @@ use Rattle.bpaf_roff.specs.declared.escape.Escape.{Escape}
 use Rattle.bpaf_roff.specs.declared.escape.Escape.TheVariants.{UnescapedAtNewline, Spaces, Special, SpecialNoNewline, Unescaped}
 use Rattle.bpaf_roff.proofs.lemmas.EscapedText.{text_after-append}
 
--- only what was written last tells
+-- only the byte written last counts
 pub is_line_start-last : (before : List ℕ) (b : ℕ) → is_line_start (before ++ b ∷ []) ≡ (b == newline)
 is_line_start-last (x ∷ y ∷ before) b = is_line_start-last (y ∷ before) b
 is_line_start-last z b = grind arith
@@ -50,7 +50,7 @@ pub nothing_ends : (label : Escape) (b : ℕ) → label ≡ Spaces ⊎ label ≡
 nothing_ends label b (inl e) q before = rw e (sym (spaces_end before b))
 nothing_ends label b (inr e) q before = rw e (sym (blank_end q before (guard before b) b))
 
--- what comes next asks no more of what was written than whether it ends a line
+-- what comes next depends on what was written only by whether it ends a line
 is_line_start-written : (x : Bool) → is_line_start (written x) ≡ x
 is_line_start-written x = grind arith
 
@@ -80,6 +80,6 @@ pub signs-push : (ps : List (Piece Escape)) (p : Piece Escape) → signs (ps ++ 
 signs-push [] p = append-nil (signs_of p)
 signs-push (p ∷ ps) r = rw (signs-push ps r, append_assoc (signs_of p)) refl
 
--- one sign more
+-- one more sign
 pub text_after-push : (q : Apostrophes) (before : List ℕ) (xs : List Sign) (s : Sign) → text_after q before (xs ++ s ∷ []) ≡ text_after q before xs ++ sign_text q (before ++ text_after q before xs) s
 text_after-push q before xs s = text_after-append q before xs (s ∷ []) ∙ ap (λ t. text_after q before xs ++ t) (append-nil (sign_text q (before ++ text_after q before xs) s))

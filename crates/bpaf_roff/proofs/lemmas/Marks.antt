@@ -1,4 +1,4 @@
--- What a byte with a mark is written as, and the marks of a front of some bytes.
+-- What a byte with a mark is written as, and the marks of the first bytes of a text.
 use Rattle.std.proofs.Common.{◌≡◌, ℕ, ◌+◌, ◌-◌, ◌<◌, ◌==◌, Bool, true, false, List, [], ◌∷◌, ◌++◌, inl, inr, ◌∙◌, map, take, length, get_or, ap, sym, arith, if◌then◌else◌}
 use Rattle.std.specs.Prelude.{slice_index, slice_set}
 use Rattle.std.proofs.lemmas.Bool.{cases_lt}
@@ -11,12 +11,12 @@ use Rattle.bpaf_roff.specs.declared.escape.Escape.TheVariants.{Special}
 use Rattle.bpaf_roff.proofs.lemmas.LineStarts.{newline_ends, nothing_ends}
 use Rattle.bpaf_roff.proofs.lemmas.Texts.{line_start_by_last}
 
--- a byte that has no way of its own
+-- a byte that is not written in a way of its own
 marked_special : (q : Apostrophes) (before : List ℕ) (prev s : ℕ) → (is_line_start before ≡ true → (prev == newline) ≡ true) → mark prev s < 3
     → byte_text q before Special s ≡ (if mark prev s == 2 then 92 ∷ s ∷ [] else s ∷ [])
 marked_special q before prev s h k = grind arith
 
--- a line starts only behind a newline
+-- a line starts only after a newline
 line_behind : (q : Apostrophes) (label : Escape) → IsText label → (x : Bool) (bytes : List ℕ) (i j : ℕ) → i ≡ j + 1 → j < length bytes
     → is_line_start (written x ++ text_after q (written x) (map (Byte label) (take i bytes))) ≡ true → (slice_index bytes j == newline) ≡ true
 line_behind q label is x bytes i j e lt h = by is
@@ -45,7 +45,7 @@ marked_text q label is x bytes i m s lt (inr right) few shown same =
     ∙ marked_special q (written x ++ text_after q (written x) (map (Byte label) (take i bytes))) prev s (line_behind q label is x bytes i (i - 1) behind inside) (omega (arith, known, few))
     ∙ ap (λ n. if n == 2 then 92 ∷ s ∷ [] else s ∷ []) (sym known)
 
--- one byte more is marked
+-- one more byte is marked
 pub marks_more : (bytes marks : List ℕ) (i m : ℕ) → 0 < i → i < length marks → AreMarks bytes i marks → m ≡ mark (slice_index bytes (i - 1)) (slice_index bytes i)
     → AreMarks bytes (i + 1) (slice_set marks i m)
 marks_more bytes marks i m some lt all e j l = grind (arith, cases_lt j i, get_or-set_same, get_or-set_other, all j)

@@ -1,4 +1,4 @@
--- What pieces put last leave of a script.
+-- What appended pieces do to a script.
 use Rattle.std.proofs.Common.{◌≡◌, Bool, false, List, ℕ, [], ◌∷◌, ◌++◌, map, ap, refl, arith, append_assoc}
 use Rattle.std.proofs.lemmas.Iterator.{items_from_drains}
 use Rattle.std.proofs.lemmas.Iterator.Consumers.{YieldsList-from_first}

@@ -1,4 +1,4 @@
--- What a block of bytes becomes under its label, and whether a line starts behind it.
+-- What a block of bytes becomes under its label, and whether a line starts after it.
 use Rattle.std.proofs.Common.{ap, ◌∙◌, append_assoc, arith, ◌≡◌, ℕ, Bool, List, [], ◌∷◌, ◌++◌, map, flat_map, refl}
 use Rattle.std.proofs.lemmas.List.{map-append}
 use Rattle.bpaf_roff.specs.Escaping.{Byte, is_line_start, spaces_text, byte_text, text_after}
@@ -17,7 +17,7 @@ line_start_by_last x label bytes front last e y ends q = grind (arith, map-appen
 pub line_start_by_none : (x : Bool) (label : Escape) (bytes : List ℕ) → bytes ≡ [] → (q : Apostrophes) → x ≡ is_line_start (written x ++ text_after q (written x) (map (Byte label) bytes))
 line_start_by_none x label bytes e q = grind arith
 
--- the bytes of an argument know nothing of each other
+-- how a byte of an argument is written does not depend on the others
 pub argument_text : (q : Apostrophes) (bytes before : List ℕ) → text_after q before (map (Byte Spaces) bytes) ≡ flat_map spaces_text bytes
 argument_text q [] before = refl
 argument_text q (b ∷ bytes) before = ap (λ t. spaces_text b ++ t) (argument_text q bytes (before ++ spaces_text b))

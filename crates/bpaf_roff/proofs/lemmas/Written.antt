@@ -28,7 +28,7 @@ module _ (q : Apostrophes) (label : Escape) (before bytes : List ℕ) where
   pub front_text_more : (i : ℕ) → i < length bytes → front_text (i + 1) ≡ front_text i ++ byte_text q (before ++ front_text i) label (get_or bytes i 0)
   front_text_more i lt = ap (text_after q before) (front_more i lt) ∙ text_after-push q before (front i) (Byte label (get_or bytes i 0))
 
--- Signs that are written behind others: of what stands before them only counts whether it ends a line.
+-- Signs that are written after others: of what stands before them it only counts whether it ends a line.
 module _ (q : Apostrophes) (before : List ℕ) (xs ys : List Sign) (y : Bool) (e : y ≡ is_line_start (before ++ text_after q before xs)) where
   text_on : text_after q before xs ++ text_after q (written y) ys ≡ text_after q before (xs ++ ys)
   text_on = ap (λ t. text_after q before xs ++ t) (sym (text_after-written q ys (before ++ text_after q before xs) y e)) ∙ sym (text_after-append q before xs ys)
@@ -57,7 +57,7 @@ pub AllByRecursion-push : {X : Type 0} (P : X → Type 0) (xs : List X) (x : X) 
 AllByRecursion-push P [] x all here = (here, tt)
 AllByRecursion-push P (y ∷ xs) x all here = (all.0, AllByRecursion-push P xs x all.1 here)
 
--- A piece behind a text of which is known whether it ends a line.
+-- A piece after a text of which it is known whether it ends a line.
 module _ (q : Apostrophes) (old new : List ℕ) (p : Piece Escape) (x : Bool) (e : x ≡ is_line_start old) (is : new ≡ old ++ text_after q (written x) (signs_of p)) where
   pub piece_on : new ≡ old ++ text_after q old (signs_of p)
   piece_on = is ∙ ap (λ t. old ++ t) (sym (text_after-written q (signs_of p) old x e))
@@ -68,7 +68,7 @@ module _ (q : Apostrophes) (old new : List ℕ) (p : Piece Escape) (x : Bool) (e
   pub piece_utf8 : IsUtf8 old → IsUtf8 p.text → IsUtf8 new
   piece_utf8 h k = rw is (IsUtf8-append old (text_after q (written x) (signs_of p)) h (piece_text q p (written x) k))
 
--- ---- a text that is gone on with
+-- ---- a text that is continued
 
 after_preamble : (q : Apostrophes) (t : List ℕ) → is_line_start t ≡ is_line_start (preamble_for q ++ t)
 after_preamble q t = grind (arith, is_line_start-after)
@@ -77,7 +77,7 @@ one_written : (q : Apostrophes) (ps : List (Piece Escape)) (p : Piece Escape) �
 unfolding with_piece
 one_written q ps p = grind (arith, text_after-written, after_preamble, append-nil, renderings_go_on)
 
--- Pieces that are written behind the text of others come to the text of all.
+-- Pieces that are written after the text of others come to the text of all.
 pub written_on : (q : Apostrophes) (ps more : List (Piece Escape)) → with_written (text_of q ps) more ≡ text_of q (ps ++ more)
 written_on q ps [] = rw (append-nil ps) refl
 written_on q ps (p ∷ more) = rw (one_written q ps p, written_on q (ps ++ p ∷ []) more, append_assoc ps (p ∷ []) more) refl

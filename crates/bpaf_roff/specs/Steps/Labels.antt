@@ -20,8 +20,8 @@ module _ {T : Type 0} where
       (at ≤ l.end) × (l.end - at ≤ length payload) × IsUtf8 (take (l.end - at) payload)
       × Cuts ls l.end (drop (l.end - at) payload)
 
-  -- the labels with one put last, whose text ends at a place: the last one lengthened if that is to be and the labels
-  -- are equal
+  -- the labels with one appended whose text ends at a place: the last one is lengthened if squashing is on and the
+  -- labels are equal
   abbrev pub followed_by : (T → T → Bool) → Bool → Label T → T → ℕ → List (Label T)
   followed_by eq squash l t end =
       if squash && eq l.label t then record l { end = end } ∷ [] else l ∷ record { end = end; label = t } ∷ []
@@ -31,7 +31,7 @@ module _ {T : Type 0} where
   with_label eq squash (l ∷ []) t end = followed_by eq squash l t end
   with_label eq squash (l ∷ m ∷ ls) t end = l ∷ with_label eq squash (m ∷ ls) t end
 
-  -- the labels, of which the last ends at a place
+  -- the labels, the last of which ends at a place
   abbrev pub ending_at : ℕ → List (Label T) → List (Label T)
   ending_at end [] = []
   ending_at end (l ∷ []) = record l { end = end } ∷ []
@@ -50,7 +50,7 @@ module _ {T : Type 0} where
   abbrev pub AreClones : (T → T → Type 0) → List (Label T) → List (Label T) → Type 0
   AreClones clones = AllZip (λ l m. (m.end ≡ l.end) × clones l.label m.label)
 
-  -- clones of labels put last, moved on
+  -- clones of labels appended, moved on
   pub record EndsInClones (clones : T → T → Type 0) (labels more : List (Label T)) (by : ℕ)
       (new : List (Label T)) : Type 0 where
     pub copies : List (Label T)

@@ -1,4 +1,4 @@
--- What functions that may stop halfway keep.
+-- What functions keep that may fail halfway.
 use Rattle.std.specs.Prelude.{◌≡◌, ◌⊎◌, ℕ, ◌+◌, ◌-◌, ◌<◌, Bool, true, false, not, ◌&&◌, ◌||◌, ◌==◌, List, [], ◌∷◌, length, map, take, slice_index, if◌then◌else◌}
 use Rattle.bpaf_roff.specs.Escaping.{Byte, apostrophe, backslash, dash, dot, newline, text_after}
 use Rattle.bpaf_roff.specs.Roff.{Script}
@@ -14,8 +14,8 @@ KeepsFront old new = take (length old) new ≡ old
 abbrev pub OnlyAdds : Script → Script → Type 0
 OnlyAdds old new = record new { pieces = take (length old.pieces) new.pieces } ≡ old
 
--- some bytes that were written before, after which the output is at a line start or not: nothing, or a byte that is no
--- newline
+-- some bytes that were written before, after which the output is at a line start or not: nothing, or a byte that is not
+-- a newline
 abbrev pub written : Bool → List ℕ
 written true = []
 written false = 0 ∷ []
@@ -24,7 +24,7 @@ written false = 0 ∷ []
 abbrev pub is_plain : ℕ → Bool
 is_plain b = not (b == backslash) && not (b == dash) && not (b == dot) && not (b == apostrophe)
 
--- a plain text is written under it
+-- plain text has this label
 abbrev pub IsText : Escape → Type 0
 IsText label = label ≡ Special ⊎ label ≡ SpecialNoNewline
 
@@ -32,14 +32,14 @@ IsText label = label ≡ Special ⊎ label ≡ SpecialNoNewline
 abbrev pub StayUnder : Escape → List ℕ → Type 0
 StayUnder label bytes = (q : Apostrophes) (before : List ℕ) → text_after q before (map (Byte label) bytes) ≡ bytes
 
--- How a byte of a plain text is written behind another one: 1 as it is, 2 behind a backslash, 3 in a way of its own.
--- That is so of an apostrophe, and of a dot at a line start.
+-- How a byte of a plain text is written after another one: 1 as it is, 2 after a backslash, 3 in a way of its own, as
+-- an apostrophe is, and a dot at a line start.
 abbrev pub mark : ℕ → ℕ → ℕ
 mark before b =
     1 + (if b == apostrophe || (b == dot && before == newline) then 2 else 0)
     + (if b == backslash || b == dash then 1 else 0)
 
--- the mark of a byte of these, or 3
+-- the mark of one of these bytes, or 3
 abbrev pub IsMark : List ℕ → ℕ → ℕ → Type 0
 IsMark bytes i m = (m ≡ 3) ⊎ ((0 < i) × (m ≡ mark (slice_index bytes (i - 1)) (slice_index bytes i)))
 

@@ -35,7 +35,7 @@ fn write_argument<A: Allocator>(out: &mut Vec<u8, A>, bytes: &[u8]) -> Result<()
     Ok(())
 }
 
-// Inlined, since the loop over the bytes is for one label then.
+// Inlined, so that the loop over the bytes is compiled for one label.
 #[inline(always)]
 fn write_text<A: Allocator>(
     out: &mut Vec<u8, A>,
@@ -52,7 +52,7 @@ fn write_text<A: Allocator>(
     out.extend_from_slice(&room[..end])
 }
 
-// The newline before a piece that begins a line. Answers whether a line starts there.
+// The newline before a piece that begins a line. Returns whether a line starts there.
 fn write_break<A: Allocator>(out: &mut Vec<u8, A>, context: Context) -> Result<bool, AllocError>
     ensures ok { OnOk result (out.new.items ≡ out.old.items ++ text_in context (breaks context.label)) }
     ensures line_start { IfOk result (λ after. after ≡ ends_in_line_start context (breaks context.label)) }
@@ -71,8 +71,8 @@ fn write_break<A: Allocator>(out: &mut Vec<u8, A>, context: Context) -> Result<b
     }
 }
 
-// A text is copied whole where its bytes are written as they are. No text in which newlines are stripped is looked at
-// for that, since these are short.
+// A text is copied whole where its bytes are written as they are. A text whose newlines are stripped is not tested for
+// that, since such texts are short.
 #[inline(always)]
 fn write_bytes<A: Allocator>(
     out: &mut Vec<u8, A>,
@@ -115,7 +115,7 @@ fn write_bytes<A: Allocator>(
     }
 }
 
-// Answers whether a line starts after the block. Inlined, since the loops know then how many bytes a whole block has.
+// Returns whether a line starts after the block. Inlined, so that the loops know how many bytes a whole block has.
 #[inline(always)]
 fn write_block<A: Allocator>(
     out: &mut Vec<u8, A>,
@@ -132,7 +132,8 @@ fn write_block<A: Allocator>(
     Ok(starts_line(context, block))
 }
 
-/// Answers whether a line starts after the piece. The room is for what blocks become: to clear it for each would take time.
+/// Returns whether a line starts after the piece. What blocks become goes through `room`, which is passed in since to
+/// clear it for each piece would take time.
 #[inline(always)]
 pub(crate) fn write_piece<A: Allocator>(
     out: &mut Vec<u8, A>,
@@ -174,8 +175,8 @@ pub(crate) fn write_piece<A: Allocator>(
     Ok(after)
 }
 
-/// Puts the bytes of each piece last, as from a line start. An error comes where a growth was
-/// refused, and the bytes are then those that were there.
+/// Appends the bytes of each piece, as from a line start. An error comes where an allocation failed; the bytes are then
+/// those that were there.
 pub fn escape<'a, I: Iterator<Item = (&'a Escape, &'a str)> + Drop, A: Allocator>(
     items: I,
     out: &mut Vec<u8, A>,

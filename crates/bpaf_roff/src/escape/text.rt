@@ -1,5 +1,5 @@
-//! What the bytes of a plain text become, put into a room on the stack. It goes from there to the output at once, since
-//! each push to the output asks whether there is space.
+//! What the bytes of a plain text become, first written to a room on the stack. It is copied to the output at once,
+//! since each push to the output asks whether there is space.
 
 ghost use Rattle.std.specs.Prelude.{◌≡◌, ◌<◌, ◌≤◌, ◌+◌, ◌++◌, ◌==◌, [], ◌∷◌, List, ℕ, map, take, length, slice_index};
 ghost use Rattle.std.specs.Prelude.{if◌then◌else◌};
@@ -10,19 +10,19 @@ ghost use Rattle.bpaf_roff.specs.Steps.Contexts.{byte_text_in, bytes_in, ends_in
 
 use crate::escape::{Apostrophes, Escape};
 
-/// How many bytes are looked at together: one, and 64 that are marked by what stands before them.
+/// How many bytes are looked at together: one, and 64 that are marked by the bytes before them.
 pub const BLOCK: usize = 65;
 
-/// What a block becomes at most: `\&\*(Aq` for each byte.
+/// How many bytes a block becomes at most: `\&\*(Aq` for each byte.
 pub const ROOM: usize = 7 * BLOCK;
 
-/// What the bytes of a text become depends on it.
+/// What the form of the bytes of a text depends on.
 #[derive(Clone, Copy)]
 pub struct Context {
     pub apostrophes: Apostrophes,
     /// Whether the output is at a line start before the text.
     pub at_line_start: bool,
-    /// What the text stands under.
+    /// The label of the text.
     pub label: Escape,
 }
 
@@ -56,7 +56,7 @@ fn is_plain(byte: u8) -> bool
     byte != b'\\' && byte != b'-' && byte != b'.' && byte != b'\''
 }
 
-/// Whether all of these are.
+/// Whether all bytes are written as they are in a plain text.
 #[inline(always)]
 pub fn are_plain(bytes: &[u8]) -> bool
     ensures { result ≡ list_all is_plain bytes.now }
@@ -69,10 +69,10 @@ pub fn are_plain(bytes: &[u8]) -> bool
     true
 }
 
-// The mark of a byte that is written neither as it is nor as a backslash and itself, or that may be.
+// The mark of a byte that is written neither as it is nor as a backslash and itself. It may stand for any other mark.
 const ODD: u8 = 3;
 
-// How a byte is written behind another one: 1 stands for as it is, and 2 for behind a backslash.
+// How a byte is written after another one: 1 stands for as it is, and 2 for after a backslash.
 #[inline(always)]
 fn mark(before: u8, byte: u8) -> u8
     ensures { result ≡ mark before byte }
@@ -82,7 +82,7 @@ fn mark(before: u8, byte: u8) -> u8
     1 + 2 * u8::from(is_odd) + u8::from(is_escaped)
 }
 
-// Marks all of these but the first, many at once.
+// Marks all bytes except the first, many at once.
 #[inline(always)]
 fn mark_all(marks: &mut [u8; BLOCK], bytes: &[u8])
     requires short { length bytes.now ≤ BLOCK }
@@ -94,7 +94,7 @@ fn mark_all(marks: &mut [u8; BLOCK], bytes: &[u8])
     }
 }
 
-// The byte that a text shows for this one.
+// The byte that is shown for this one.
 #[inline(always)]
 fn shown(label: Escape, byte: u8) -> u8
     requires text { IsText label }
@@ -108,7 +108,7 @@ fn shown(label: Escape, byte: u8) -> u8
     byte
 }
 
-// Puts a byte at a place, and answers the place behind it, as those below do.
+// Puts a byte at a place, and returns the place after it, as those below do.
 #[inline(always)]
 fn put(room: &mut [u8; ROOM], at: usize, byte: u8) -> usize
     requires fits { at < ROOM }
@@ -157,8 +157,8 @@ fn put_guard(room: &mut [u8; ROOM], at: usize, at_line_start: bool, byte: u8) ->
     at
 }
 
-// A byte with a backslash before it where it needs one. That one is put in either case, and the byte over it or behind
-// it: a branch on the byte would often be guessed wrong.
+// A byte with a backslash before it where it needs one. The backslash is put in either case, and the byte over it or
+// after it: a branch on the byte would often be guessed wrong.
 #[inline(always)]
 fn put_escaped(room: &mut [u8; ROOM], at: usize, byte: u8) -> usize
     requires fits { at + 2 ≤ ROOM }
@@ -209,8 +209,8 @@ fn put_byte(room: &mut [u8; ROOM], at: usize, context: Context, bytes: &[u8], in
     put_sign(room, at, context.apostrophes, line_start, byte)
 }
 
-// A byte with a backslash before it where its mark is 2, put as `put_escaped` puts it. Its mark is how many bytes that
-// are, so that the next place is one sum.
+// A byte with a backslash before it where its mark is 2, put as `put_escaped` puts it. The mark is the number of bytes
+// that are put, so that the next place is one sum.
 #[inline(always)]
 fn put_marked(room: &mut [u8; ROOM], at: usize, mark: u8, byte: u8) -> usize
     requires some { 0 < mark }
@@ -226,7 +226,7 @@ fn put_marked(room: &mut [u8; ROOM], at: usize, mark: u8, byte: u8) -> usize
     next
 }
 
-// Puts what the byte at an index becomes, by its mark where that says it.
+// Puts what the byte at an index becomes, by its mark where the mark is enough.
 #[inline(always)]
 fn put_at(
     room: &mut [u8; ROOM],
@@ -249,7 +249,7 @@ fn put_at(
     put_marked(room, at, mark, shown(context.label, bytes[index]))
 }
 
-/// Puts what a text becomes at the start of the room, and answers how many bytes these are. Two bytes are put at a time,
+/// Puts what a text becomes at the start of the room, and returns how many bytes that is. Two bytes are put at a time,
 /// since the steps of the loop itself cost a third of what a byte does.
 #[inline(always)]
 #[tactic(auto, using(crate::proofs::lemmas::Written::front_text_more))]

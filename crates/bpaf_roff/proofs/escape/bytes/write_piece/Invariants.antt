@@ -5,7 +5,7 @@ use Rattle.bpaf_roff.specs.Steps.Output.{KeepsFront}
 use Rattle.bpaf_roff.specs.Steps.Contexts.{bytes_in, ends_in_line_start, text_in}
 use Rattle.bpaf_roff.proofs.escape.bytes.write_piece.Given as goal
 
--- what is written and what the rest comes to are the whole piece
+-- what is written, and what the rest comes to, make up the whole piece
 abbrev pub invariant-loop-rest : goal.invariant-loop-rest
 invariant-loop-rest g l =
     let how = l.context in

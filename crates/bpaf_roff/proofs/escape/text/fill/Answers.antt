@@ -1,4 +1,4 @@
--- Two bytes more are put, or the last one.
+-- Two more bytes are put, or the last one.
 use Rattle.std.proofs.Common.{◌≡◌, ◌+◌, ◌<◌, ◌++◌, ◌∙◌, List, ℕ, ap, sym, arith, get_or, length, map, take}
 use Rattle.std.proofs.Math.Seq.{take-length}
 use Rattle.bpaf_roff.specs.Escaping.{Byte, byte_text, text_after}
