@@ -1,4 +1,4 @@
--- What the calls on a tree promise. `Steps`: how the code comes to it.
+-- What the calls on a tree promise. `Steps` says how the code comes to it.
 pub mod Normal
 pub mod Alternatives
 pub mod Sequences

@@ -25,7 +25,7 @@ IsFormOf (short c) text = text ≡ short_text c
 IsFormOf (long n) text = text ≡ long_text n
 IsFormOf (both c n) text = (text ≡ short_text c) ⊎ (text ≡ long_text n)
 
--- the first short name and the first long one, where there is one at all
+-- the first short name and the first long one, where there are any
 abbrev pub first_names : List ℕ → List (List ℕ) → Option Name
 first_names [] [] = None
 first_names [] (n ∷ ns) = Some (long n)

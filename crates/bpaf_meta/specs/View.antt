@@ -21,7 +21,7 @@ abbrev pub trees_in : List Tree → Trees
 trees_in [] = no_trees
 trees_in (t ∷ ts) = tree t (trees_in ts)
 
--- one level, with what is inside already seen
+-- one level, where the inner ones are already seen
 abbrev pub leaf_step : {A : Type 0} → Item-F A Leaf Tree Head → Leaf
 leaf_step (Item-F.Any m a h) = any m a h
 leaf_step (Item-F.Positional m h) = positional m.0.now h

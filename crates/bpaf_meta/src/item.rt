@@ -54,7 +54,7 @@ pub enum Item<A: Allocator = Global> {
         env: Option<&'static str>,
         help: Option<Doc<A>>,
     },
-    /// A name with a value behind it.
+    /// A name with a value after it.
     Argument {
         name: ShortLong,
         shorts: Vec<char, A>,
@@ -65,8 +65,7 @@ pub enum Item<A: Allocator = Global> {
 }
 
 impl<A: Allocator> Item<A> {
-    /// Whether the item is taken by its place: a positional value, a command, and an `Any` that does not stand
-    /// anywhere.
+    /// Whether the item is taken by its place: a positional value, a command, or an `Any` without `anywhere`.
     pub fn is_pos(&self) -> bool
         ensures { result ≡ is_positional (leaf_of self.now) }
     {
@@ -77,7 +76,7 @@ impl<A: Allocator> Item<A> {
         }
     }
 
-    /// Leaves one name of a flag or an argument that has both: the short one for true, the long one for false.
+    /// Keeps one name of a flag or an argument that has both: the short one for true, the long one for false.
     pub fn normalize(&mut self, short: bool)
         ensures { leaf_of self.new ≡ item_form short (leaf_of self.old) }
     {
@@ -90,7 +89,7 @@ impl<A: Allocator> Item<A> {
 }
 
 impl<A: Allocator + Copy> Item<A> {
-    /// The item as a tree, inside `Optional` for false. After `AllocError` the item is dropped.
+    /// The item as a tree, inside `Optional` if not required. After `AllocError` the item is dropped.
     pub fn required(self, alloc: A, required: bool) -> Result<Meta<A>, AllocError>
         ensures { IfOk result (λ m. tree_of m
             ≡ (if required then item (leaf_of self) else optional (item (leaf_of self)))) }
@@ -190,7 +189,7 @@ impl ShortLong {
         }
     }
 
-    /// Leaves one name of `Both`: the short one for true, the long one for false.
+    /// Keeps one name of `Both`: the short one for true, the long one for false.
     pub fn normalize(&mut self, short: bool)
         ensures { name_of self.new ≡ name_form short (name_of self.old) }
     {
@@ -214,7 +213,7 @@ impl ShortLong {
         }
     }
 
-    /// The first of each list, `NoName` where both are empty.
+    /// The first of each list; `NoName` where both are empty.
     pub fn from_names(shorts: &[char], longs: &[&'static str]) -> Result<ShortLong, NoName>
         ensures { option_map name_of (result_ok result) ≡ first_names shorts.now (map (λ long. long.now) longs.now) }
     {

@@ -1,4 +1,4 @@
-//! The tree of a command line, and what a user is told of it.
+//! The tree of a command line, and how a usage line shows it.
 #![tactic(auto)]
 
 pub mod item;

@@ -30,14 +30,14 @@ pub enum Meta<A: Allocator = Global> {
     Or(Vec<Meta<A>, A>),
     /// It may be left out.
     Optional(Box<Meta<A>, A>),
-    /// Shown between parentheses where it has several parts.
+    /// Shown in parentheses where it has several parts.
     Required(Box<Meta<A>, A>),
     /// Its items stand next to each other. A help page lists them as a block.
     Adjacent(Box<Meta<A>, A>),
     Item(Box<Item<A>, A>),
     /// Once or more.
     Many(Box<Meta<A>, A>),
-    /// A group of the help page, under this title.
+    /// A group of the help page, with this title.
     Subsection(Box<Meta<A>, A>, Box<Doc<A>, A>),
     /// On the help page this note follows its items.
     Suffix(Box<Meta<A>, A>, Box<Doc<A>, A>),
@@ -45,7 +45,7 @@ pub enum Meta<A: Allocator = Global> {
     Skip,
     /// A usage line shows this document in its place, and nothing where the document has no parts.
     CustomUsage(Box<Meta<A>, A>, Box<Doc<A>, A>),
-    /// It has to stand behind `--`.
+    /// It has to stand after `--`.
     Strict(Box<Meta<A>, A>),
 }
 
@@ -66,8 +66,8 @@ impl<A: Allocator> Default for Meta<A> {
 pub struct MetaInfo<'a, A: Allocator = Global>(pub &'a Meta<A>);
 
 impl<A: Allocator> Meta<A> {
-    /// The item that stands first where one stands for all: an item itself, of an `And` that of its first part,
-    /// none of `Skip` and of `Or`, and else that of the inner tree.
+    /// The first item of the tree: an item itself, for an `And` that of its first part, none for `Skip` and `Or`, and
+    /// otherwise that of the inner tree.
     pub fn first_item(&self) -> Option<&Item<A>>
         ensures { option_map (λ i. leaf_of i.now) result ≡ first_item (tree_of self.now) }
     {
@@ -169,10 +169,10 @@ fn clone_parts<A: Allocator + Copy>(parts: &Vec<Meta<A>, A>) -> Result<Vec<Meta<
 }
 
 impl<A: Allocator + Copy> Meta<A> {
-    /// The normal form of the tree, for a usage line or outside: made beside it, so that nothing in it changes.
+    /// The normal form of the tree, for a usage line or for elsewhere. It is a new tree; this one does not change.
     ///
-    /// No `Adjacent`, `Subsection` or `Suffix` is left, and one name of each item. What is in no usage line is
-    /// left out: an answer `Skip` says that nothing is shown. An `AllocError` says that an allocation failed.
+    /// It has no `Adjacent`, `Subsection` or `Suffix`, and one name for each item. What no usage line shows is left
+    /// out: `Skip` as the result says that nothing is shown. An `AllocError` says that an allocation failed.
     pub fn normalized(&self, for_usage: bool) -> Result<Meta<A>, AllocError>
         ensures form { IfOk result (λ m. tree_of m ≡ normalized for_usage (tree_of self.now)) }
         ensures shape { IfOk result (λ m. HasUsageShape for_usage (tree_of m)) }
@@ -186,7 +186,7 @@ impl<A: Allocator + Copy> Meta<A> {
         self.form_of_table(for_usage)
     }
 
-    // The tree of the table, of which all else that `normalized` ensures follows.
+    // The tree of the table, from which the other clauses of `normalized` follow.
     fn form_of_table(&self, for_usage: bool) -> Result<Meta<A>, AllocError>
         ensures { IfOk result (λ m. tree_of m ≡ normalized for_usage (tree_of self.now)) }
     {
@@ -196,7 +196,7 @@ impl<A: Allocator + Copy> Meta<A> {
         }
     }
 
-    // The allocator of the tree, which only `Skip` has not.
+    // The allocator of the tree. Only `Skip` has none.
     pub(crate) fn allocator(&self) -> Option<A>
         ensures { IfNone result (tree_of self.now ≡ skip) }
     {
@@ -217,7 +217,7 @@ impl<A: Allocator + Copy> Meta<A> {
 }
 
 impl<A: Allocator + Copy> Meta<A> {
-    /// The alternatives of both: an `Or` gives its parts, `Skip` none, any other tree itself. None is `Skip`, one
+    /// The alternatives of both: an `Or` gives its parts, `Skip` none, and any other tree itself. None give `Skip`, one
     /// stands alone, more are an `Or`. After `AllocError` both trees are dropped.
     #[tactic(auto, using(crate::proofs::lemmas::Normal::Parts::trees_of_append))]
     pub fn or(self, other: Meta<A>) -> Result<Meta<A>, AllocError>
@@ -255,7 +255,7 @@ fn alone<A: Allocator>(alloc: A, meta: Meta<A>) -> Result<Vec<Meta<A>, A>, Alloc
     Ok(parts)
 }
 
-// None is `Skip`, one stands alone, more are an `Or`.
+// None give `Skip`, one stands alone, more are an `Or`.
 fn one_of<A: Allocator>(mut parts: Vec<Meta<A>, A>) -> Meta<A>
     ensures { tree_of result ≡ choice_form (trees_of parts.items) }
 {

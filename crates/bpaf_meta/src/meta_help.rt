@@ -1,4 +1,4 @@
-//! What goes with an item and with a command: names of values, and texts around a help page.
+//! What belongs to items and commands: names of values, and texts around a help page.
 ghost use Rattle.std.specs.Prelude.{◌≡◌, IfOk};
 ghost use Rattle.bpaf_meta.specs.View.{head_of};
 
@@ -6,7 +6,7 @@ use crate::meta::Meta;
 use bpaf_doc::buffer::Doc;
 use std::alloc::{AllocError, Allocator, Global};
 
-/// The name of a value in a usage line, as `FILE`.
+/// The name of a value in a usage line, for example `FILE`.
 #[derive(Clone, Copy, Debug, PartialEq, Eq, PartialOrd, Ord)]
 pub struct Metavar(pub &'static str);
 
@@ -15,7 +15,7 @@ pub struct Metavar(pub &'static str);
 #[derive(Drop)]
 #[derive_where(Debug)]
 pub struct Info<A: Allocator = Global> {
-    /// What the program does: the page begins with it.
+    /// What the program does. The page begins with it.
     pub descr: Option<Doc<A>>,
     /// Stands between the usage and the lists.
     pub header: Option<Doc<A>>,
@@ -26,7 +26,7 @@ pub struct Info<A: Allocator = Global> {
     pub help: Meta<A>,
 }
 
-/// No text, and no flag that asks for help.
+/// No texts, and no flags that ask for help.
 impl<A: Allocator> Default for Info<A> {
     ghost use Rattle.std.specs.Prelude.{◌≡◌, None};
     ghost use Rattle.bpaf_meta.specs.Content.{head, skip};

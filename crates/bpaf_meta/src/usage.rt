@@ -21,10 +21,10 @@ use bpaf_doc::buffer::{Block, Doc, Style, Token};
 use std::alloc::{AllocError, Allocator};
 use unicode::properties::is_uppercase;
 
-// What a public call wrote before an allocation failed is taken back. The functions below them leave what they wrote.
+// A public call takes back what it wrote before an allocation failed. The functions below leave what they wrote.
 
-/// Writes `-` and the short name, or `--` and the long name where there is one. After `AllocError` the document is
-/// as it was.
+/// Writes a name: `--` and the long name if it has one, otherwise `-` and the short name. After `AllocError` the
+/// document is as it was.
 pub fn write_shortlong<A: Allocator>(doc: &mut Doc<A>, name: &ShortLong) -> Result<(), AllocError>
     ensures ok { OnOk result (doc.new ≡ with_writes doc.old (name_writes (name_of name.now))) }
     ensures err { OnErr result (doc.new ≡ doc.old) }
@@ -35,8 +35,8 @@ pub fn write_shortlong<A: Allocator>(doc: &mut Doc<A>, name: &ShortLong) -> Resu
     doc.settle(before, written)
 }
 
-/// Writes the name of a value: bare where it is made of uppercase characters, ASCII digits, `-` and `_` alone, and
-/// else between `<` and `>`. After `AllocError` the document is as it was.
+/// Writes the name of a value: bare where it has only uppercase characters, ASCII digits, `-` and `_`, and otherwise
+/// between `<` and `>`. After `AllocError` the document is as it was.
 pub fn metavar<A: Allocator>(doc: &mut Doc<A>, name: Metavar) -> Result<(), AllocError>
     ensures ok { OnOk result (doc.new ≡ with_writes doc.old (metavar_writes name.0.now)) }
     ensures err { OnErr result (doc.new ≡ doc.old) }
@@ -47,9 +47,8 @@ pub fn metavar<A: Allocator>(doc: &mut Doc<A>, name: Metavar) -> Result<(), Allo
     doc.settle(before, written)
 }
 
-/// Writes an item: the name of a flag, the name of an argument with `=` and its value, the name of a positional
-/// value, the document of an `Any`, and `COMMAND ...` for each command. After `AllocError` the document is as it
-/// was.
+/// Writes an item: the name of a flag, the name of an argument with `=` and its value, the name of a positional value,
+/// the document of an `Any`, or `COMMAND ...` for any command. After `AllocError` the document is as it was.
 pub fn write_item<A: Allocator, B: Allocator>(
     doc: &mut Doc<A>,
     item: &Item<B>,
@@ -63,8 +62,8 @@ pub fn write_item<A: Allocator, B: Allocator>(
     doc.settle(before, written)
 }
 
-/// Writes the normal form of a tree, between the marks of a `Mono` block (`docs/tree.md`). The form takes memory
-/// where the tree stands. After `AllocError` the document is as it was.
+/// Writes the normal form of a tree, between the marks of a `Mono` block (`docs/tree.md`). The form takes its memory
+/// from the allocator of the tree. After `AllocError` the document is as it was.
 pub fn write_meta<A: Allocator, B: Allocator + Copy>(
     doc: &mut Doc<A>,
     meta: &Meta<B>,
@@ -78,7 +77,7 @@ pub fn write_meta<A: Allocator, B: Allocator + Copy>(
     write_form(doc, &form)
 }
 
-/// `write_meta` of the tree, with the same error.
+/// The same as `write_meta`, with the same error.
 pub fn meta<A: Allocator, B: Allocator + Copy>(
     doc: &mut Doc<A>,
     meta: MetaInfo<'_, B>,
@@ -169,7 +168,7 @@ fn put_item<A: Allocator, B: Allocator>(doc: &mut Doc<A>, item: &Item<B>) -> Res
     }
 }
 
-// Writes an item under the one name that it has in a usage line for true, or outside for false.
+// Writes an item with the one name that it is shown by: the one for a usage line for true, the other for false.
 fn put_shown<A: Allocator, B: Allocator>(
     doc: &mut Doc<A>,
     item: &Item<B>,

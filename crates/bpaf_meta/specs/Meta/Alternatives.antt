@@ -1,7 +1,7 @@
 -- The alternatives of two trees.
 use Rattle.bpaf_meta.specs.Content.{Tree, or_of, skip, Trees, no_trees, tree}
 
--- those of an Or are its parts, Skip has none, any other is its own
+-- those of an Or are its parts, Skip has none, and any other tree is its own alternative
 abbrev pub alternatives : Tree → Trees
 alternatives (or_of ts) = ts
 alternatives skip = no_trees
@@ -12,7 +12,7 @@ abbrev pub trees_then : Trees → Trees → Trees
 trees_then no_trees us = us
 trees_then (tree t ts) us = tree t (trees_then ts us)
 
--- none is Skip, one stands alone, more are an Or
+-- none give Skip, one stands alone, more are an Or
 abbrev pub choice_form : Trees → Tree
 choice_form no_trees = skip
 choice_form (tree t no_trees) = t

@@ -13,7 +13,7 @@ is_positional (command n c h t i) = true
 is_positional (flag n s e h) = false
 is_positional (argument n s m e h) = false
 
--- an item itself; of an And that of its first part; none of an Or; else that of the inner tree
+-- an item itself; for an And that of its first part; none for an Or; else that of the inner tree
 abbrev mutual
   pub first_item : Tree → Option Leaf
   first_item (and_of ts) = first_item_of_parts ts
@@ -87,7 +87,7 @@ abbrev pub at_least_empty : List Line → List Line
 at_least_empty [] = [] ∷ []
 at_least_empty (line ∷ lines) = line ∷ lines
 
--- the lines of a scope whose items are numbered from n on: one for each choice of a branch of each Or; an Adjacent
+-- the lines of a scope whose items are numbered from n on: one for each way to pick a branch of each Or; an Adjacent
 -- gives its items only if its first one is positional
 abbrev mutual
   pub lines_from : ℕ → Tree → List Line
@@ -119,7 +119,7 @@ abbrev pub Scope : Type 0
 Scope = ℕ × Tree
 
 -- the scopes inside a tree: each command's own tree, and the inner tree of each Adjacent whose first item is named;
--- nothing is reached in an Adjacent without first item
+-- the inside of an Adjacent without a first item is not reached
 abbrev mutual
   pub scopes_within : ℕ → Tree → List Scope
   scopes_within n (and_of ts) = scopes_within_parts n ts

@@ -34,12 +34,12 @@ is_command_tree (item (command n c h t i)) = true
 is_command_tree (subsection t d) = is_command_tree t
 is_command_tree t = false
 
--- the parts that are no commands
+-- the parts that are not commands
 abbrev pub without_commands : Trees → Trees
 without_commands no_trees = no_trees
 without_commands (tree t ts) = if is_command_tree t then without_commands ts else tree t (without_commands ts)
 
--- the parts, of the commands only the first
+-- the parts, but only the first of the commands
 abbrev pub with_first_command : Trees → Trees
 with_first_command no_trees = no_trees
 with_first_command (tree t ts) = tree t (if is_command_tree t then without_commands ts else with_first_command ts)
@@ -65,7 +65,7 @@ abbrev pub many_form : Tree → Tree
 many_form skip = skip
 many_form t = many t
 
--- in usage Skip where the document has no parts, else as it was; outside usage the inner tree
+-- in usage Skip where the document has no parts, else unchanged; outside usage the inner tree
 abbrev pub custom_usage_form : Bool → Tree → List Part → Tree
 custom_usage_form false t d = t
 custom_usage_form true t [] = skip
@@ -145,7 +145,7 @@ abbrev mutual
   or_state s final no_trees = final
   or_state s final (tree t ts) = or_state s (state_after final (state_out s t)) ts
 
--- one outer Required taken off, then Required put around a bare Or
+-- one outer Required is removed, then Required is put around a bare Or
 abbrev pub outer_form : Tree → Tree
 outer_form (required (or_of ts)) = required (or_of ts)
 outer_form (required t) = t

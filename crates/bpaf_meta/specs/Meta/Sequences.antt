@@ -47,7 +47,7 @@ pub data Repeated (P : List Symbol → Type 0) : List Symbol → Type 0 where
   once : {w : List Symbol} → P w → Repeated P w
   again : {w : List Symbol} → (front back : List Symbol) → w ≡ front ++ back → P front → Repeated P back → Repeated P w
 
--- P where the test holds, and else Q
+-- P where the test holds, otherwise Q
 abbrev pub choice : Bool → Language → Language → Language
 choice true P Q = P
 choice false P Q = Q
@@ -56,8 +56,8 @@ abbrev pub has_no_parts : List Part → Bool
 has_no_parts [] = true
 has_no_parts (p ∷ d) = false
 
--- whether a tree has nothing to show: all its parts are hidden; no item is, and Skip is. In usage a custom usage is
--- where its document has no parts
+-- whether a tree has nothing to show, which is so where all its parts are hidden: no item is hidden, and Skip is. In
+-- usage a CustomUsage is hidden where its document has no parts
 abbrev mutual
   pub is_hidden : (usage : Bool) → Tree → Bool
   is_hidden u (and_of ts) = are_hidden u ts
@@ -109,7 +109,7 @@ abbrev mutual
 abbrev pub Same : Language → Language → Type 0
 Same P Q = (w : List Symbol) → P w ↔ Q w
 
--- one tree is hidden exactly where the other is, and else both show the same sequences
+-- one tree is hidden exactly where the other is, and otherwise both show the same sequences
 pub record ShowsSame (usage : Bool) (t v : Tree) : Type 0 where
   pub hidden : is_hidden usage t ≡ is_hidden usage v
   pub sequences : is_hidden usage v ≡ false → Same (Shows usage t) (Shows usage v)

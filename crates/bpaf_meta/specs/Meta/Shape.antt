@@ -2,7 +2,7 @@
 use Rattle.std.specs.Prelude.{Bool, IsTrue, ⊤, ◌⊎◌}
 use Rattle.bpaf_meta.specs.Content.{Name, both, Tree, and_of, or_of, optional, required, adjacent, item, many, subsection, suffix, skip, custom_usage, strict, Trees, no_trees, tree, Leaf, flag, argument}
 
--- where a tree stands: it is the whole; directly in a Strict or a CustomUsage; directly in a Required or an Optional;
+-- where a tree stands: as the whole; directly in a Strict or a CustomUsage; directly in a Required or an Optional;
 -- directly in an And, an Or or a Many
 pub data Place : Type 0 where
   whole : Place
@@ -41,7 +41,7 @@ HasOneName (flag n s e h) = IsOneName n
 HasOneName (argument n s m e h) = IsOneName n
 HasOneName l = ⊤
 
--- the usage shape of a tree that stands at a place; commands' own trees are not looked into
+-- the usage shape of a tree that stands at a place; commands' own trees are not looked at
 abbrev mutual
   pub HasShapeAt : (usage : Bool) → Place → Tree → Type 0
   HasShapeAt u p (and_of ts) = HasTwoParts ts × EachHasShape u ts
@@ -65,7 +65,7 @@ abbrev mutual
 abbrev pub HasUsageShape : (usage : Bool) → Tree → Type 0
 HasUsageShape u t = HasShapeAt u whole t
 
--- there is a Strict in the tree, commands' own trees aside
+-- there is a Strict in the tree, not counting commands' own trees
 abbrev mutual
   pub HasStrict : Tree → Type 0
   HasStrict (and_of ts) = SomeHasStrict ts
@@ -85,7 +85,7 @@ abbrev mutual
   SomeHasStrict no_trees = ⊥
   SomeHasStrict (tree t ts) = HasStrict t ⊎ SomeHasStrict ts
 
--- there is a CustomUsage in the tree, commands' own trees aside
+-- there is a CustomUsage in the tree, not counting commands' own trees
 abbrev mutual
   pub HasCustomUsage : Tree → Type 0
   HasCustomUsage (and_of ts) = SomeHasCustomUsage ts
@@ -105,8 +105,8 @@ abbrev mutual
   SomeHasCustomUsage no_trees = ⊥
   SomeHasCustomUsage (tree t ts) = HasCustomUsage t ⊎ SomeHasCustomUsage ts
 
--- a normal form has a Strict only if the tree has one; and if the tree has one, always outside usage, and in usage
--- unless it has a CustomUsage
+-- a normal form has a Strict only if the tree has one; and if the tree has one, so does the normal form, except
+-- perhaps in usage where the tree has a CustomUsage
 pub record KeepsStrict (usage : Bool) (t n : Tree) : Type 0 where
   pub none_added : HasStrict n → HasStrict t
   pub none_lost : (IsTrue usage → ¬ HasCustomUsage t) → HasStrict t → HasStrict n

@@ -1,4 +1,4 @@
--- How the code goes through a tree. Nobody has to believe it.
+-- How the code goes through a tree. This is internal.
 pub mod Forms
 pub mod Passes
 pub mod Walk

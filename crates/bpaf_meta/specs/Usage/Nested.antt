@@ -1,4 +1,4 @@
--- What holds of the documents that an item or a tree writes, as that they are well nested.
+-- What holds of the documents that an item or a tree writes, for example that they are well nested.
 use Rattle.std.specs.Prelude.{⊤, List}
 use Rattle.bpaf_doc.specs.Buffer.Parts.{Part, IsWellNested}
 use Rattle.bpaf_meta.specs.Content.{Tree, and_of, or_of, optional, required, adjacent, item, many, subsection, suffix, skip, custom_usage, strict, Trees, no_trees, tree, Leaf, any, positional, command, flag, argument}
@@ -11,7 +11,7 @@ HoldsDoc D (command n c h t i) = ⊤
 HoldsDoc D (flag n s e h) = ⊤
 HoldsDoc D (argument n s m e h) = ⊤
 
--- the metavars of each Any and the documents of each CustomUsage, commands' own trees aside
+-- the metavar of each Any and the document of each CustomUsage, not counting commands' own trees
 abbrev mutual
   pub HoldsDocs : (D : List Part → Type 0) → Tree → Type 0
   HoldsDocs D (and_of ts) = EachHoldsDocs D ts

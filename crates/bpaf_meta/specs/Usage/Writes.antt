@@ -14,7 +14,7 @@ use Rattle.bpaf_meta.specs.Meta.Normal.{normalized}
 abbrev pub is_bare_character : ℕ → Bool
 is_bare_character c = is_uppercase c || is_ascii_digit c || c == byte.dash || c == byte.underscore
 
--- a metavar of bare characters alone is written as it is, any other between `<` and `>`
+-- a metavar that is only bare characters is written as it is, any other between `<` and `>`
 abbrev pub metavar_writes : List ℕ → List Write
 metavar_writes name =
     if list_all is_bare_character (chars name) then metavar name ∷ []

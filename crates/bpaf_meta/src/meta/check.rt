@@ -12,11 +12,10 @@ use crate::meta::Meta;
 use std::alloc::Allocator;
 
 impl<A: Allocator> Meta<A> {
-    /// Whether each named item stands before the positional ones of its line. The `Err` is the first item that
-    /// does not, in tree order, which has the items of a command's own tree right behind the command. An
-    /// `Adjacent` that begins with a named item is checked alone, and so is the own tree of each command that is
-    /// reached; inside an `Adjacent` without a first item nothing is looked at (`docs/tree.md`). It takes no
-    /// memory.
+    /// Whether each named item stands before the positional ones of its line. `Err` has the first item that does not,
+    /// in tree order, where the items of a command's own tree come right after the command. An `Adjacent` that begins
+    /// with a named item is checked alone, and so is the own tree of each command that is reached. The inside of an
+    /// `Adjacent` without a first item is not checked (`docs/tree.md`). It takes no memory.
     pub fn positional_invariant_check(&self) -> Result<(), &Item<A>>
         ensures ok { OnOk result (IsWellPlaced (tree_of self.now)) }
         ensures err { IfErr result (λ i. IsFirstMisplaced (tree_of self.now) (leaf_of i.now)) }
@@ -28,9 +27,9 @@ impl<A: Allocator> Meta<A> {
     }
 }
 
-// Goes through a tree with a mark, whether a positional item was seen. Answers the mark afterwards. The tree's
-// first item is `known` where an `Adjacent` around it has looked for it: so each one is looked for once, however
-// many stand around it.
+// Goes through a tree. `seen` says whether a positional item was seen, and so does the answer for what comes next. The
+// tree's first item is `known` where an `Adjacent` around it has looked for it, so that it is looked for once, even
+// within several of them.
 #[cycle(walk)]
 fn walk<'a, A: Allocator>(
     meta: &'a Meta<A>,
@@ -66,7 +65,7 @@ fn walk<'a, A: Allocator>(
     }
 }
 
-// The first item of a tree, which is looked for where it is not known yet.
+// The first item of a tree, which is looked for unless it is known.
 fn first_of<'a, A: Allocator>(meta: &'a Meta<A>, known: Option<&'a Item<A>>) -> Option<&'a Item<A>>
     requires known { IsKnown known (first_item (tree_of meta.now)) }
     ensures { option_map (λ i. leaf_of i.now) result ≡ first_item (tree_of meta.now) }
@@ -109,7 +108,7 @@ fn walk_parts<'a, A: Allocator>(
     Ok(running)
 }
 
-// Each branch from the mark that came in; the mark afterwards is set if one sets it.
+// Each branch starts from the same mark; the mark afterwards is set if a branch sets it.
 #[cycle(walk)]
 fn walk_branches<A: Allocator>(branches: &Vec<Meta<A>, A>, seen: bool) -> Result<bool, &Item<A>>
     ensures { check_of result ≡ walked_branches (trees_of branches.now.items) seen seen }

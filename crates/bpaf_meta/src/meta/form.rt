@@ -1,5 +1,4 @@
-//! A tree in normal form over the items and documents of the tree that it is made of, so that nothing in these is
-//! copied.
+//! A tree in normal form that refers to the items and documents of the original tree, so that these are not copied.
 ghost use Rattle.std.specs.Prelude.{◌≡◌, IfOk};
 ghost use Rattle.bpaf_meta.specs.View.{tree_of, trees_of, leaf_of};
 ghost use Rattle.bpaf_meta.specs.Meta.Normal.{is_command_tree, item_form};
@@ -11,7 +10,7 @@ use crate::meta::Meta;
 use bpaf_doc::buffer::Doc;
 use std::alloc::{AllocError, Allocator};
 
-// The mark beside an item says which of two names it is shown by, as that of `Item::normalize`.
+// The mark beside an item says which of two names it is shown by, like the argument of `Item::normalize`.
 #[derive(Drop)]
 pub(crate) enum Form<'a, A: Allocator> {
     And(Vec<Form<'a, A>, A>),

@@ -1,4 +1,4 @@
-//! The normal form of a tree, made beside the tree, over the items and documents that stand in it.
+//! The normal form of a tree, which refers to the items and documents of that tree.
 ghost use Rattle.std.specs.Prelude.{◌≡◌, IfOk, OnOk, []};
 ghost use Rattle.bpaf_meta.specs.View.{tree_of, trees_of};
 ghost use Rattle.bpaf_meta.specs.Meta.Normal.{normal_form, state_out, and_form, or_form, optional_form};
@@ -49,7 +49,7 @@ impl State {
     }
 }
 
-/// The normal form of a tree, over its items and documents.
+/// The normal form of a tree, which refers to its items and documents.
 pub(crate) fn borrowed_form<'a, A: Allocator + Copy>(
     meta: &'a Meta<A>,
     for_usage: bool,
@@ -64,7 +64,7 @@ pub(crate) fn borrowed_form<'a, A: Allocator + Copy>(
     }
 }
 
-// The form of a tree. The state that comes in gives way to the one that comes out.
+// The form of a tree. The state that comes in is replaced by the one that comes out.
 #[cycle(normal)]
 fn normalize<'a, A: Allocator + Copy>(
     meta: &'a Meta<A>,
@@ -124,7 +124,7 @@ fn normalize_and<'a, A: Allocator + Copy>(
     Ok(kept)
 }
 
-// The parts of an `Or`, each from the state that came in, without those that are `Skip` and of the commands only
+// The parts of an `Or`, each from the state that came in, without those that are `Skip` and without the commands after
 // the first.
 #[cycle(normal)]
 fn normalize_or<'a, A: Allocator + Copy>(
@@ -176,7 +176,7 @@ fn guard<'a, A: Allocator + Copy>(
     }
 }
 
-// Puts a part last, unless it is `Skip`.
+// Appends a part, unless it is `Skip`.
 #[tactic(auto, using(crate::proofs::lemmas::Normal::Parts::parts_lemmas))]
 fn keep<'a, A: Allocator>(
     kept: &mut Vec<Form<'a, A>, A>,
@@ -191,7 +191,7 @@ fn keep<'a, A: Allocator>(
     Ok(())
 }
 
-// Puts a part last, unless it is `Skip` or a command after a command. Answers whether a command was seen.
+// Appends a part, unless it is `Skip` or a command after a command. Returns whether a command was seen.
 #[tactic(auto, using(crate::proofs::lemmas::Normal::Parts::parts_lemmas))]
 fn keep_alternative<'a, A: Allocator>(
     kept: &mut Vec<Form<'a, A>, A>,
@@ -209,7 +209,7 @@ fn keep_alternative<'a, A: Allocator>(
     Ok(seen_command || is_command)
 }
 
-// None is `Skip`, one stands alone, more are an `And`.
+// None give `Skip`, one stands alone, more are an `And`.
 #[tactic(auto, using(crate::proofs::lemmas::Normal::Parts::parts_lemmas))]
 fn make_and<'a, A: Allocator>(mut parts: Vec<Form<'a, A>, A>) -> Form<'a, A>
     ensures { form_of result ≡ and_form (forms_of parts.entry.items) }
@@ -223,7 +223,7 @@ fn make_and<'a, A: Allocator>(mut parts: Vec<Form<'a, A>, A>) -> Form<'a, A>
     }
 }
 
-// None is `Skip`, one stands alone, more are an `Or` in a `Required`.
+// None give `Skip`, one stands alone, more are an `Or` in a `Required`.
 #[tactic(auto, using(crate::proofs::lemmas::Normal::Parts::parts_lemmas))]
 fn make_or<'a, A: Allocator + Copy>(
     mut parts: Vec<Form<'a, A>, A>,
@@ -312,7 +312,7 @@ fn make_custom_usage<'a, A: Allocator + Copy>(
     Ok(Form::CustomUsage(Box::new(alloc, form)?, usage))
 }
 
-// One outer `Required` taken off, unless it is around an `Or`; one put around a bare `Or`.
+// One outer `Required` is removed, unless it is around an `Or`; one is put around a bare `Or`.
 fn make_outer<'a, A: Allocator + Copy>(form: Form<'a, A>) -> Result<Form<'a, A>, AllocError>
     ensures { IfOk result (λ m. form_of m ≡ outer_form (form_of form.entry)) }
 {

@@ -1,4 +1,4 @@
-//! The short names of a tree, for telling `-abc` apart.
+//! The short names of a tree, which tell how to split `-abc`.
 ghost use Rattle.std.specs.Prelude.{◌≡◌, ◌∷◌, ◌++◌, OnOk, OnErr};
 ghost use Rattle.bpaf_meta.specs.View.{tree_of, trees_of, leaf_of};
 ghost use Rattle.std.specs.List.{flat_map};
@@ -10,8 +10,8 @@ use crate::meta::Meta;
 use std::alloc::{AllocError, Allocator};
 
 impl<A: Allocator> Meta<A> {
-    /// Appends, in tree order, the `shorts` of flags to `flags` and those of arguments to `args`, also of
-    /// commands' own trees, nothing inside `Strict`. After `AllocError` both lists are as they were.
+    /// Appends, in tree order, the `shorts` of flags to `flags` and those of arguments to `args`. Those of commands'
+    /// own trees are included, and those inside `Strict` are not. After `AllocError` both lists are as they were.
     pub fn collect_shorts<B: Allocator, C: Allocator>(
         &self,
         flags: &mut Vec<char, B>,

@@ -23,7 +23,7 @@ Finds xs m (wrong l) = (k : ℕ) × Among (k, l) xs × ((x : Numbered) → Among
 pub finds_same : (xs ys : List Numbered) (m p : Bool) (c : Check) → Same ys xs → m ≡ p → Finds xs m c → Finds ys p c
 finds_same xs ys m p c h5 h6 h7 = grind arith
 
--- one after the other, where the numbers of the second are greater
+-- one check after another, where the numbers of the second are greater
 pub finds_then : (n k j : ℕ) (xs ys : List Numbered) (p m : Bool) (c : Check) (f : Bool → Check) → AreFrom n k xs → AreFrom (n + k) j ys → Finds xs p c → Finds ys m (f p) → Finds (xs ++ ys) m (then_check c f)
 finds_then n k j xs ys p m (fine b) f below above r s =
     let later : Same (xs ++ ys) ys = λ x. ((λ a. elim (among_cases x xs ys a) [ inl h ↦ absurd (r.1 x h) | inr h ↦ h ]), among_right x xs ys) in

@@ -1,4 +1,4 @@
--- The faults that the check goes by are the misplaced items of the lines and scopes.
+-- The faults that the check looks for are the misplaced items of the lines and scopes.
 use Rattle.std.proofs.Common.{◌≡◌, ℕ, ◌+◌, ◌≤◌, Bool, true, false, List, [], ◌∷◌, ◌++◌, ◌⊎◌, inl, inr, refl, sym, ap, ◌∙◌, subst, map, length, length-append, arith, Option, Some, None}
 use Rattle.std.specs.Prelude.{not, ◌&&◌, ◌||◌, if◌then◌else◌, filter, flat_map}
 use Rattle.std.specs.Option.{option_map_or}
@@ -34,7 +34,7 @@ in_at_least line lines h2 = grind arith
 among_at_least : (line : Line) (lines : List Line) → Among line (at_least_empty lines) → Among line lines ⊎ (line ≡ [])
 among_at_least line lines h2 = grind arith
 
--- what is late after no mark is late after one
+-- what is late without a mark is late with one
 late_step : (b : Bool) (y x : Numbered) (line : Line) → is_positional y.1 ≡ b → (Among x (late_items line) → Among x (filter is_named line)) → Among x (late_items (y ∷ line)) → Among x (filter is_named (y ∷ line))
 late_step b y x line h4 h5 h6 = grind (arith, after_first-later)
 
@@ -45,7 +45,7 @@ late_is_named x (y ∷ line) a = late_step (is_positional y.1) y x line refl (la
 late_more : (a b : Bool) (x : Numbered) (line : Line) → (a ≡ true → b ≡ true) → Among x (late_after a line) → Among x (late_after b line)
 late_more a b x line h4 h5 = grind (arith, late_is_named)
 
--- what lines mark: one of them as much as all do
+-- one of the lines sets the mark that all of them set together
 record Marks (lines : List Line) (mark : Bool) : Type 0 where
   some : (line : Line) × Among line lines × (has_positional line ≡ mark)
   each : (line : Line) → Among line lines → has_positional line ≡ true → mark ≡ true
@@ -67,7 +67,7 @@ joined_marks fronts backs m p f b = record {
 not_empty_line : (line : Line) → line ≡ [] → has_positional line ≡ true → ⊥
 not_empty_line line e h = let differ : false ≡ true = sym (ap has_positional e) ∙ h in cc
 
--- of the lines of a branch and of the others, one marks as all branches together do
+-- of the lines of a branch and of the other branches, one sets the mark that all branches set together
 either_line : (m p : Bool) (lines others : List Line) → Marks lines m → Marks (at_least_empty others) p → (line : Line) × Among line (at_least_empty (lines ++ others)) × (has_positional line ≡ (m || p))
 either_line false true lines others f g = elim (among_at_least g.some.0 others g.some.1) [
   | inl a ↦ (g.some.0, in_at_least g.some.0 (lines ++ others) (among_right g.some.0 lines others a), g.some.2)
@@ -145,7 +145,7 @@ record Agrees (n k : ℕ) (lines : List Line) (scopes : List Scope) (check : Boo
   numbers : (a : Bool) → AreFrom n k (faults lines scopes a)
   finds : (a : Bool) → Finds (faults lines scopes a) (a || mark) (check a)
 
--- those of branches, where a branch before them may have set a mark
+-- the same for branches, where a branch before them may have set a mark
 record BranchesAgree (n k : ℕ) (lines : List Line) (scopes : List Scope) (check : Bool → Bool → Check) : Type 0 where
   mark : Bool
   marks : Marks (at_least_empty lines) mark
@@ -272,7 +272,7 @@ mutual
 found : (t : Tree) → Finds (misplaced_items t) (agrees 0 t).mark (walked t false)
 found t = (agrees 0 t).finds false
 
--- where the check passes no item is misplaced; where it does not its item is the first misplaced one
+-- where the check passes no item is misplaced; where it fails its item is the first misplaced one
 pub well_placed : (t : Tree) (b : Bool) → walked t false ≡ fine b → IsWellPlaced t
 well_placed t b e = let r = subst (Finds (misplaced_items t) (agrees 0 t).mark) e (found t) in none_among (misplaced_items t) r.1
 

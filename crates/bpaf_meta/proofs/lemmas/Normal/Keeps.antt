@@ -39,7 +39,7 @@ maybe_joined P w a b e (inl x) (inr r) = let is : w ≡ b = rw (e, x) in inr (su
 maybe_joined P w a b e (inr p) (inl y) = let is : w ≡ a = e ∙ ap (λ c. a ++ c) y ∙ append-nil a in inr (once (subst P (sym is) p))
 maybe_joined P w a b e (inr p) (inr r) = inr (again a b e p r)
 
--- what is repeated, where each may be left out, is repeated or left out
+-- what is repeated, where each may be left out, is either repeated or left out
 maybe_repeated : (P : Language) (w : List Symbol) → Repeated (Maybe P) w → Maybe (Repeated P) w
 maybe_repeated P w (once m) = elim m [ inl e ↦ inl e | inr p ↦ inr (once p) ]
 maybe_repeated P w (again a b e m r) = maybe_joined P w a b e m (maybe_repeated P b r)
@@ -53,7 +53,7 @@ repeated_maybe P w = (
 maybe_maybe : (P : Language) → Same (Maybe P) (Maybe (Maybe P))
 maybe_maybe P w = ((λ m. inr m), (λ m. elim m [ inl e ↦ inl e | inr n ↦ n ]))
 
--- the same choice of the same languages, where the second ones need be the same only if they are chosen
+-- the same choice of the same languages; the second ones need to be the same only where they are chosen
 choice_keeps : (b c : Bool) (P Q P' Q' : Language) → b ≡ c → Same P P' → (c ≡ false → Same Q Q') → Same (choice b P Q) (choice c P' Q')
 choice_keeps true true P Q P' Q' e f g = f
 choice_keeps false false P Q P' Q' e f g = g refl
@@ -63,7 +63,7 @@ choice_keeps false true P Q P' Q' e f g = cc
 choice_false : (b : Bool) (P Q : Language) → b ≡ false → Same (choice b P Q) Q
 choice_false b P Q h3 = grind (arith, same)
 
--- whether something is hidden and what it shows, as for something else; and so for the parts of an And or an Or
+-- one is hidden where the other is, and otherwise both show the same; so too for the parts of an And or an Or
 abbrev pub Alike : (h : Bool) (P : Language) (k : Bool) (Q : Language) → Type 0
 Alike h P k Q = (h ≡ k) × (k ≡ false → Same P Q)
 
@@ -129,7 +129,7 @@ without_one : (u : Bool) (ts : Trees) → Same (CommandOr (ShowsOne u (without_c
 without_one u no_trees = same (CommandOr NoSequence)
 without_one u (tree t ts) = without_step u t ts (is_command_tree t) refl (without_one u ts)
 
--- the first of the parts is a command: then the others show no more with the other commands than without
+-- where the first of the parts is a command, the others show no more with their commands than without
 first_step : (u : Bool) (t : Tree) (ts : Trees) (b : Bool) → is_command_tree t ≡ b → (are_hidden u (with_first_command ts) ≡ are_hidden u ts) × Same (ShowsOne u (with_first_command ts)) (ShowsOne u ts) → (are_hidden u (tree t (if b then without_commands ts else with_first_command ts)) ≡ are_hidden u (tree t ts)) × Same (ShowsOne u (tree t (if b then without_commands ts else with_first_command ts))) (ShowsOne u (tree t ts))
 first_step u t ts b h4 h5 = grind (arith, command_not_hidden, command_shows, same, then_same, choice_false, without_one, back, choice_keeps)
 

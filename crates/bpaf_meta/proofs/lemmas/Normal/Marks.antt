@@ -1,4 +1,4 @@
--- No `--` comes about in the normal form, and none is lost.
+-- The normal form adds no `--` and loses none.
 use Rattle.std.proofs.Common.{Bool, true, false, ◌⊎◌, inl, inr, refl, arith, IsTrue}
 use Rattle.bpaf_meta.specs.Content.{Tree, and_of, or_of, optional, required, adjacent, item, many, subsection, suffix, skip, custom_usage, strict, Trees, no_trees, tree}
 use Rattle.bpaf_meta.specs.Meta.Normal.{State, pull, push, strip, shown_trees, or_form, with_first_command, optional_form, required_form, many_form, guarded, state_after, state_out, normal_form, and_parts, or_parts, or_state, outer_form, strict_if_push, normalized}
@@ -13,13 +13,13 @@ abbrev IsStrip : State → Type 0
 IsStrip strip = Unit {0}
 IsStrip s = ⊥
 
--- none comes about
+-- none is added
 
 or_state_pushes : (s f : State) (ts : Trees) → ¬ IsPush f → ¬ IsPush (or_state s f ts)
 or_state_pushes s f no_trees k = k
 or_state_pushes s f (tree t ts) k = or_state_pushes s (state_after f (state_out s t)) ts (grind arith)
 
--- a `--` that is asked for stands in the tree
+-- a `--` that is asked for is in the tree
 asked : (s : State) (t : Tree) → ¬ IsPush s → IsPush (state_out s t) → HasStrict t
 asked s (optional t) k x = asked s t k x
 asked s (required t) k x = asked s t k x
@@ -56,7 +56,8 @@ mutual
   or_comes u s f no_trees k x = x
   or_comes u s f (tree t ts) k x = part_comes f (state_out s t) t (normal_form u s t) (or_parts u s (state_after f (state_out s t)) ts) ts (comes u s t k) (asked s t k) (or_comes u s (state_after f (state_out s t)) ts k) x
 
--- none is lost: what the tree has is in the normal form or asked for, and what is shown already is in the normal form
+-- none is lost: if the tree has one, the normal form has it or it is asked for, and one shown already is in the normal
+-- form
 record Stays (Given Normal : Type 0) (out : State) : Type 0 where
   form : Given → Normal ⊎ IsPush out
   shown : IsStrip out → Normal
@@ -107,7 +108,7 @@ last_keeps s n h2 = grind arith
 given_stays : (s : State) (t n : Tree) → (HasStrict t → HasStrict n ⊎ IsPush s) → HasStrict t → HasStrict (strict_if_push s (outer_form n))
 given_stays s t n f x = last_keeps s (outer_form n) (elim (f x) [ inl y ↦ inl ((outer_strict n).1 y) | inr y ↦ inr y ])
 
--- no `--` comes about; none is lost outside usage, and in usage without a CustomUsage
+-- no `--` is added; none is lost outside usage, nor in usage without a CustomUsage
 pub normalized_strict : (u : Bool) (t : Tree) → KeepsStrict u t (normalized u t)
 normalized_strict u t = record {
   none_added = outer_comes (state_out pull t) t (outer_form (normal_form u pull t)) (λ x. comes u pull t (λ y. y) ((outer_strict (normal_form u pull t)).0 x)) (asked pull t (λ y. y));

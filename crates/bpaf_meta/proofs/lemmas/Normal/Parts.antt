@@ -10,7 +10,7 @@ use Rattle.bpaf_meta.specs.Meta.Alternatives.{trees_then, choice_form}
 use Rattle.bpaf_meta.specs.Meta.Steps.Forms.{form_of, forms_of}
 use Rattle.bpaf_meta.specs.Meta.Steps.Passes.{is_skip_tree, with_shown, after_commands, sees_command}
 
--- what holds of each part holds of those that are left
+-- what holds of each part holds of those that remain
 module _ (P : Tree → Type 0) (Q : Trees → Type 0) (part : (t : Tree) (ts : Trees) → Q (tree t ts) → P t × Q ts) (join : (t : Tree) (ts : Trees) → P t × Q ts → Q (tree t ts)) where
   one_of : (b : Bool) (ts vs : Trees) → Q ts → Q vs → Q (if b then ts else vs)
   one_of b ts vs h3 h4 = grind arith

@@ -45,7 +45,7 @@ pub or_parts_plain : (u : Bool) (s : State) (ts : Trees) → ¬ SomeHasStrict ts
 or_parts_plain u s no_trees h = refl
 or_parts_plain u s (tree t ts) h = grind (arith, or_parts_plain u s ts, state_kept, guarded_same)
 
--- no Strict comes about
+-- no Strict is added
 
 -- both ways: what holds of one holds of the other
 pub itself : {P : Type 0} → P ↔ P
@@ -64,7 +64,7 @@ pub shown_strict : (ts : Trees) → SomeHasStrict (shown_trees ts) ↔ SomeHasSt
 shown_strict no_trees = itself
 shown_strict (tree x ts) = grind (arith, shown_strict ts, some_tail)
 
--- a command holds none
+-- a command has no Strict
 command_holds_none : (t : Tree) → is_command_tree t ≡ true → ¬ HasStrict t
 command_holds_none (subsection t d) e x = command_holds_none t e x
 command_holds_none y e x = grind arith

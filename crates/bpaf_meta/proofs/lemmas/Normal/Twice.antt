@@ -15,7 +15,7 @@ abbrev IsShown : Tree → Type 0
 IsShown skip = ⊥
 IsShown t = ⊤
 
--- each part stays, is no Skip and has no Strict
+-- each part stays, is not Skip and has no Strict
 abbrev EachStays : Bool → State → Trees → Type 0
 EachStays u s no_trees = ⊤
 EachStays u s (tree t ts) = (Stays u s t × IsShown t × (¬ HasStrict t)) × EachStays u s ts

@@ -1,5 +1,5 @@
--- What holds of the documents of a tree holds of those of its normal form, and what all writes of these keep a usage line keeps: a
--- well-nested document stays well nested.
+-- What holds of the documents of a tree holds of those of its normal form, and what all its writes keep a usage line
+-- keeps: a well-nested document stays well nested.
 use Rattle.std.proofs.Common.{ℕ, Bool, true, false, List, [], ◌∷◌, ◌++◌, sym, refl, subst, arith}
 use Rattle.std.specs.Prelude.{if◌then◌else◌, flat_map, chars}
 use Rattle.std.specs.List.{list_all}
@@ -59,7 +59,7 @@ module _ (D : List Part → Type 0) where
   pub normalized_hold : (u : Bool) (t : Tree) → HoldsDocs D t → HoldsDocs D (normalized u t)
   normalized_hold u t h = last_hold (state_out pull t) (outer_form (normal_form u pull t)) (grind (arith, normal_hold u pull t h))
 
--- What is kept by nothing, by one text, by writes one after another, and by the documents.
+-- What holds of nothing, of one text, of writes one after another and of each document holds of all that a tree writes.
 module _ (K : List Write → Type 0) (one : (bytes : List ℕ) (style : Style) → K (text bytes style ∷ [])) (both : (vs ws : List Write) → K vs → K ws → K (vs ++ ws)) where
   metavar_by : (b : Bool) (name : List ℕ) (style : Style) (front back : List ℕ) → K (if b then text name style ∷ [] else text front style ∷ text name style ∷ text back style ∷ [])
   metavar_by true name style front back = one name style

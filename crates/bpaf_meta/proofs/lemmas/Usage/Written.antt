@@ -24,7 +24,7 @@ Grows-call r ps qs ws h4 h5 = grind arith
 pub Grows-by : (ps qs : List Part) (ws : List Write) → qs ≡ with_writes ps ws → Grows ps qs
 Grows-by ps qs ws e = (ws, e)
 
--- two texts of one style are one
+-- two consecutive texts of one style are one
 abbrev IsFilled : List Part → Type 0
 IsFilled [] = ⊥
 IsFilled (p ∷ ps) = Unit {0}

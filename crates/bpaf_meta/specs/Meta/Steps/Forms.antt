@@ -5,7 +5,7 @@ use Rattle.bpaf_meta.specs.View.{leaf_of, trees_in}
 use Rattle.bpaf_meta.specs.Meta.Normal.{item_form}
 use Rattle.bpaf_meta.specs.declared.meta.form.Form.{Form, Form-F, fold-Form}
 
--- one level, with what is inside already seen
+-- one level, where the inner ones are already seen
 abbrev pub form_step : {A : Type 0} → Form-F A Tree → Tree
 form_step (Form-F.And v) = and_of (trees_in v.items)
 form_step (Form-F.Or v) = or_of (trees_in v.items)

@@ -1,4 +1,4 @@
--- What the steps of `normalized` leave. These words only lead from the code to the table of `Normal`.
+-- What the steps of `normalized` leave. These definitions only lead from the code to the table of `Normal`.
 use Rattle.std.specs.Prelude.{Bool, true, false, ◌||◌, if◌then◌else◌}
 use Rattle.bpaf_meta.specs.declared.meta.normal.State.TheVariants as code
 use Rattle.bpaf_meta.specs.declared.meta.normal.State as declared
@@ -18,7 +18,7 @@ is_skip_tree t = false
 abbrev pub with_shown : Tree → Trees
 with_shown t = if is_skip_tree t then no_trees else tree t no_trees
 
--- the parts without commands where one was seen before, and else with the first of them
+-- the parts without commands where one was seen before, otherwise with the first of them
 abbrev pub after_commands : (seen : Bool) → Trees → Trees
 after_commands true ts = without_commands ts
 after_commands false ts = with_first_command ts

@@ -1,4 +1,4 @@
--- The positional check as it goes through a tree. These words only lead from the code to `Misplaced`.
+-- The positional check as it goes through a tree. These definitions only lead from the code to `Misplaced`.
 use Rattle.std.specs.Prelude.{◌≡◌, Bool, false, ◌&&◌, ◌||◌, not, if◌then◌else◌, Option, Some, None, Result, Ok, Err, IfSome}
 use Rattle.std.specs.Borrow.{Bor}
 use Rattle.bpaf_meta.specs.Content.{Tree, and_of, or_of, optional, required, adjacent, item, many, subsection, suffix, skip, custom_usage, strict, Trees, no_trees, tree, Leaf, any, positional, command, flag, argument}
@@ -6,7 +6,7 @@ use Rattle.bpaf_meta.specs.View.{leaf_of}
 use Rattle.bpaf_meta.specs.declared.item.Item.{Item}
 use Rattle.bpaf_meta.specs.Meta.Misplaced.{is_positional, first_item}
 
--- whether a positional item was seen, or the first item that stands wrong
+-- whether a positional item was seen, or the first misplaced item
 pub data Check : Type 0 where
   fine : Bool → Check
   wrong : Leaf → Check
