@@ -10,7 +10,7 @@ use Rattle.bpaf_items.specs.declared.meta_help.entry.HiTy.{HiTy}
 use Rattle.bpaf_items.specs.Listing.ItemList.{Entry, note, group_end, adjacent_stop, front_type, first_front_type, item_entries, adjacent_entries, group_entries, noted_entries, entries_with_type, entries_of, entries_of_parts}
 use Rattle.bpaf_help.specs.Chapters.{Chapter, command_chapters, part_chapters, item_chapters, entry_chapters, ChaptersAreListed}
 
--- the chapters of a list with one entry after it that is no command
+-- the chapters of a list with one more entry that is not a command
 marked : (path : List (List ℕ)) (es : List Entry) (e : Entry) → entry_chapters path e ≡ [] → flat_map (entry_chapters path) (es ++ e ∷ []) ≡ flat_map (entry_chapters path) es
 marked path es e none = grind (arith, flat_map-append, append-nil)
 

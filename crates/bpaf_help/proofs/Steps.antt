@@ -39,12 +39,12 @@ pub copied_next : {X Y Z : Type 0} (f : X → Z) (g : Y → Z) (old new : List X
     → new ≡ old ++ x ∷ [] → map f old ≡ map g (take i ys) → map f new ≡ map g (take (i + 1) ys)
 copied_next f g old new x ys i y within is same e h = grind (arith, map-append, map_next)
 
--- names with a character between them are the first, and then each other behind the character
+-- names with a character between them are the first, and then each other after the character
 pub joined_writes : {X : Type 0} (bytes : X → List ℕ) (c : ℕ) (x : X) (xs : List X) → join_with_byte c (map bytes (x ∷ xs)) ≡ bytes x ++ flat_map (λ y. c ∷ bytes y) xs
 joined_writes bytes c x [] = sym (append-nil (bytes x))
 joined_writes bytes c x (y ∷ ys) = ap (λ bs. bytes x ++ c ∷ bs) (joined_writes bytes c y ys)
 
--- so many of the others as were gone through, which are all
+-- those of the others that were gone through, which are all in the end
 pub joined_names : {X : Type 0} (bytes : X → List ℕ) (c : ℕ) (all : List X) (first : X) (others done : List X) (begun text : List ℕ)
     → all ≡ first ∷ others → done ≡ others → begun ≡ bytes first → text ≡ begun ++ flat_map (λ y. c ∷ bytes y) done → text ≡ join_with_byte c (map bytes all)
 joined_names bytes c all first others done begun text is whole b e = grind (arith, joined_writes)
@@ -66,7 +66,7 @@ dashed_character c = elim (cases_eq c 32) [ inl e ↦ at e | inr ne ↦ other ne
       let same : dashed_byte c ≡ c = rw (ne_eqb c 32 ne) refl in
       no_blank (encode_utf8 c) (λ k h e. ne (inside_one c [] (encode_utf8 c) k (sym (append-nil (encode_utf8 c))) h (omega arith) ∙ e)) ∙ ap encode_utf8 (sym same)
 
--- the next character of a text that is written with dashes
+-- the next character of a text whose blanks become dashes
 pub dashed_step : (out more rest after whole : List ℕ) (c d : ℕ) → rest ≡ encode_utf8 c ++ after → d ≡ dashed_byte c → out ++ map dashed_byte rest ≡ whole → more ≡ out ++ encode_utf8 d → more ++ map dashed_byte after ≡ whole
 dashed_step out more rest after whole c d e f w m = grind (arith, dashed_character, append_assoc, map-append)
 
@@ -124,7 +124,7 @@ heading_alone t u title es = grind (arith, list_alone)
 pub groups_alone : (t u : Texts) (es : List Entry) → groups_writes false t es ≡ groups_writes false u es
 groups_alone t u es = grind (arith, flat_map_same, list_alone, heading_alone)
 
--- so the groups that were put behind a document
+-- so the groups that were put after a document
 pub groups_put : {T E : Type 0} (r : Result T E) (before now : List Part) (es fs : List Entry) (t : Texts) → es ≡ fs → OnOk r (now ≡ with_writes before (groups_writes false t es)) → OnOk r (now ≡ with_writes before (groups_writes false no_texts fs))
 groups_put r before now es fs t h6 h7 = grind (arith, groups_alone)
 
@@ -160,7 +160,7 @@ collected_whole app t i cs first d1 d2 none is e f = grind (arith, written_then 
 
 -- ---- pages
 
--- an error at a chapter behind others that are well placed
+-- an error at a chapter after others that are well placed
 pub error_at : {A : Type 0} (front back all : List Chapter) (c : Chapter) (e : HelpError A) → all ≡ front ++ c ∷ back → AreWellPlaced front → IsErrorOf c.content e → EndsAtOne all e
 error_at front back all c e order well_placed reason = record { front = front; last = c; back = back; order = order; well_placed = well_placed; reason = reason }
 
@@ -168,11 +168,11 @@ pub error_of_pages : {A : Type 0} (cs : List Chapter) (e : HelpError A) → Ends
 error_of_pages cs (error.Memory refused) h = tt
 error_of_pages cs (error.Misplaced i) h = record { front = h.front; faulty = h.last; back = h.back; order = h.order; well_placed = h.well_placed; first = h.reason }
 
--- an error that is handed on
+-- an error that is passed on
 pub err_same : {X E : Type 0} (P : E → Type 0) (r : Result X E) (e : E) → IsErrAnd r (λ y. y ≡ e) → P e → IfErr r P
 err_same P r e h3 h4 = grind arith
 
--- the place of a member between those before it and those behind it
+-- the place of a member between those before it and those after it
 pub at_place : {X Y : Type 0} (f : X → Y) (xs : List X) (i : ℕ) (x : X) → i < length xs → x ≡ get_or xs i x → map f xs ≡ map f (take i xs) ++ f x ∷ map f (drop (i + 1) xs)
 at_place f (y ∷ ys) (suc i) x within is = grind (arith, at_place f ys i x (omega arith) is)
 at_place f z u x within is = grind arith
@@ -202,7 +202,7 @@ given_text o d r e = grind arith
 pub same_words : (a : List ℕ) {s t d e v w x y : List ℕ} → s ≡ t → d ≡ e → v ≡ w → x ≡ y → a ∷ s ∷ d ∷ v ∷ x ∷ [] ≡ a ∷ t ∷ e ∷ w ∷ y ∷ []
 same_words a p q r u = rw (p, q, r, u) refl
 
--- a page that holds a title line, with a document behind it
+-- a page that holds a title line, with a document after it
 pub manual_read : {S E : Type 0} → TitlePageTakesDocument → TitledPageIsManualPage → (words : List (List ℕ)) (bytes : S → List ℕ) (document same : List Part) (page : Script) (r : Result S E)
     → page ≡ title_page words → document ≡ same → (TakesDocument page → IfOk r (λ text. IsPageOf page document (bytes text))) → IfOk r (λ text. IsManualPageOf (Control (codes "TH") (map word_of words)) same (bytes text))
 manual_read takes manual words bytes document same page (Ok text) e f read = grind arith

@@ -66,7 +66,7 @@ ChaptersAreListed = (path : List (List ℕ)) (t : Tree)
 abbrev pub AreWellPlaced : List Chapter → Type 0
 AreWellPlaced = All (λ c. IsWellPlaced c.content)
 
--- the first chapter that has misplaced items, and what stands before it and after it
+-- the first chapter that has misplaced items, and the chapters before it and after it
 pub record IsFirstMisplacedOf (chapters : List Chapter) (l : Leaf) : Type 0 where
   pub front : List Chapter
   pub faulty : Chapter
@@ -82,7 +82,7 @@ spaced = join_with_byte blank
 abbrev pub dashed_byte : ℕ → ℕ
 dashed_byte c = if c == blank then dash else c
 
--- the path joined by `-`, with small ASCII letters and blanks as `-`
+-- the path joined by `-`, with ASCII letters in lower case and blanks as `-`
 abbrev pub anchor : List (List ℕ) → List ℕ
 anchor path = map dashed_byte (str_to_ascii_lowercase (join_with_byte dash path))
 
@@ -99,7 +99,7 @@ abbrev pub if_many : List Chapter → List Write → List Write
 if_many (c ∷ d ∷ cs) ws = ws
 if_many cs ws = []
 
--- above the pages
+-- the summary above the pages
 abbrev pub summary_writes : List Chapter → List Write
 summary_writes chapters = inside block.Block (inside block.Header (plain (codes "Command summary") ∷ []))
     ++ flat_map summary_line chapters
@@ -108,7 +108,7 @@ summary_writes chapters = inside block.Block (inside block.Header (plain (codes 
 abbrev pub own_page_writes : Chapter → List Write
 own_page_writes c = help_page_writes c.path c.info c.content (help_tree c.info) false no_texts
 
--- and under its path
+-- the same under its path
 abbrev pub chapter_page : Chapter → List Write
 chapter_page c = inside block.Header (plain (spaced c.path) ∷ []) ++ doc_writes (document_of (own_page_writes c))
 
@@ -137,7 +137,7 @@ manual_chapter app path t (head descr header footer usage help) =
     ++ groups_writes false no_texts (item_list t ++ item_list help)
     ++ doc_within block.Block footer
 
--- above the chapters of the manual page
+-- what is above the chapters of the manual page
 abbrev pub synopsis_writes : List Chapter → List Write
 synopsis_writes chapters = inside block.Block (inside block.Header (plain (codes "SYNOPSIS") ∷ []))
     ++ inside block.Meta (flat_map synopsis_line chapters)

@@ -1,5 +1,5 @@
--- The headline: what is promised of the console page, the HTML and the roff of a document, of the manual page of an
--- application and of the normal form of its tree, together.
+-- The headline: what is promised together of the console page, the HTML and the roff of a document, and of the manual
+-- page and the normal form of the tree of an application.
 use Rattle.std.specs.Prelude.{◌≡◌, true, false, string_bytes}
 use Rattle.bpaf_roff.specs.Roff.{Script}
 use Rattle.bpaf_doc.specs.Buffer.Parts.{IsWellNested, ink}
@@ -15,18 +15,18 @@ use Rattle.bpaf_help.specs.declared.headline.Headline.{Headline}
 use Rattle.bpaf_help.specs.PageAnswers.{IsManualOf}
 use Rattle.bpaf_help.specs.View.{section_name}
 
--- Each field is a clause of the call that gave the answer, at what the call was given.
+-- Each field is a clause of the call that made the result, for what the call was given.
 pub record IsHeadline {D M A P : Type 0} (of : Sources D M) (page : Script) (made : Headline A P M) : Type 0 where
-  -- `ink` of `render_console`: the full console text has exactly the document's inked characters, in order, and a backquote at each
-  -- mark of a term reference
+  -- `ink` of `render_console`: the full console text has exactly the document's inked characters, in order, and a
+  -- backquote at each mark of a term reference
   pub same_ink : ink (string_bytes made.console) ≡ console_ink true of.document.now
-  -- `layout` of `render_console`: and its lines are within the bound, which is its field `bound`, under the premises there
+  -- `layout` of `render_console`: its lines are within the bound, which is its field `bound`, under the premises there
   pub layout : IsLayout of.document.now true of.width (string_bytes made.console)
-  -- `html` of `render_html`: of a well-nested document the full HTML is well nested
+  -- `html` of `render_html`: for a well-nested document the full HTML is well nested
   pub html : IsWellNested of.document.now → IsHtmlPageOf of.document.now true false (string_bytes made.html)
-  -- `text` of `render_html`: and of any document it erases to the HTML text
+  -- `text` of `render_html`: for any document it erases to the HTML text
   pub text : IsHtmlTextPageOf of.document.now true false (string_bytes made.html)
-  -- `read` of `render_roff`: behind a page that takes a document, the body reads back to the document's controls,
+  -- `read` of `render_roff`: after a page that takes a document, the body reads back to the document's controls,
   -- headings and texts
   pub read : TakesDocument page → IsPageOf page of.document.now (string_bytes made.roff)
   -- `read` of `render_manpage`: the manual page reads back to its title line and its document

@@ -10,7 +10,7 @@ use Rattle.bpaf_help.specs.Chapters.{Chapter, chapters_of, collected_writes, man
 abbrev pub HasNestedChapter : Chapter → Type 0
 HasNestedChapter c = HasNestedHead c.info × HasNestedTexts c.content
 
--- those of an application and of all its commands
+-- the same for an application and all its commands
 abbrev pub HasNestedPages : (app : List ℕ) → Head → Tree → Type 0
 HasNestedPages app i t = All HasNestedChapter (chapters_of (app ∷ []) i t)
 

@@ -1,4 +1,4 @@
--- What the calls for the pages of an application answer, by the content of their answers.
+-- What the calls for the pages of an application return, by content.
 use Rattle.std.specs.Prelude.{ℕ, ⊤, List, Option}
 use Rattle.bpaf_doc.specs.Buffer.Parts.{Part}
 use Rattle.bpaf_doc.specs.Buffer.Writes.{document_of}
@@ -11,7 +11,7 @@ use Rattle.bpaf_items.specs.declared.meta_help.error.HelpError.TheVariants as er
 use Rattle.bpaf_help.specs.Chapters.{Chapter, IsFirstMisplacedOf, collected_writes, manual_writes}
 
 -- why there are no pages of some chapters: this is the first misplaced item of the first chapter that has one, or an
--- allocation failed, be it before the first is checked
+-- allocation failed, perhaps before the first chapter was checked
 abbrev pub AreErrorOf : {A : Type 0} → List Chapter → HelpError A → Type 0
 AreErrorOf chapters (error.Memory e) = ⊤
 AreErrorOf chapters (error.Misplaced i) = IsFirstMisplacedOf chapters (leaf_of i.now)
@@ -30,7 +30,7 @@ abbrev pub IsManualOf : (app section : List ℕ) → (date vendor title : Option
 IsManualOf app section date vendor title t i text =
     IsManualPageOf (title_event app section date vendor title) (manual_document app t i) text
 
--- its bytes: the page that holds the title line alone, with the document behind it
+-- its bytes: the page that holds only the title line, with the document after it
 abbrev pub manual_text : (app section : List ℕ) → (date vendor title : Option (List ℕ)) → Tree → Head → List ℕ
 manual_text app section date vendor title t i =
     roff_page (title_page (title_arguments app section date vendor title)) (manual_document app t i)

@@ -13,12 +13,12 @@ use Rattle.bpaf_items.specs.Page.EnvTexts.{no_texts}
 use Rattle.bpaf_items.specs.Page.HelpPage.{doc_within, groups_writes}
 use Rattle.bpaf_help.specs.Chapters.{Chapter, AreWellPlaced, manual_chapter, manual_name}
 
--- why there is no page of a tree: this is its first misplaced item, or an allocation failed behind the check
+-- why there is no page of a tree: this is its first misplaced item, or an allocation failed after the check
 abbrev pub IsErrorOf : {A : Type 0} → Tree → HelpError A → Type 0
 IsErrorOf t (error.Memory e) = IsWellPlaced t
 IsErrorOf t (error.Misplaced i) = IsFirstMisplaced t (leaf_of i.now)
 
--- why the pages of some chapters end: there is none of one of them, and no item of those before it is misplaced
+-- why the pages of some chapters end: one of them has no page, and no item of those before it is misplaced
 pub record EndsAtOne {A : Type 0} (chapters : List Chapter) (e : HelpError A) : Type 0 where
   pub front : List Chapter
   pub last : Chapter
@@ -31,11 +31,11 @@ pub record EndsAtOne {A : Type 0} (chapters : List Chapter) (e : HelpError A) : 
 abbrev pub path_title : (many : Bool) → List (List ℕ) → List Write
 path_title many path = if many then inside block.Header (path_writes path) else []
 
--- a chapter of the manual page under its path, which stands there where there are two chapters or more
+-- a chapter of the manual page, under its path where there are two chapters or more
 abbrev pub manual_part : (app : List ℕ) → (many : Bool) → Chapter → List Write
 manual_part app many c = path_title many c.path ++ manual_chapter app c.path c.content c.info
 
--- the parts of a chapter: its name and usage line, the texts round its list, and the list
+-- the parts of a chapter: its name and usage line, the texts around its list, and the list
 abbrev pub manual_front : (app : List ℕ) → (path : List (List ℕ)) → Tree → Head → List Write
 manual_front app path t (head descr header footer usage help) =
     manual_name app descr

@@ -1,4 +1,4 @@
-//! A document and an application, shown in each way at once.
+//! A document and an application, shown in every form at once.
 
 ghost use Rattle.std.specs.Prelude.{IfOk};
 ghost use Rattle.bpaf_help.specs.Headline.{IsHeadline};
@@ -25,8 +25,8 @@ pub struct Sources<'a, D: Allocator = Global, M: Allocator = Global> {
     pub for_usage: bool,
 }
 
-/// What they are shown as: the document in full for a console, as HTML without a style sheet and as roff, the
-/// application as a manual page, and its tree in the normal form.
+/// The forms in which they are shown: the document in full for a console, as HTML without a style sheet and as roff,
+/// the application as a manual page, and its tree in normal form.
 #[derive(Drop)]
 #[derive_where(Debug)]
 pub struct Headline<A: Allocator = Global, P: Allocator = Global, M: Allocator = Global> {
@@ -37,10 +37,10 @@ pub struct Headline<A: Allocator = Global, P: Allocator = Global, M: Allocator =
     pub normal: Meta<M>,
 }
 
-/// Shows the document and the application in each form, the roff of the document behind what `page` holds. `IsHeadline`
-/// has a field for each clause of the five calls that make them.
+/// Shows the document and the application in each form. The roff of the document follows what `page` holds.
+/// `IsHeadline` has a field for each clause of the five calls that make the forms.
 ///
-/// An `AllocError` says that an allocation failed; nothing of the page is left then.
+/// An `AllocError` says that an allocation failed; then `page` is dropped.
 pub fn show<A: Allocator + Copy, P: Allocator + Copy, D: Allocator, M: Allocator + Copy>(
     alloc: A,
     page: Roff<P>,

@@ -1,4 +1,4 @@
--- Lemmas of the words of the code.
+-- Lemmas about the definitions that lead from the code to its promises.
 pub mod Fronts
 pub mod Given
 pub mod Kept

@@ -1,4 +1,4 @@
--- Help pages: what each writes, and what the call answers.
+-- Help pages: what each writes, and what the call returns.
 pub mod EnvTexts
 pub mod EntryWrites
 pub mod HelpPage

@@ -1,4 +1,4 @@
--- Words that only lead from the code to what its contracts promise.
+-- Definitions that only lead from the code to what its contracts promise.
 pub mod Growth
 pub mod Given
 pub mod Stored

@@ -1,4 +1,4 @@
--- What an entry of a list, a key, a map of texts and an answer say: their content.
+-- The content of an entry of a list, a key, a map of texts and an answer.
 use Rattle.std.specs.Prelude.{[], Result, Ok, Err}
 use Rattle.std.specs.Borrow.{Bor}
 use Rattle.std.specs.Option.{option_copied}
@@ -14,7 +14,7 @@ use Rattle.bpaf_items.specs.Listing.ItemList.{Entry, listed, note, group_start, 
 use Rattle.bpaf_items.specs.Listing.Keys.{Key, any_key, word_key, flag_key, argument_key}
 use Rattle.bpaf_items.specs.Page.PageAnswers.{Answer, page, misplaced, memory}
 
--- a `HelpItem`: short names are in none
+-- a `HelpItem`, without short names
 abbrev pub entry_of : {A : Type 0} → HelpItem A → Entry
 entry_of (entry.DecorSuffix h k) = note h.now k
 entry_of (entry.GroupStart h k) = group_start h.now k
@@ -38,7 +38,7 @@ key_in (key.Word w h) = word_key w.now (option_copied h)
 key_in (key.Flag n h) = flag_key (name_of n) (option_copied h)
 key_in (key.Argument n m h) = argument_key (name_of n) m.0.now (option_copied h)
 
--- what a call for a page answers
+-- what a call for a page returns
 abbrev pub answer_of : {X A : Type 0} → Result X (HelpError A) → Answer X
 answer_of (Ok x) = page x
 answer_of (Err (error.Memory e)) = memory

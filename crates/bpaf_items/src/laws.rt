@@ -1,4 +1,4 @@
-//! Laws of the definitions that the contracts cite: nothing to call, but statements that the check proves.
+//! Laws of the definitions that the contracts cite: statements that the check proves, not functions to call.
 
 ghost use Rattle.bpaf_items.specs.Page.EnvTexts.{TextsAreInserted};
 ghost use Rattle.bpaf_items.specs.Listing.Groups.{GroupsAreTakenOut};
@@ -25,19 +25,19 @@ pub fn order_of_keys()
     ensures { IsOrderOfKeys }
 {}
 
-/// In an item list each entry that has help, or stands in no adjacent block, falls under a group or a heading. A group
-/// that an entry falls under is one of those that are written.
+/// In an item list each entry that has help or is in no adjacent block falls under a group or a heading. A group that
+/// an entry falls under is one of those that are written.
 pub fn falls_somewhere()
     ensures somewhere { FallsSomewhere }
     ensures written { FallsUnderWritten }
 {}
 
-/// Of the entries of a list each key is shown once, at its first place.
+/// Each key of a list is shown once, at its first place.
 pub fn key_once()
     ensures { KeyOnce }
 {}
 
-/// Of the entries outside groups, those that fall under a heading are those that `items_of_ty` gives for it.
+/// The entries outside groups that fall under a heading are those that `items_of_ty` gives for it.
 #[tactic(auto, using(crate::proofs::Listing::Headings::headings_agree))]
 pub fn headings_agree()
     ensures { HeadingsAgree }
@@ -55,14 +55,14 @@ pub fn help_pages_are_nested()
     ensures { HelpPagesAreNested }
 {}
 
-/// So are the groups and headings of an item list, wherever they are written.
+/// The groups and headings of an item list are well nested too, wherever they are written.
 pub fn groups_are_nested()
     ensures lists { ItemListsAreNested }
     ensures groups { GroupsAreNested }
 {}
 
-/// The groups of an item list can be taken out one after another: without its first group it has the other groups, in
-/// order, and the same entries outside groups, until `find_group` is `None`.
+/// The groups of an item list can be taken out one after another. The list without its first group has the other
+/// groups, in order, and the same entries outside groups, until `find_group` is `None`.
 pub fn groups_are_taken_out()
     ensures { GroupsAreTakenOut }
 {}

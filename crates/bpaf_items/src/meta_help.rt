@@ -1,4 +1,4 @@
-//! What a help page lists of a command line: its items in order, under their groups and headings.
+//! What a help page lists for a command line: its items in order, under their groups and headings.
 
 mod entry;
 mod env_texts;

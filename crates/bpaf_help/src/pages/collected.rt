@@ -17,10 +17,10 @@ use bpaf_items::meta_help::{HelpError, Info};
 use bpaf_meta::meta::Meta;
 use std::alloc::Allocator;
 
-/// The help pages of an application and of all its commands, each under its path, and above them a summary with a
-/// line for each where there are commands. `Misplaced` is the first named item, of the first page that has one,
-/// that stands behind a positional one. `Memory` says that an allocation failed; it may come before a page is
-/// checked. The rules are those of `docs/pages.md`.
+/// The help pages of an application and of all its commands, each under its path. Where there are commands, a summary
+/// above them has a line for each page. `Misplaced` has the first named item that stands after a positional one, on the
+/// first page that has such an item. `Memory` says that an allocation failed; it may come before a page is checked. The
+/// rules are those of `docs/pages.md`.
 pub fn collect_html<'m, A: Allocator + Copy, B: Allocator + Copy>(
     alloc: A,
     app: &str,

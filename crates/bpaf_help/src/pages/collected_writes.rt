@@ -1,4 +1,4 @@
-//! What stands on a page that collects help pages.
+//! The parts of a page that collects help pages.
 ghost use Rattle.std.specs.Prelude.{◌≡◌, ◌∷◌, [], flat_map, IfErr, IfOk, OnOk, map, string_bytes};
 ghost use Rattle.bpaf_doc.specs.Buffer.Writes.{doc_writes, document_of, plain, with_writes};
 ghost use Rattle.bpaf_items.specs.Page.EntryWrites.{body};
@@ -16,7 +16,7 @@ use bpaf_doc::buffer::{Block, Doc, Style, Token};
 use bpaf_items::meta_help::{EnvTexts, HelpError, write_help};
 use std::alloc::{AllocError, Allocator};
 
-/// A summary of two sections or more.
+/// Writes a summary where there are two sections or more.
 pub fn put_summary<A: Allocator + Copy, B: Allocator>(
     alloc: A,
     doc: &mut Doc<A>,
@@ -74,7 +74,7 @@ fn summary_text<A: Allocator + Copy>(alloc: A, path: &[String<A>]) -> Result<Str
     Ok(text)
 }
 
-/// The help page of each section, under its path. Each is checked before it takes memory.
+/// Writes the help page of each section, under its path. Each is checked before it takes memory.
 pub fn put_pages<'m, A: Allocator + Copy, B: Allocator + Copy>(
     alloc: A,
     doc: &mut Doc<A>,

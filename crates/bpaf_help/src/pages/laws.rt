@@ -1,4 +1,4 @@
-//! Laws of the definitions that the contracts cite: nothing to call, but statements that the check proves.
+//! Laws of the definitions that the contracts cite: statements that the check proves, not functions to call.
 
 ghost use Rattle.bpaf_help.specs.Chapters.{ChaptersAreListed};
 ghost use Rattle.bpaf_help.specs.NestedPages.{CollectedPagesAreNested, ManualPagesAreNested};

@@ -15,10 +15,10 @@ use bpaf_meta::meta::Meta;
 use bpaf_roff::roff::Roff;
 use std::alloc::{AllocError, Allocator};
 
-/// The manual page of an application and of all its commands, behind the preamble for apostrophes and a title line
-/// with the application, the section, the date, the vendor and the title; where there is no date or vendor `-`
-/// stands for it, and where there is no title `""`, as for each empty word. No item's place is checked.
-/// `AllocError` says that an allocation failed. The rules are those of `docs/pages.md`.
+/// The manual page of an application and of all its commands. It begins with the preamble for apostrophes and a title
+/// line, which has the application, the section, the date, the vendor and the title. A date or vendor that is not given
+/// is written as `-`, and a title that is not given as `""`, like any empty word. Whether items are misplaced is not
+/// checked. `AllocError` says that an allocation failed. The rules are those of `docs/pages.md`.
 pub fn render_manpage<A: Allocator + Copy, B: Allocator + Copy>(
     alloc: A,
     app: &str,
@@ -51,7 +51,7 @@ pub fn render_manpage<A: Allocator + Copy, B: Allocator + Copy>(
     document.into_roff(page)
 }
 
-/// What the title line of a manual page has behind the application's name. A page is made of it so:
+/// What follows the application's name in the title line of a manual page. It makes a page like this:
 /// `ManualTitle::new(Section::General).date("2026-01-01").page(alloc, "app", &tree, &info)`.
 #[derive(Clone, Copy)]
 pub struct ManualTitle<'a> {
@@ -62,7 +62,7 @@ pub struct ManualTitle<'a> {
 }
 
 impl<'a> ManualTitle<'a> {
-    /// A page in this section, without a date, a vendor and a title.
+    /// A title line with this section, without a date, a vendor and a title.
     pub fn new(section: Section<'a>) -> ManualTitle<'a>
         ensures { result ≡ record { section = section.entry; date = None; vendor = None; title = None } }
     {
@@ -84,7 +84,7 @@ impl<'a> ManualTitle<'a> {
         }
     }
 
-    /// The same with this vendor, as the name and version of what the application belongs to.
+    /// The same with this vendor: the name and version of what the application belongs to.
     pub fn vendor(self, vendor: &'a str) -> ManualTitle<'a>
         ensures { result ≡ record self.entry { vendor = Some vendor.entry } }
     {
@@ -104,7 +104,7 @@ impl<'a> ManualTitle<'a> {
         }
     }
 
-    /// The page that `render_manpage` makes with these words in its title line, and its error.
+    /// The page that `render_manpage` makes with this title line, with the same error.
     pub fn page<A: Allocator + Copy, B: Allocator + Copy>(
         self,
         alloc: A,
@@ -129,7 +129,7 @@ impl<'a> ManualTitle<'a> {
     }
 }
 
-// A page with this title line alone.
+// A page with only this title line.
 fn title_page<A: Allocator + Copy>(alloc: A, words: &[&str]) -> Result<Roff<A>, AllocError>
     ensures { IfOk result (λ page. page ≡ title_page (map (λ w. w.now) words.now)) }
 {

@@ -1,4 +1,4 @@
-//! What stands on a manual page.
+//! The parts of a manual page.
 ghost use Rattle.std.specs.Prelude.{◌≡◌, ◌++◌, false, flat_map, IfOk, OnOk, map, string_bytes};
 ghost use Rattle.bpaf_doc.specs.Buffer.Writes.{with_writes};
 ghost use Rattle.bpaf_meta.specs.View.{head_of, tree_of};
@@ -17,7 +17,7 @@ use bpaf_meta::meta::Meta;
 use bpaf_meta::usage::write_meta;
 use std::alloc::{AllocError, Allocator};
 
-/// The usage lines of two sections or more.
+/// Writes the usage lines where there are two sections or more.
 pub fn put_synopsis<A: Allocator + Copy, B: Allocator + Copy>(
     doc: &mut Doc<A>,
     sections: &[DocSection<'_, B, A>],
@@ -58,7 +58,7 @@ fn put_synopsis_line<A: Allocator + Copy, B: Allocator + Copy>(
     doc.write_str("\n", Style::Text)
 }
 
-/// A chapter for each section, under its path if there are many.
+/// Writes a chapter for each section, under its path if `many` is true.
 pub fn put_chapters<A: Allocator + Copy, B: Allocator + Copy>(
     alloc: A,
     doc: &mut Doc<A>,
@@ -105,7 +105,7 @@ fn put_path_title<A: Allocator, P: Allocator>(
     doc.token(Token::BlockEnd(Block::Header))
 }
 
-// What stands above the list: the name, the usage line and the header.
+// What is above the list: the name, the usage line and the header.
 fn put_front<A: Allocator, P: Allocator, B: Allocator + Copy>(
     doc: &mut Doc<A>,
     app: &str,

@@ -5,7 +5,7 @@ ghost use Rattle.bpaf_help.specs.Chapters.{anchor, dashed_byte};
 
 use std::alloc::{AllocError, Allocator};
 
-/// The same names.
+/// A copy of the names.
 pub fn copy_of<A: Allocator + Copy>(
     alloc: A,
     path: &[String<A>],
@@ -39,7 +39,7 @@ pub fn joined<A: Allocator>(
     Ok(text)
 }
 
-/// The names as the address of a heading: joined by `-`, in small ASCII letters and with blanks as `-`.
+/// The names as the address of a heading: joined by `-`, with ASCII letters in lower case and blanks as `-`.
 pub fn anchor<A: Allocator + Copy>(alloc: A, path: &[String<A>]) -> Result<String<A>, AllocError>
     ensures { IfOk result (λ text. string_bytes text ≡ anchor (map string_bytes path.now)) }
 {

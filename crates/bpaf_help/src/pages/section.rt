@@ -17,7 +17,7 @@ pub enum Section<'a> {
 }
 
 impl<'a> Section<'a> {
-    /// What the title line calls the section: `1` to `8` in the order above, or the given text.
+    /// The section as the title line has it: `1` to `8` in the order above, or the given text.
     pub fn as_str(&self) -> &'a str
         ensures { result.now ≡ section_name self.now }
     {

@@ -22,7 +22,7 @@ pub struct DocSection<'a, A: Allocator = Global, L: Allocator = Global> {
 }
 
 impl<'a, A: Allocator, L: Allocator + Copy> DocSection<'a, A, L> {
-    /// A section of the same texts and tree with a copy of the path. An `AllocError` says that an allocation failed.
+    /// A section with the same texts and tree and a copy of the path. An `AllocError` says that an allocation failed.
     pub fn clone(&self) -> Result<DocSection<'a, A, L>, AllocError>
         ensures { IfOk result (λ copy. chapter_of copy ≡ chapter_of self.now) }
     {
@@ -34,10 +34,10 @@ impl<'a, A: Allocator, L: Allocator + Copy> DocSection<'a, A, L> {
     }
 }
 
-/// Puts the section of a command line behind `sections`, and then those of its commands, in the order in which its
-/// item list has them, each before the commands below it. `path` leads to the command line; each command's name is
-/// put behind it while the command is gone through, and taken off again. After `AllocError` `sections` is as it
-/// was, and `path` always is.
+/// Appends the section of a command line to `sections`, and then those of its commands, in the order of its item list,
+/// each before the commands below it. `path` leads to the command line. The name of each command is added to `path`
+/// while the command is gone through, and then removed, so that `path` always ends as it was. After `AllocError`
+/// `sections` is as it was.
 pub fn extract_sections<'a, A: Allocator, L: Allocator + Copy>(
     meta: &'a Meta<A>,
     info: &'a Info<A>,
@@ -139,7 +139,7 @@ fn append_parts<'a, A: Allocator, L: Allocator + Copy>(
     Ok(())
 }
 
-// The name of a command stands behind the path while the command is gone through.
+// The name of a command is at the end of the path while the command is gone through.
 #[cycle(append)]
 fn append_item<'a, A: Allocator, L: Allocator + Copy>(
     item: &'a Item<A>,

@@ -1,4 +1,4 @@
-//! Titles and texts round the lists of a page.
+//! Titles and texts around the lists of a page.
 ghost use Rattle.std.specs.Prelude.{◌≡◌, ◌∷◌, [], OnOk};
 ghost use Rattle.bpaf_doc.specs.Buffer.Writes.{inside, plain, with_writes};
 ghost use Rattle.bpaf_items.specs.Page.HelpPage.{doc_within};
@@ -6,7 +6,7 @@ ghost use Rattle.bpaf_items.specs.Page.HelpPage.{doc_within};
 use bpaf_doc::buffer::{Block, Doc, Style, Token};
 use std::alloc::{AllocError, Allocator};
 
-/// A title of a part of a page.
+/// Writes a title of a part of a page.
 pub fn put_title<A: Allocator>(doc: &mut Doc<A>, title: &str) -> Result<(), AllocError>
     ensures { OnOk result (doc.new ≡ with_writes doc.old (inside Block.Header (plain title.now ∷ []))) }
 {
@@ -15,7 +15,7 @@ pub fn put_title<A: Allocator>(doc: &mut Doc<A>, title: &str) -> Result<(), Allo
     doc.token(Token::BlockEnd(Block::Header))
 }
 
-/// A title in a block of its own.
+/// Writes a title in a block of its own.
 pub fn put_title_block<A: Allocator>(doc: &mut Doc<A>, title: &str) -> Result<(), AllocError>
     ensures { OnOk result (doc.new
         ≡ with_writes doc.old (inside Block.Block (inside Block.Header (plain title.now ∷ [])))) }
@@ -25,7 +25,7 @@ pub fn put_title_block<A: Allocator>(doc: &mut Doc<A>, title: &str) -> Result<()
     doc.token(Token::BlockEnd(Block::Block))
 }
 
-/// A text in a block of its own, if there is one.
+/// Writes a text in a block of its own, if there is one.
 pub fn put_within<A: Allocator, B: Allocator>(
     doc: &mut Doc<A>,
     text: &Option<Doc<B>>,

@@ -1,4 +1,4 @@
--- How the marks of an item list stand: each start before its stop, and no group in a group.
+-- How the marks of an item list stand: each start before its stop, and no group within a group.
 use Rattle.std.proofs.lemmas.Grind.{common_steps}
 use Rattle.std.proofs.Common.{◌≡◌, ℕ, ◌+◌, Bool, true, false, List, [], ◌∷◌, ◌++◌, refl, sym, subst, arith}
 use Rattle.std.specs.Prelude.{if◌then◌else◌, flat_map, count_by, Option, Some, None}
@@ -9,7 +9,7 @@ use Rattle.bpaf_items.specs.declared.meta_help.entry.HiTy.{HiTy}
 use Rattle.bpaf_items.specs.Listing.ItemList.{Entry, note, group_start, group_end, adjacent_start, adjacent_stop, front_type, item_entries, adjacent_entries, group_entries, noted_entries, entries_with_type, entries_of, entries_of_parts, item_list, IsItemList}
 use Rattle.bpaf_items.specs.Listing.Falls.{is_mark, is_adjacent_start, is_adjacent_stop}
 
--- nothing; an entry that is no mark; an adjacent block; a group, where groups are allowed; two joined
+-- nothing; an entry that is not a mark; an adjacent block; a group, where groups are allowed; two joined
 pub data Blocks : (groups : Bool) → List Entry → Type 0 where
   none : {g : Bool} {es : List Entry} → es ≡ [] → Blocks g es
   plain : {g : Bool} {es : List Entry} (e : Entry) → es ≡ e ∷ [] → is_mark e ≡ false → Blocks g es

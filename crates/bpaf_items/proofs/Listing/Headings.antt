@@ -1,4 +1,4 @@
--- Under a heading falls what the walk over the entries outside groups gives.
+-- What the walk over the entries outside groups gives is what falls under a heading.
 use Rattle.std.proofs.lemmas.Grind.{common_steps}
 use Rattle.std.proofs.Common.{◌≡◌, Bool, true, false, not, List, [], ◌∷◌, ◌++◌, map, refl, sym, ap, ◌∙◌, append-nil, arith}
 use Rattle.std.specs.Prelude.{filter, Option, Some, None}

@@ -1,4 +1,4 @@
--- Under which group an entry of an item list falls: one of those that the list has.
+-- The group that an entry of an item list falls under is one of those that the list has.
 use Rattle.std.proofs.Common.{◌≡◌, ℕ, ◌+◌, ◌-◌, ◌<◌, ◌≤◌, false, List, [], ◌∷◌, ◌++◌, length, refl, sym, ap, ◌∙◌, subst, append_assoc, arith}
 use Rattle.std.specs.Prelude.{count_by, All, Contains, Option}
 use Rattle.std.specs.List.{list_any, range_with_len}
@@ -26,7 +26,7 @@ outside_none p n out h = grind (arith, after_mark)
 number_is : (p : Placed) (n : ℕ) → destination p ≡ group n → number_at p ≡ n
 number_is p n h = grind (arith, outside_none)
 
--- a number of m is one of them
+-- a number from 1 to m is one of these
 among : (m n : ℕ) → 1 ≤ n → n ≤ m → Contains (range_with_len 1 m) n
 among m n low high =
     let below : n - 1 < length (range_with_len 1 m) = rw (length-range_with_len 1 m) (omega arith) in
@@ -44,7 +44,7 @@ module _ (m : ℕ) where
   outside : (p : Placed) → is_in_group p ≡ false → Within p
   outside p out = λ n h. absurd (outside_none p n out h)
 
-  -- behind a start, up to the end of its group
+  -- after a start, up to the end of its group
   inner_within : (before es : List Entry) → list_any is_group_mark es ≡ false → 1 ≤ count_by is_group_start before → count_by is_group_start before ≤ m → All Within (placed_after before es)
   inner_within before [] clear low high = All-nil Within
   inner_within before (e ∷ es) clear low high =

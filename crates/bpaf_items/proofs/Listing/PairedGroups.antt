@@ -75,7 +75,7 @@ pub count_through : (before es : List Entry) → list_any is_group_mark es ≡ f
 count_through before [] h = ap (count_by is_group_start) (append-nil before)
 count_through before (e ∷ es) h = grind (arith, count_through (before ++ e ∷ []) es, append_assoc, or_parts, count_same)
 
--- what stays of the entries in a group
+-- the entries of a group that are kept
 abbrev pub kept_after : List Entry → List Entry → Bool → List Entry
 kept_after before es c = map entry (filter (λ p. stays p && c) (placed_after before es))
 

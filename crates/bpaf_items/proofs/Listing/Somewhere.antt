@@ -1,4 +1,4 @@
--- In an item list what has help, or stands in no adjacent block, falls under a group or a heading.
+-- In an item list, what has help or is in no adjacent block falls under a group or a heading.
 use Rattle.std.proofs.Common.{◌≡◌, ◌≢◌, ℕ, ◌+◌, ◌<◌, ◌≤◌, Bool, true, false, not, ◌⊎◌, List, [], ◌∷◌, ◌++◌, refl, sym, ap, ◌∙◌, subst, append_assoc, append-nil, arith}
 use Rattle.std.specs.Prelude.{if◌then◌else◌, IsTrue, All, count_by, Option}
 use Rattle.std.specs.Option.{option_map_or}
@@ -25,9 +25,9 @@ heading_after_falls mark e h2 = grind arith
 pub help_falls : (p : Placed) → lacks_help p.1 ≡ false → destination p ≢ nowhere
 help_falls p h = grind (arith, group_falls, heading_after_falls)
 
--- ---- what stands in no adjacent block
+-- ---- what is in no adjacent block
 
--- of the entries before: not more starts are open in the group than in all, and an open block outside groups is counted
+-- of the entries before: no more starts are open in the group than in all, and an open block outside groups is counted
 record Fits (before : List Entry) : Type 0 where
   pub since : since_start is_adjacent_start before + stops_in before ≤ since_start is_adjacent_stop before + starts_in before
   pub outer : is_group_open before ≡ false → is_block_open before ≡ true → stops_in before < starts_in before
@@ -66,7 +66,7 @@ one_falls before e f = All-cons Falls (before, e) [] (falls_at (before, e) f) (A
 join_falls : (before es fs : List Entry) → All Falls (placed_after before es) → All Falls (placed_after (before ++ es) fs) → All Falls (placed_after before (es ++ fs))
 join_falls before es fs f h = All-same Falls (placed_after before (es ++ fs)) (placed_after before es ++ placed_after (before ++ es) fs) (placed_after-append before es fs) (All-append Falls (placed_after before es) (placed_after (before ++ es) fs) f h)
 
--- what is known before an entry that is no group mark is known after it
+-- what is known before an entry that is not a group mark is known after it
 after_entry : (g : Bool) (before : List Entry) (e : Entry) → is_group_mark e ≡ false → Stands g before
     → (starts stops : ℕ) → (if is_adjacent_start e then 1 else 0) ≡ starts → (if is_adjacent_stop e then 1 else 0) ≡ stops
     → stops_in before + stops ≤ starts_in before + starts
@@ -89,7 +89,7 @@ after_stop g before k s less = grind (arith, after_entry g before (adjacent_stop
 after_plain : (g : Bool) (before : List Entry) (e : Entry) → is_mark e ≡ false → Stands g before → Stands g (before ++ e ∷ [])
 after_plain g before e h s = grind (arith, or_parts (is_group_mark e) (is_adjacent_mark e) h, or_parts (is_adjacent_start e) (is_adjacent_stop e), block_open-push before e, in_group_here before e, after_entry g before e)
 
--- one after the other
+-- one list after another
 go_on : (g : Bool) (before es fs : List Entry) → Goes g before es → Goes g (before ++ es) fs → Goes g before (es ++ fs)
 go_on g before es fs f h = grind (arith, append_assoc, join_falls)
 

@@ -37,7 +37,7 @@ kept_true before (e ∷ es) = two_kept (stays (before, e) && true) (stays (befor
 next_alike : (a b c : ℕ) → c ≡ b + 1 → (a + 1 == c) ≡ (a == b)
 next_alike a b c is = rw (is, add-one, add-one) (eqb-suc-suc a b)
 
--- the numbers go down by one where a group before is left out
+-- the numbers go down by one where an earlier group is left out
 pub shifted : {es : List Entry} → HasPairedGroups es → (before other : List Entry) (n : ℕ) → is_group_open before ≡ false → is_group_open other ≡ false → count_by is_group_start before ≡ count_by is_group_start other + 1
     → members_after before es (n + 1) ≡ members_after other es n
 shifted (empty is) before other n o o2 c = rw is refl

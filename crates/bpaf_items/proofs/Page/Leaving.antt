@@ -14,7 +14,7 @@ use Rattle.bpaf_items.specs.Page.Steps.Pieces.{Leaves, joined, piece_writes, pie
 pub map_next : {X Y : Type 0} (f : X → Y) (xs : List X) (i : ℕ) (x : X) → i < length xs → x ≡ get_or xs i x → map f (take (i + 1) xs) ≡ map f (take i xs) ++ f x ∷ []
 map_next f xs i x within is = ap (map f) (take_more xs i x within) ∙ map-append f (take i xs) (get_or xs i x ∷ []) ∙ ap (λ y. map f (take i xs) ++ f y ∷ []) (sym is)
 
--- what stands round an element
+-- what stands around an element
 pub map_around : {X Y : Type 0} (f : X → Y) (xs : List X) (i : ℕ) (x d : X) → x ≡ get_or xs i d → i < length xs → map f xs ≡ map f (take i xs) ++ f x ∷ map f (drop (i + 1) xs)
 map_around f xs i x d at below = grind (arith, take-append-drop i xs, drop_more xs i d below, map-append f (take i xs) (get_or xs i d ∷ drop (i + 1) xs))
 
@@ -38,20 +38,20 @@ pieces-all x = grind (arith, append-nil)
 pub leaves_call : {T E : Type 0} (r : Result T E) (before now : List Part) (ws : List Write) → OnOk r (now ≡ with_writes before ws) → OnErr r (now ≡ before) → Leaves r before now ws
 leaves_call r before now ws ok err = (Grows-call r before now ws ok err, ok)
 
--- a call after one that was done
+-- a call after one that succeeded
 pub leaves_then : {T E : Type 0} (r : Result T E) (before mid now : List Part) (vs ws : List Write) → mid ≡ with_writes before vs → Leaves r mid now ws → Leaves r before now (vs ++ ws)
 leaves_then (Ok x) before mid now vs ws e (grows, ok) = (Grows-then before mid now (vs, e) grows, ok ∙ ap (λ ps. with_writes ps ws) e ∙ sym (with_writes-append before vs ws))
 leaves_then (Err x) before mid now vs ws e (grows, ok) = (Grows-then before mid now (vs, e) grows, tt)
 
--- a call after two that were done
+-- a call after two that succeeded
 pub leaves_third : {T E : Type 0} (r : Result T E) (before first mid now : List Part) (us vs ws : List Write) → first ≡ with_writes before us → mid ≡ with_writes first vs → Leaves r mid now ws → Leaves r before now ((us ++ vs) ++ ws)
 leaves_third r before first mid now us vs ws e f h = leaves_then r before mid now (us ++ vs) ws (f ∙ ap (λ ps. with_writes ps vs) e ∙ sym (with_writes-append before us vs)) h
 
--- the next text of some that are one
+-- the next of some texts that are written as one
 pub text_next : (texts : List (Bor (List ℕ))) (i : ℕ) (d : Bor (List ℕ)) (before mid now : List Part) (how : Style) → i < length texts
     → mid ≡ with_text before (flat_map (λ x. x.now) (take i texts)) how → now ≡ with_text mid (get_or texts i d).now how → now ≡ with_text before (flat_map (λ x. x.now) (take (i + 1) texts)) how
 text_next texts i d before mid now how within e f = grind (arith, common_steps, with_text_twice before, flat_map_next)
 
--- writes after writes, where the call before was done
+-- writes after writes, where the call before succeeded
 pub written_then : (before mid now : List Part) (vs ws : List Write) → mid ≡ with_writes before vs → now ≡ with_writes mid ws → now ≡ with_writes before (vs ++ ws)
 written_then before mid now vs ws e f = f ∙ ap (λ ps. with_writes ps ws) e ∙ sym (with_writes-append before vs ws)

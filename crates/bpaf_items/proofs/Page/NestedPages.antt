@@ -174,7 +174,7 @@ listed_keeps included texts (command n c h t i) k = with_help h (command_keeps n
 listed_keeps included texts (flag n s e h) k = both_keep (with_help h (names_keep n) k) (env_keeps included (λ v. flag_env_text v (texts v)) h e)
 listed_keeps included texts (argument n s m e h) k = both_keep (with_help h (both_keep (names_keep n) (text_then (codes "=") style.Text (value_keeps m))) k) (env_keeps included (λ v. argument_env_text v (texts v)) h e)
 
--- an entry that is no group mark
+-- an entry that is not a group mark
 entry_keeps : (included : Bool) (texts : Texts) (e : Entry) → is_group_mark e ≡ false → HasNestedEntry e → Keeps (entry_writes included texts e)
 entry_keeps included texts (listed l) n k = listed_keeps included texts l k
 entry_keeps included texts (note d j) n k = both_keep (inside_keeps block.ItemTerm nothing_keeps) (inside_keeps block.ItemBody (doc_keeps d k))
@@ -277,6 +277,6 @@ page_keeps path (head descr header footer usage own) t help included texts h k l
 pub help_pages_are_nested : HelpPagesAreNested
 help_pages_are_nested path i t help included texts h k l = written_keeps (page_keeps path i t help included texts h k l)
 
--- and written behind what a document holds
+-- and written after what a document holds
 pub help_pages_keep : (path : List (List ℕ)) (i : Head) (t help : Tree) (included : Bool) (texts : Texts) → HasNestedHead i → HasNestedTexts t → HasNestedTexts help → KeepsNested (help_page_writes path i t help included texts)
 help_pages_keep path i t help included texts h k l = (page_keeps path i t help included texts h k l).nested

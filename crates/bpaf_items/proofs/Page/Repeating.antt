@@ -98,7 +98,7 @@ puts_key keys after x is_new own answer put all = grind (arith, found, put_has, 
 
 -- ---- an entry with a key, and one without
 
--- a number that stands among distinct ones is none of those before it
+-- a number that is among distinct ones differs from those before it
 at_middle : (P : ℕ → Type 0) (xs ys : List ℕ) (h : ℕ) → AllByRecursion P (xs ++ h ∷ ys) → P h
 at_middle P [] ys h all = all.0
 at_middle P (x ∷ xs) ys h all = at_middle P xs ys h all.1
@@ -175,7 +175,7 @@ dedup_whole k (x ∷ xs) h = grind (arith, dedup_whole x xs, dedup_within)
 all_kept : (xs : List ℕ) → length (dedup nat_eq xs) ≡ length xs → dedup nat_eq xs ≡ xs
 all_kept xs h1 = grind (arith, dedup_whole)
 
--- numbers of which none is left out once they are sorted
+-- numbers are distinct if removing duplicates removes none once they are sorted
 pub distinct_sorted : (xs sorted : List ℕ) → IsPermutation xs sorted → IsSorted nat_cmp sorted → length (dedup nat_eq sorted) ≡ length sorted → IsDistinct nat_eq xs
 distinct_sorted xs sorted moved rises whole =
     let ascend : IsStrictlySortedBy nat_cmp sorted = subst (IsStrictlySortedBy nat_cmp) (all_kept sorted whole) (IsStrictlySortedBy-dedup nat_cmp_total unsigned_ties sorted rises) in

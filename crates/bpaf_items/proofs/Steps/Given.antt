@@ -1,4 +1,4 @@
--- Going through a list with the block kept that was started last gives the entries of a heading.
+-- Going through a list and keeping the block that was started last gives the entries of a heading.
 use Rattle.std.proofs.Common.{◌≡◌, Bool, List, [], ◌∷◌, ◌++◌, map, refl, ap, arith}
 use Rattle.std.specs.Prelude.{if◌then◌else◌, filter, cond, Option, Some, None, ◌+◌, not}
 use Rattle.std.specs.List.{position, prefix_len}

@@ -1,4 +1,5 @@
--- A block's first mark, which stands in its place before its type is known; and a tree without a front type, which lists nothing.
+-- A block's first mark, which has its place before its type is known; and a tree without a front type, which lists
+-- nothing.
 use Rattle.std.proofs.Common.{◌≡◌, ℕ, suc, ◌<◌, Bool, true, false, List, [], ◌∷◌, ◌++◌, map, take, drop, length, refl, sym, ap, ◌∙◌, append_assoc, append-nil, arith}
 use Rattle.std.specs.Prelude.{slice_set, Option, None}
 use Rattle.std.specs.List.{swap_remove}
@@ -71,7 +72,7 @@ module _ {X : Type 0} where
   kept_at : (old opened now : List X) (at : ℕ) (p : X) → at ≡ length old → opened ≡ old ++ p ∷ [] → IsFront opened now → take at now ≡ old
   kept_at old opened now at p n e f = ap (λ m. take m now) n ∙ ap (take (length old)) (f.1 ∙ ap (λ xs. xs ++ f.0) e) ∙ take_kept old f.0 p
 
-  -- the place that was kept is taken away, with what stands behind it
+  -- the place that was kept is removed, with what stands after it
   pub away_front : (old opened now after : List X) (at : ℕ) (p : X) → at ≡ length old → opened ≡ old ++ p ∷ [] → IsFront opened now → after ≡ take at now → IsFront old after
   away_front old opened now after at p n e f h = ([], h ∙ kept_at old opened now at p n e f ∙ sym (append-nil old))
 

@@ -1,4 +1,4 @@
--- Where an entry of an item list falls, and which entries are shown: both by a look back over the entries before it.
+-- Where an entry of an item list falls, and which entries are shown. Both depend on the entries before it.
 use Rattle.std.specs.Prelude.{ℕ, Bool, true, false, not, ◌&&◌, ◌||◌, if◌then◌else◌, List, [], ◌∷◌, ◌++◌, map, filter, count_by, nat_lt, ◌==◌, Option, Some, None, is_some}
 use Rattle.std.specs.Option.{option_map_or}
 use Rattle.std.specs.List.{list_any, last_or, after_last, range_with_len}
@@ -96,19 +96,19 @@ pub data Destination : Type 0 where
   heading : HiTy → Destination
   nowhere : Destination
 
--- an entry after a last adjacent mark: that mark's heading if it is a start and the entry has help, no heading if it
--- has none; else the heading of its own type
+-- where an entry after this last adjacent mark falls: if the mark is a start, under the mark's heading with help and
+-- nowhere without; otherwise under the heading of its own type
 abbrev pub heading_after : Option Entry → Entry → Destination
 heading_after (Some (adjacent_start t k)) e = if lacks_help e then nowhere else heading k
 heading_after mark e = heading (type_of e)
 
--- inside group marks: under that group, but under nothing without help in an adjacent block of it
+-- inside group marks: under that group, except that in an adjacent block what lacks help falls under nothing
 abbrev pub group_destination : Placed → Destination
 group_destination p =
     if lacks_help p.1 && is_adjacent_in_group p.0 then nowhere
     else group (count_by is_group_start (p.0 ++ p.1 ∷ []))
 
--- outside them: a mark under the heading of its own type, any other by the last adjacent mark, groups left out
+-- outside them: a mark under the heading of its own type, any other by the last adjacent mark outside groups
 abbrev pub heading_destination : Placed → Destination
 heading_destination p =
     if is_mark p.1 then heading (type_of p.1)
@@ -160,8 +160,8 @@ shown_places es = filter is_shown (placed es)
 abbrev pub shown_entries : List Entry → List Entry
 shown_entries es = map (λ p. p.1) (shown_places es)
 
--- what `items_of_ty` gives: a mark by its own type; any other by the last mark before it. In an open block it goes by
--- the block's type, and in an adjacent one it needs help
+-- what `items_of_ty` gives: a mark by its own type; any other entry by the last mark before it. If that starts a group
+-- or an adjacent block the entry goes by its type, and in an adjacent block it needs help; else by its own type
 abbrev pub is_given_after : Option Entry → HiTy → Entry → Bool
 is_given_after (Some (adjacent_start t j)) k e = not (lacks_help e) && same_type j k
 is_given_after (Some (group_start d j)) k e = same_type j k

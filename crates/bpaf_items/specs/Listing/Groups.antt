@@ -18,7 +18,7 @@ find_group es = both_places (position is_group_start es) (position is_group_end 
 abbrev pub HasNoGroupMark : List Entry → Type 0
 HasNoGroupMark es = list_any is_group_mark es ≡ false
 
--- nothing; an entry outside groups, and others; a group without groups in it, and others
+-- nothing; an entry outside groups, and more; a group without groups in it, and more
 pub data HasPairedGroups : List Entry → Type 0 where
   empty : {es : List Entry} → es ≡ [] → HasPairedGroups es
   outer : {es : List Entry} (e : Entry) (rest : List Entry) → es ≡ e ∷ rest
@@ -27,7 +27,7 @@ pub data HasPairedGroups : List Entry → Type 0 where
       → es ≡ group_start d j ∷ (inner ++ group_end k ∷ rest)
       → HasNoGroupMark inner → HasPairedGroups rest → HasPairedGroups es
 
--- the entries between the marks of a group that stay there: all but those without help in an adjacent block of it
+-- the entries between the marks of a group that are kept: all except those without help in an adjacent block of it
 abbrev pub stays : Placed → Bool
 stays p = not (lacks_help p.1 && is_adjacent_in_group p.0)
 

@@ -25,7 +25,7 @@ type_of_item (command n c h t i) = ty.Command
 type_of_item (flag n s e h) = ty.Flag
 type_of_item (argument n s m e h) = ty.Flag
 
--- the front type: an item's type; of an And or an Or the first that a part gives; none of Skip; else that of the inner
+-- the front type: an item's type; for an And or an Or the first that a part has; none for Skip; else that of the inner
 -- tree
 abbrev mutual
   pub front_type : Tree → Option HiTy

@@ -1,4 +1,4 @@
--- What a key feeds a hasher: its texts, of documents the texts without the marks.
+-- What a key feeds a hasher: its texts, and of its documents the texts without the marks.
 use Rattle.std.specs.Prelude.{ℕ, List, [], ◌∷◌, ◌++◌, Option, Some, None, flat_map}
 use Rattle.std.specs.Hash as fed
 use Rattle.bpaf_doc.specs.Buffer.Parts.{Part, Text, Start, End}

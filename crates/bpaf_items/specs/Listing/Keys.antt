@@ -1,4 +1,4 @@
--- By what a list tells two items apart, and which of two keys comes first.
+-- How a list tells two items apart, and which of two keys comes first.
 use Rattle.std.specs.Prelude.{◌≡◌, ℕ, Bool, List, [], Option, Some, None, IsTrue, ◌↔◌, nat_eq}
 use Rattle.std.specs.Option.{option_eq, option_cmp}
 use Rattle.std.specs.Ordering.{nat_cmp, on, then_cmp, eq_of_both, eq_by_cmp}
@@ -25,7 +25,7 @@ key_of (command n c h t i) = word_key n h
 key_of (flag n s e h) = flag_key n h
 key_of (argument n s m e h) = argument_key n m h
 
--- the key of an entry, of which marks and notes have none
+-- the key of an entry; marks and notes have none
 abbrev pub entry_key : Entry → Option Key
 entry_key (listed l) = Some (key_of l)
 entry_key e = None
@@ -98,7 +98,7 @@ same_key = eq_of_both (on key_class nat_eq)
 
 -- ---- order
 
--- by the form of the name, then the character, then the text
+-- by form, then by character, then by text
 abbrev pub name_cmp : Name → Name → Ordering
 name_cmp = then_cmp (on name_form_number nat_cmp)
     (then_cmp (on name_character (option_cmp nat_cmp)) (on name_text (slice_cmp nat_cmp)))
@@ -107,7 +107,7 @@ name_cmp = then_cmp (on name_form_number nat_cmp)
 abbrev pub help_cmp : Option (List Part) → Option (List Part) → Ordering
 help_cmp = option_cmp document_cmp
 
--- by class, and in a class by document, name and text, as it has them, and then by help
+-- by class, then by document, name and text, where the class has them, and then by help
 abbrev pub key_cmp : Key → Key → Ordering
 key_cmp = then_cmp (on key_class nat_cmp)
     (then_cmp (on key_document document_cmp)

@@ -21,7 +21,7 @@ abbrev pub help_writes : Option (List Part) → List Write
 help_writes None = []
 help_writes (Some d) = body (doc_writes d)
 
--- the names of a flag or an argument, a lone long name set in by four blanks
+-- the names of a flag or an argument; a lone long name is indented by four blanks
 abbrev pub names_writes : Name → List Write
 names_writes (short c) = literal (short_text c) ∷ []
 names_writes (long n) = literal (codes "    " ++ long_text n) ∷ []
@@ -44,7 +44,7 @@ abbrev pub argument_env_text : List ℕ → Option (List ℕ) → List ℕ
 argument_env_text n None = env_text n (codes ": N/A")
 argument_env_text n (Some s) = env_text n (codes " = " ++ s)
 
--- the text if environment texts are included, and else the name alone
+-- the text if environment texts are included, otherwise only the name
 abbrev pub env_body : (include_env : Bool) → (name text : List ℕ) → List Write
 env_body true n s = plain s ∷ []
 env_body false n s = plain (codes "Uses environment variable ") ∷ literal n ∷ []

@@ -7,7 +7,7 @@ use Rattle.bpaf_doc.specs.Buffer.Equality.{same_text}
 abbrev pub Texts : Type 0
 Texts = List ℕ → Option (List ℕ)
 
--- what a list of names and texts gives a name: the text of the first pair with that name
+-- the text that a list of names and texts has for a name: that of the first pair with the name
 abbrev pub texts_in : List (List ℕ × List ℕ) → Texts
 texts_in pairs name = lookup (same_text name) pairs
 
@@ -19,7 +19,7 @@ no_texts name = None
 abbrev pub texts_with : Texts → (name text : List ℕ) → Texts
 texts_with texts name text = λ other. if same_text name other then Some text else texts other
 
--- two maps say the same of every name
+-- two maps have the same text for each name
 abbrev pub AreSameTexts : Texts → Texts → Type 0
 AreSameTexts texts others = (name : List ℕ) → texts name ≡ others name
 

@@ -35,7 +35,7 @@ abbrev pub doc_within : Block → Option (List Part) → List Write
 doc_within b None = []
 doc_within b (Some d) = inside b (doc_writes d)
 
--- an info's own usage document, or else `Usage: `, the path and the usage of the tree
+-- an info's own usage document, otherwise `Usage: `, the path and the usage of the tree
 abbrev pub usage_line_writes : (path : List (List ℕ)) → (usage : Option (List Part)) → Tree → List Write
 usage_line_writes path (Some d) t = doc_writes d
 usage_line_writes path None t = emphasis (codes "Usage") ∷ plain (codes ": ")

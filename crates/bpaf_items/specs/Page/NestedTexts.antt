@@ -23,7 +23,7 @@ HasNestedText (command n c h t i) = IsNestedText h
 HasNestedText (flag n s e h) = IsNestedText h
 HasNestedText (argument n s m e h) = IsNestedText h
 
--- the texts of the items, and the documents of each Subsection, Suffix and CustomUsage, commands' own trees aside
+-- the texts of the items, and the documents of each Subsection, Suffix and CustomUsage, without commands' own trees
 abbrev mutual
   pub HasNestedTexts : Tree → Type 0
   HasNestedTexts (and_of ts) = EachHasNestedTexts ts
@@ -48,7 +48,7 @@ abbrev pub HasNestedHead : Head → Type 0
 HasNestedHead (head descr header footer usage help) = IsNestedText descr × IsNestedText header × IsNestedText footer
     × IsNestedText usage × HasNestedTexts help
 
--- what an entry writes of documents
+-- the documents that an entry writes are well nested
 abbrev pub HasNestedEntry : Entry → Type 0
 HasNestedEntry (listed l) = HasNestedText l
 HasNestedEntry (note d k) = IsWellNested d

@@ -1,4 +1,4 @@
--- What a call for a page answers, by the content of its answer.
+-- What a call for a page returns, by its content.
 use Rattle.std.specs.Prelude.{◌≡◌, ℕ, Bool, List}
 use Rattle.bpaf_doc.specs.Buffer.Parts.{Part}
 use Rattle.bpaf_doc.specs.Buffer.Writes.{document_of}
@@ -7,7 +7,7 @@ use Rattle.bpaf_meta.specs.Meta.Misplaced.{IsWellPlaced, IsFirstMisplaced}
 use Rattle.bpaf_items.specs.Page.EnvTexts.{Texts}
 use Rattle.bpaf_items.specs.Page.HelpPage.{help_page_writes}
 
--- a page, a misplaced item, or that an allocation failed
+-- a page, a misplaced item, or a failed allocation
 pub data Answer (A : Type 0) : Type 0 where
   page : A → Answer A
   misplaced : Leaf → Answer A

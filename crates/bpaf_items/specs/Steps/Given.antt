@@ -1,4 +1,4 @@
--- Which items are listed, and what `items_of_ty` gives, one entry after another, with the block kept that was started
+-- Which items are listed, and what `items_of_ty` gives as it goes through a list and keeps the block that was started
 -- last.
 use Rattle.std.specs.Prelude.{Bool, true, false, not, ◌&&◌, if◌then◌else◌, List, [], ◌∷◌, None}
 use Rattle.bpaf_meta.specs.Content.{Leaf, positional}

@@ -41,7 +41,7 @@ options_tied same order tied None (Some y) = refl
 options_tied same order tied (Some x) None = refl
 options_tied same order tied (Some x) (Some y) = tied x y
 
--- two tests, each tied to an order, are tied to the one order after the other
+-- two tests, each tied to an order, are together tied to the first order followed by the second
 both_orders_tied : {X : Type 0} (same also : X → X → Bool) (order next : X → X → Ordering)
     → ((x y : X) → same x y ≡ eq_by_cmp order x y) → ((x y : X) → also x y ≡ eq_by_cmp next x y)
     → (x y : X) → eq_of_both same also x y ≡ eq_by_cmp (then_cmp order next) x y

@@ -1,5 +1,5 @@
--- How the content of a list is kept as a tree of numbers, which gives it back. No promise is about this: it lets a type
--- be seen as its entries.
+-- How the content of a list is stored as a tree of numbers, from which it can be read back. No promise is about this:
+-- it lets a type be seen as its entries.
 use Rattle.std.specs.Prelude.{◌≡◌, refl, ℕ, Bool, true, false, List, [], ◌∷◌, Option, Some, None}
 use Rattle.std.proofs.Common.{ap, ◌∙◌, get_or, zero, suc}
 use Rattle.std.specs.Coded.{Coded, code_by, coded_list}

@@ -12,7 +12,7 @@ use bpaf_meta::meta::Meta;
 use bpaf_meta::meta_help::{Info, Metavar};
 use std::alloc::{Allocator, Global};
 
-/// The heading that an item stands under.
+/// The heading that an item is listed under.
 #[derive(Clone, Copy, Debug, PartialEq, Eq)]
 pub enum HiTy {
     Flag,
@@ -78,8 +78,8 @@ impl<'a, A: Allocator> From<&'a Item<A>> for HiTy {
 
     ghost from_gives = { λ item ty. ty ≡ type_of_item (leaf_of item.now) };
 
-    /// The heading of an item: an `Any` that may stand anywhere is with the flags, and any other with the positional
-    /// values.
+    /// The heading of an item. An `Any` that may stand anywhere is listed with the flags, any other `Any` with the
+    /// positional values.
     fn from(item: &'a Item<A>) -> HiTy {
         match item {
             Item::Any { anywhere, .. } => {
@@ -160,7 +160,7 @@ impl<'a, A: Allocator> From<&'a Item<A>> for HelpItem<'a, A> {
 }
 
 impl<'a, A: Allocator> HelpItem<'a, A> {
-    /// The key of an item, and none of a mark or a note.
+    /// The key of an item. Marks and notes have none.
     pub fn key(&self) -> Option<ItemKey<'a, A>>
         ensures { option_map key_in result ≡ entry_key (entry_of self.now) }
     {

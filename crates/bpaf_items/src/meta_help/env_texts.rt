@@ -40,8 +40,8 @@ impl<A: Allocator + Copy> EnvTexts<A> {
         }
     }
 
-    /// Gives the name this text, in place of an earlier one. An `AllocError` says that an allocation failed; then every
-    /// name has the text that it had.
+    /// Sets the text for the name, in place of an earlier one. An `AllocError` says that an allocation failed; then
+    /// each name has the text that it had.
     pub fn insert(&mut self, name: &str, text: &str) -> Result<(), AllocError>
         ensures ok { OnOk result (AreSameTexts (texts_in self.new) (texts_with (texts_in self.old) name.now text.now)) }
         ensures err { OnErr result (AreSameTexts (texts_in self.new) (texts_in self.old)) }

@@ -1,4 +1,4 @@
-//! What a call for a help page can answer in its place.
+//! Why there is no help page.
 
 use bpaf_meta::item::Item;
 use std::alloc::{AllocError, Allocator, Global};

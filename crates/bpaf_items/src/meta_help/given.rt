@@ -1,4 +1,4 @@
-//! The entries of a list that stand under a heading.
+//! The entries of a list that belong to a heading.
 ghost use Rattle.std.specs.Prelude.{◌≡◌, map};
 ghost use Rattle.bpaf_items.specs.Listing.Falls.{items_of_type, lacks_help, type_of};
 ghost use Rattle.bpaf_items.specs.Steps.Given.{is_given_in, state_after};
@@ -8,7 +8,7 @@ use crate::meta_help::entry::{HelpItem, HiTy};
 use std::alloc::{Allocator, Global};
 use std::marker::Model;
 
-/// The entries of a list that stand under one heading, in order, as `HelpItems::items_of_ty` gives them.
+/// The entries of a list that belong to one heading, in order, as `HelpItems::items_of_ty` gives them.
 #[derive(Drop)]
 pub struct HelpItemsIter<'a, 's, A: Allocator = Global> {
     items: &'s [HelpItem<'a, A>],
@@ -17,7 +17,7 @@ pub struct HelpItemsIter<'a, 's, A: Allocator = Global> {
     ty: HiTy,
 }
 
-// Which block was started last, and not ended.
+// The block that was started last and has not ended.
 #[derive(Clone, Copy)]
 pub enum State {
     Outside,
@@ -89,7 +89,7 @@ impl State {
         }
     }
 
-    // A mark goes by its own type, any other entry by the block that it stands in.
+    // A mark goes by its own type, any other entry by the block that it is in.
     pub fn is_given<A: Allocator>(self, item: &HelpItem<'_, A>, ty: HiTy) -> bool
         ensures { result ≡ is_given_in self ty (entry_of item.now) }
     {

@@ -21,7 +21,7 @@ use bpaf_doc::buffer::{Doc, Style};
 use std::alloc::{AllocError, Allocator, Global};
 
 impl<'t, C: Allocator, L: Allocator + Copy> Writer<'t, C, L> {
-    /// Writes the groups of a list, and then the headings over what stands outside them.
+    /// Writes the groups of a list, and then the headings over what is outside them.
     pub fn put_all<'a, 's, A: Allocator, B: Allocator + Copy>(
         &self,
         doc: &mut Doc<A>,
@@ -36,7 +36,7 @@ impl<'t, C: Allocator, L: Allocator + Copy> Writer<'t, C, L> {
         self.put_headings(doc, outside.as_slice())
     }
 
-    // Writes the groups in order, and keeps what stands outside them.
+    // Writes the groups in order, and collects what is outside them.
     fn put_groups<'a, 's, A: Allocator, B: Allocator + Copy>(
         &self,
         doc: &mut Doc<A>,
@@ -58,7 +58,7 @@ impl<'t, C: Allocator, L: Allocator + Copy> Writer<'t, C, L> {
         Ok(())
     }
 
-    // Writes a first group, or keeps a first entry outside groups, and answers how many entries that takes.
+    // Writes a first group, or collects a first entry outside groups, and returns how many entries that takes.
     fn put_first<'a, 's, A: Allocator, B: Allocator + Copy>(
         &self,
         doc: &mut Doc<A>,
@@ -187,7 +187,7 @@ struct Depth {
     stops: usize,
 }
 
-// Adds what is shown of a group: all but the items without help in an adjacent block of it.
+// Adds what is shown of a group: all except the items without help in an adjacent block of it.
 fn keep<'a, 's, B: Allocator, L: Allocator + Copy>(
     members: &mut Vec<&'s HelpItem<'a, B>, L>,
     entries: &'s [HelpItem<'a, B>],

@@ -1,4 +1,4 @@
-//! By what a list tells two items apart.
+//! How a list tells two items apart.
 ghost use Rattle.std.specs.Prelude.{◌≡◌, fold};
 ghost use Rattle.std.specs.Option.{option_copied};
 ghost use Rattle.std.specs.Ordering.{ordering_then};
@@ -14,9 +14,9 @@ use std::alloc::{Allocator, Global};
 use std::cmp::Ordering;
 use std::hash::{Hash, Hasher};
 
-/// The key of an item: two items of one group or heading with equal keys are shown once. A positional value and a
-/// command share a class; short command names, names of environment variables and `anywhere` are in no key. Each key
-/// ends in the help.
+/// The key of an item: of the items of one group or heading with equal keys, only the first is shown. A positional
+/// value and a command share a class. Short command names, names of environment variables and `anywhere` are not part
+/// of a key. Each key ends in the help.
 #[derive_where(Clone, Copy, Debug)]
 pub enum ItemKey<'a, A: Allocator = Global> {
     /// The metavar of an `Any`.

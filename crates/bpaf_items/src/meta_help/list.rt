@@ -90,9 +90,9 @@ impl<'a, A: Allocator, L: Allocator> HelpItems<'a, A, L> {
     }
 
     /// The entries of a heading, in order. A mark goes by its own type. Any other entry goes by the last mark before
-    /// it: behind the start of a group by the type of the group, behind that of an adjacent block by the type of the
-    /// block, and then only with help, and else by its own type. A note counts as an item with help. It takes no
-    /// memory.
+    /// it: after the start of a group by the type of the group; after the start of an adjacent block by the type of the
+    /// block, if it has help, and otherwise it is left out; and in all other cases by its own type. A note counts as an
+    /// item with help. It takes no memory.
     pub fn items_of_ty(&self, ty: HiTy) -> HelpItemsIter<'a, '_, A>
         ensures { result ≡ items_of_type self.now ty }
     {
@@ -101,7 +101,7 @@ impl<'a, A: Allocator, L: Allocator> HelpItems<'a, A, L> {
 }
 
 impl<'a, A: Allocator, L: Allocator + Copy> HelpItems<'a, A, L> {
-    // The allocator of the list, for lists that are made of it.
+    // The allocator of the list, for lists that are made from it.
     pub(crate) fn allocator(&self) -> L {
         *self.items.allocator()
     }

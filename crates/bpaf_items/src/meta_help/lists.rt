@@ -17,7 +17,7 @@ use bpaf_doc::buffer::Doc;
 use std::alloc::{AllocError, Allocator};
 
 impl<'t, C: Allocator, L: Allocator + Copy> Writer<'t, C, L> {
-    /// Writes what is shown of a list. The keys seen so far are kept in memory of the writer's allocator.
+    /// Writes what is shown of a list. The keys seen so far take memory of the writer's allocator.
     pub fn put_list<'a, 's, A: Allocator, B: Allocator + Copy>(
         &self,
         doc: &mut Doc<A>,

@@ -25,10 +25,10 @@ use bpaf_meta::meta_help::Info;
 use bpaf_meta::usage::write_meta;
 use std::alloc::{AllocError, Allocator};
 
-/// Writes the groups of the list in order, and then what stands outside them under the headings of positional items,
-/// options and commands. Each group and each heading shows a key once, at its first place. The texts of `texts` are
-/// shown for names of environment variables if `include_env` says so, and else the names alone. Memory for the list is
-/// used on the way. After `AllocError` the document is as it was.
+/// Writes the groups of the list in order, and then what is outside them under the headings of positional items,
+/// options and commands. Each group and each heading shows a key once, at its first place. If `include_env` is true,
+/// names of environment variables are shown with their texts in `texts`, otherwise alone. Working memory comes from the
+/// list's allocator. After `AllocError` the document is as it was.
 pub fn write_help_item_groups<A: Allocator, B: Allocator + Copy, L: Allocator + Copy, C: Allocator>(
     doc: &mut Doc<A>,
     items: HelpItems<'_, B, L>,
@@ -82,9 +82,9 @@ impl<'t, C: Allocator, L: Allocator + Copy> Writer<'t, C, L> {
     }
 }
 
-/// Writes the help page of a command line behind what the document holds: its texts, its usage line behind the path to
-/// it, and the items of `parser` and then of `help` under their groups and headings. No item's place is checked. Memory
-/// is used on the way. After `AllocError` the document is as it was.
+/// Appends the help page of a command line to the document: its texts, its usage line with the path to it, and the
+/// items of `parser` and then of `help` under their groups and headings. Whether items are misplaced is not checked.
+/// Working memory comes from `alloc`. After `AllocError` the document is as it was.
 pub fn write_help<
     A: Allocator,
     L: Allocator + Copy,
@@ -117,8 +117,8 @@ pub fn write_help<
     doc.settle(before, written)
 }
 
-/// The help page of a command line as a document of its own, as `write_help` writes it. `Misplaced` is the first named
-/// item of `parser` that stands behind a positional one; it comes before memory is asked for. `Memory` says that an
+/// The help page of a command line as a document of its own, as `write_help` writes it. `Misplaced` has the first named
+/// item of `parser` that stands after a positional one; it comes before memory is asked for. `Memory` says that an
 /// allocation failed.
 pub fn render_help<'m, A: Allocator + Copy, P: Allocator, B: Allocator + Copy, C: Allocator>(
     alloc: A,
@@ -166,7 +166,7 @@ fn listing<'a, A: Allocator + Copy, B: Allocator>(
     Ok(items)
 }
 
-// What stands above the list: the description, the usage line and the header.
+// What is above the list: the description, the usage line and the header.
 fn put_front<A: Allocator, P: Allocator, B: Allocator + Copy>(
     doc: &mut Doc<A>,
     path: &[String<P>],

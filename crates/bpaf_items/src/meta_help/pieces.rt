@@ -1,4 +1,4 @@
-//! Small things that pages are written of.
+//! Small parts that pages are made of.
 ghost use Rattle.std.specs.Prelude.{[], ◌∷◌};
 ghost use Rattle.bpaf_doc.specs.Buffer.Writes.{inside, text};
 ghost use Rattle.bpaf_meta.specs.Content.{both};
@@ -13,7 +13,7 @@ use bpaf_meta::meta_help::Metavar;
 use bpaf_meta::usage::{metavar, write_meta, write_shortlong};
 use std::alloc::{AllocError, Allocator, Global};
 
-/// What is written at once.
+/// One part of what is written.
 #[derive_where(Clone, Copy)]
 pub enum Piece<'a, A: Allocator> {
     Start(Block),
@@ -21,10 +21,10 @@ pub enum Piece<'a, A: Allocator> {
     Text(&'a str, Style),
     /// A character in literal style.
     Character(char),
-    /// Texts that are one.
+    /// Texts that are written as one.
     Joined(&'a [&'a str], Style),
-    /// The names of a flag or an argument. A lone long name is set in by four blanks, so that it stands below those
-    /// behind a short one.
+    /// The names of a flag or an argument. A lone long name is indented by four blanks, so that it stands below those
+    /// after a short one.
     Names(ShortLong),
     /// The name of a value.
     Value(Metavar),
@@ -35,7 +35,7 @@ pub enum Piece<'a, A: Allocator> {
     Usage(&'a Meta<A>),
 }
 
-// What these functions wrote stays where an allocation fails: the public calls above them take it back.
+// What these functions wrote stays where an allocation fails: the public calls that use them take it back.
 
 /// Writes the pieces in order.
 pub fn put<A: Allocator, B: Allocator + Copy>(
@@ -93,7 +93,7 @@ fn put_piece<A: Allocator, B: Allocator + Copy>(
     }
 }
 
-// The texts as one, since a text joins the one before it.
+// The texts become one, since a text joins the one before it.
 fn put_joined<A: Allocator>(
     doc: &mut Doc<A>,
     texts: &[&str],

@@ -11,9 +11,9 @@ use std::alloc::{AllocError, Allocator};
 use std::collections::BTreeSet;
 use std::hash::{FoldHasher, Hash, Hasher};
 
-/// What is remembered of the entries of one group or heading: the keys of its items, unless each item has a hash of its own, and
-/// whether a note would be shown now. Each key stands behind its hash, so that most are told apart by a number. Where
-/// hashes collide, the keys are in order still, and none is compared with all others.
+/// What is remembered of the entries of one group or heading: the keys of its items, unless all items have different
+/// hashes; and whether a note would be shown now. Each key is stored with its hash first, so that most keys are told
+/// apart by a number. Keys whose hashes collide are ordered too, so that no key is compared with all others.
 #[derive(Drop)]
 pub struct Repeats<'s, B: Allocator, L: Allocator> {
     are_apart: bool,
@@ -22,7 +22,7 @@ pub struct Repeats<'s, B: Allocator, L: Allocator> {
 }
 
 impl<'s, B: Allocator, L: Allocator + Copy> Repeats<'s, B, L> {
-    /// Nothing is remembered. `shows` is to be asked for these entries in turn.
+    /// Nothing is remembered yet. `shows` is to be called for each of these entries in turn.
     pub fn new<'a>(
         alloc: L,
         entries: &[&'s HelpItem<'a, B>],
@@ -79,7 +79,7 @@ impl<'s, B: Allocator, L: Allocator + Copy> Repeats<'s, B, L> {
     }
 }
 
-// Whether no two items have one hash. Then no two have one key.
+// Whether no two items have the same hash. Then no two have the same key.
 fn are_apart<'a, B: Allocator, L: Allocator>(
     alloc: L,
     entries: &[&HelpItem<'a, B>],

@@ -6,10 +6,10 @@ use bpaf_doc::buffer::Doc;
 use bpaf_meta::item::ShortLong;
 use std::alloc::{AllocError, Allocator};
 
-// The marks and texts of an entry that are not of its help.
+// The marks and texts of an entry, without those of its help.
 const PARTS: usize = 12;
 
-// What stands round its names: blanks, commas and dashes.
+// What stands around its names: blanks, commas and dashes.
 const BYTES: usize = 8;
 
 // About how many parts and bytes of text are written.
@@ -19,8 +19,8 @@ struct Room {
     bytes: usize,
 }
 
-/// Asks at once for about the memory that the entries take, so that the document does not grow by turns. No contract
-/// rests on the number: what is missing is asked for where it is written.
+/// Reserves about the memory that the entries take, so that the document does not grow step by step. No contract
+/// depends on the number: what is missing is asked for where it is written.
 pub fn reserve_for<'a, A: Allocator, B: Allocator>(
     doc: &mut Doc<A>,
     entries: &[&HelpItem<'a, B>],

@@ -1,4 +1,4 @@
-//! A tree, gone through for its item list.
+//! The walk through a tree that makes its item list.
 ghost use Rattle.std.specs.Prelude.{◌≡◌, ◌<◌, Some, [], ◌∷◌, ◌++◌, IfOk, OnOk, map};
 ghost use Rattle.std.specs.Prelude.{slice_set, take, vec_len};
 ghost use Rattle.std.specs.Option.{option_or};
@@ -16,7 +16,7 @@ use bpaf_meta::item::Item;
 use bpaf_meta::meta::Meta;
 use std::alloc::{AllocError, Allocator};
 
-// Appends the item list of a tree, with marks of groups where groups are allowed, and answers the type of the tree's
+// Appends the item list of a tree, with marks of groups where groups are allowed, and returns the type of the tree's
 // first item, so that no item is looked at twice. After `AllocError` some of the list may have been appended.
 #[cycle(append)]
 pub(crate) fn append<'a, A: Allocator, L: Allocator>(
@@ -99,7 +99,7 @@ fn is_listed<A: Allocator>(item: &Item<A>) -> bool
     }
 }
 
-// The type of the first mark is known once the inner tree is appended: until then it has another.
+// The type of the first mark is known only once the inner tree is appended: until then it has another.
 #[cycle(append)]
 fn append_adjacent<'a, A: Allocator, L: Allocator>(
     items: &mut Vec<HelpItem<'a, A>, L>,
@@ -128,7 +128,7 @@ fn append_adjacent<'a, A: Allocator, L: Allocator>(
     Ok(Some(ty))
 }
 
-// A group, or where none is allowed its entries alone.
+// A group, or only its entries where groups are not allowed.
 #[cycle(append)]
 fn append_group<'a, A: Allocator, L: Allocator>(
     items: &mut Vec<HelpItem<'a, A>, L>,
@@ -180,7 +180,7 @@ fn append_noted<'a, A: Allocator, L: Allocator>(
     Ok(front)
 }
 
-// Puts the first mark of a block in the place that was kept for it, and the last mark behind the block.
+// Puts the first mark of a block in the place that was kept for it, and the last mark after the block.
 fn close<'a, A: Allocator, L: Allocator>(
     items: &mut Vec<HelpItem<'a, A>, L>,
     at: usize,

@@ -19,8 +19,8 @@ use bpaf_meta::item::ShortLong;
 use bpaf_meta::meta_help::Metavar;
 use std::alloc::{AllocError, Allocator};
 
-/// What the calls that write a list hand on: whether the texts of environment variables are shown, these texts, and the
-/// allocator of what takes memory on the way.
+/// What the calls that write a list share: whether the texts of environment variables are shown, these texts, and the
+/// allocator of working memory.
 #[derive(Drop)]
 pub struct Writer<'t, C: Allocator, L: Allocator> {
     pub include_env: bool,
@@ -36,7 +36,7 @@ pub enum Shown {
 }
 
 impl<'t, C: Allocator, L: Allocator + Copy> Writer<'t, C, L> {
-    /// Writes an entry: its term and its help, or the marks round a group or an adjacent block.
+    /// Writes an entry: its term and its help, or the marks around a group or an adjacent block.
     pub fn put_entry<'a, A: Allocator, B: Allocator + Copy>(
         &self,
         doc: &mut Doc<A>,
@@ -165,7 +165,7 @@ pub fn put_list_start<'a, A: Allocator, B: Allocator + Copy>(
     )
 }
 
-/// Writes the end of such a list.
+/// Writes the end of a list that `put_list_start` started.
 pub fn put_list_end<A: Allocator>(doc: &mut Doc<A>) -> Result<(), AllocError>
     ensures { Leaves result doc.old doc.new (end Block.DefinitionList ∷ end Block.Block ∷ []) }
 {

@@ -38,7 +38,7 @@ len_through (Some i) n = i + 1
 abbrev pub group_len : List Entry → ℕ
 group_len es = len_through (position is_group_end es) (length es)
 
--- a first group was written, or a first entry outside groups was kept: so many entries were taken, and the rest has
+-- a first group was written, or a first entry outside groups was kept: `count` entries were taken, and the rest has
 -- what is left
 pub record Takes (include_env : Bool) (texts : Texts) (es : List Entry) (count : ℕ) (before now : List Part)
     (outside kept : List Entry) : Type 0 where

@@ -1,4 +1,4 @@
--- Pieces that are written into a document, and what a call leaves there whose allocations may fail.
+-- Pieces that are written into a document, and what a call that may fail leaves there.
 use Rattle.std.specs.Prelude.{◌≡◌, ℕ, true, List, [], ◌∷◌, ◌++◌, Result, OnOk, encode_utf8}
 use Rattle.std.specs.Borrow.{Bor}
 use Rattle.bpaf_doc.specs.Buffer.Parts.{Part}
@@ -35,6 +35,6 @@ pieces_write [] = []
 pieces_write (p ∷ []) = piece_writes p
 pieces_write (p ∷ q ∷ ps) = piece_writes p ++ pieces_write (q ∷ ps)
 
--- the document grew by some writes, and at Ok by these
+-- the document grew by some writes, and on success by these
 abbrev pub Leaves : {T E : Type 0} → Result T E → List Part → List Part → List Write → Type 0
 Leaves result before now writes = Grows before now × OnOk result (now ≡ with_writes before writes)

@@ -14,7 +14,7 @@ use Rattle.bpaf_items.specs.Page.EnvTexts.{Texts}
 use Rattle.bpaf_items.specs.Page.EntryWrites.{entry_writes}
 use Rattle.bpaf_items.specs.View.{key_in}
 
--- ---- keys behind their hashes
+-- ---- keys with their hashes
 
 abbrev pub key_hash : Key → ℕ
 key_hash k = folding.finish (fold folding.write folding.initial (key_input k))
@@ -33,7 +33,7 @@ AreHashed = AllByRecursion IsHashed
 abbrev pub has_key : {B : Type 0} → List (Hashed B) → Key → Bool
 has_key keys q = list_any (λ k. same_key q (key_in k.1)) keys
 
--- the keys after one is put among them, where the answer says whether it is new
+-- the keys after one was inserted, and an answer that says whether it is new
 pub record PutsKey {B : Type 0} (keys after : List (Hashed B)) (key : Key) (is_new : Bool) : Type 0 where
   pub answer : is_new ≡ not (has_key keys key)
   pub has : (q : Key) → has_key after q ≡ (same_key q key || has_key keys q)
@@ -54,8 +54,8 @@ entry_hash e = []
 abbrev pub AreApart : List Entry → Type 0
 AreApart es = IsDistinct nat_eq (flat_map entry_hash es)
 
--- of all these entries: their items are apart, or the keys are those of the items before; the mark says whether a note
--- would be shown now
+-- what is remembered of all these entries: that their items are apart, or the keys of the items before; and whether a
+-- note would be shown now
 pub record Remembers {B : Type 0} (all : List Entry) (are_apart : Bool) (keys : List (Hashed B)) (shown : Bool)
     (before : List Entry) : Type 0 where
   pub apart : are_apart ≡ true → AreApart all

@@ -100,7 +100,7 @@ append_group-returns-then-not-groups-clause-entries g t c =
 pub append_noted-returns-in_default-clause-entries : goal.append_noted-returns-in_default-clause-entries
 append_noted-returns-in_default-clause-entries g t c = grind (arith, unnoted)
 
--- a tree around another one, but for a block of its own
+-- a tree around another one, except a block of its own
 tree_around : {A : Type 0} (m : Meta A) (inner : Box (Meta A) A) → (m ≡ Optional inner) ⊎ ((m ≡ Required inner) ⊎ ((m ≡ Many inner) ⊎ (((d : Box (Doc A) A) × (m ≡ CustomUsage inner d)) ⊎ (m ≡ Strict inner)))) → {X : Type 0} (f : Tree → X)
     → ((t : Tree) → f (optional t) ≡ f t) → ((t : Tree) → f (required t) ≡ f t) → ((t : Tree) → f (many t) ≡ f t) → ((t : Tree) (d : _) → f (custom_usage t d) ≡ f t) → ((t : Tree) → f (strict t) ≡ f t)
     → f (tree_of inner.value) ≡ f (tree_of m)
