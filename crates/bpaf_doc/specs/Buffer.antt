@@ -1,4 +1,4 @@
--- Documents, the calls that write them, and what may be believed of these. `Steps`: how the code holds a document.
+-- Documents, the calls that write them, and what these promise. `Steps`: how the code holds a document.
 pub mod Parts
 pub mod View
 pub mod Writes

@@ -1,5 +1,5 @@
 -- Console pages: what is promised of one. `Exact`: the page as a function, and `Laws`: that the promises are theorems
--- on it. `Ink`: the ink of a page in full. `Steps`: what leads from the code to all of these.
+-- about it. `Ink`: the ink of a page in full. `Steps`: what leads from the code to all of these.
 pub mod Margin
 pub mod Layout
 pub mod Exact

@@ -1,4 +1,4 @@
--- What of a document is shown: all of it in full, and less in brief.
+-- What is shown of a document: all of it in full, and less in brief.
 use Rattle.std.specs.Prelude.{ℕ, ◌+◌, Bool, true, false, ◌&&◌, ◌||◌, List, [], ◌∷◌, map, take, count_by, flat_map, nat_le, if◌then◌else◌}
 use Rattle.std.specs.List.{list_any, list_all, enumerate_from, position_or_len}
 use Rattle.bpaf_roff.specs.Bytes as byte
@@ -36,18 +36,18 @@ breaks_off (Text bytes style) = list_any is_paragraph (chunks_of bytes)
 breaks_off (Start b) = false
 breaks_off (End b) = false
 
--- Whether brief hides a text that these parts stand before: one of them is a text with a Paragraph, and the inline
--- block that it stands in, or else the document, is still open. (What hid that text, if anything, hides this one too.)
+-- Whether brief hides a text after these parts: one of them is a text with a Paragraph, and the inline block around it,
+-- or else the document, is still open. (What hid that text, if anything, hides this one too.)
 abbrev pub is_hidden : List Part → Bool
 is_hidden [] = false
 is_hidden (part ∷ between) = (breaks_off part && stays_open is_inline_start is_inline_end between) || is_hidden between
 
--- the chunks up to the first Paragraph, and with it
+-- the chunks up to and with the first Paragraph
 abbrev pub through_paragraph : List Chunk → List Chunk
 through_paragraph chunks = take (position_or_len is_paragraph chunks + 1) chunks
 
--- The chunks that are shown of a text which these parts stand before. In brief the Paragraph that hides what follows is
--- the last of them: a console takes it as a break. (HTML and markdown leave it out: `Fragments`.)
+-- The chunks that are shown of a text after these parts. In brief the Paragraph that hides what follows is the last of
+-- them: a console takes it as a break. (HTML and markdown leave it out: `Fragments`.)
 -- e.g. shown_chunks false [] (codes "a\n\nb") ≡ Raw (codes "a") 1 ∷ Paragraph ∷ []
 abbrev pub shown_chunks : Bool → List Part → List ℕ → List Chunk
 shown_chunks full before bytes =
@@ -62,7 +62,7 @@ is_term_ref _ = false
 abbrev pub mark_bytes : Block → List ℕ
 mark_bytes b = if is_term_ref b then byte.backquote ∷ [] else []
 
--- the ink of a part that these stand before
+-- the ink of a part after these parts
 abbrev pub shown_part_ink : Bool → List Part → Part → List ℕ
 shown_part_ink full before (Text bytes style) = flat_map chunk_ink (shown_chunks full before bytes)
 shown_part_ink full before (Start b) = mark_bytes b

@@ -1,4 +1,4 @@
--- What an answer in HTML or markdown is cut into: the marks that are put round the texts, and the fragments of the
+-- What an answer in HTML or markdown is cut into: the marks that are put around the texts, and the fragments of the
 -- document.
 use Rattle.std.specs.Prelude.{◌≡◌, Bool, true, List, [], ◌∷◌, ◌++◌, map, IsTrue}
 use Rattle.bpaf_doc.specs.declared.buffer.Style.{Style}
@@ -25,7 +25,7 @@ styled_by before after (TextStart style) = Of (TextStart style) ∷ map Put (bef
 styled_by before after (TextEnd style) = map Put (after style) ++ Of (TextEnd style) ∷ []
 styled_by before after fragment = Of fragment ∷ []
 
--- between fragments that pass and follow one another in a text stands nothing
+-- there is nothing between fragments that pass and follow one another in a text
 abbrev pub Touch : {M : Type 0} → (Fragment → Bool) → List (Snippet M) → Type 0
 Touch {M = M} passes cut =
     (before between after : List (Snippet M)) (a b : Fragment) → cut ≡ before ++ Of a ∷ (between ++ Of b ∷ after)

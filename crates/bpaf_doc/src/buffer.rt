@@ -28,7 +28,7 @@ pub enum Style {
     Invalid,
 }
 
-/// What a start and an end enclose.
+/// What the marks of a start and an end enclose.
 #[derive(Clone, Copy, Debug, PartialEq, Eq, PartialOrd, Ord)]
 pub enum Block {
     Header,
@@ -90,14 +90,14 @@ impl Kind {
     }
 }
 
-/// A part's kind, and where the payload ends up to and with it: a mark ends where the part before it does.
+/// A part's kind, and where the payload up to its end is cut. A mark ends where the part before it does.
 #[derive(Clone, Copy)]
 struct PartEnd {
     kind: Kind,
     end: usize,
 }
 
-/// How far a document had come.
+/// A point up to which a document was written.
 #[derive(Clone, Copy, Debug)]
 pub struct Checkpoint {
     parts: usize,
@@ -114,7 +114,7 @@ impl Model for Checkpoint {
     ghost inverse = { λ at. record { parts = at.parts; bytes = at.bytes } };
 }
 
-/// A document: styled texts, and marks that start and end blocks. A call that is refused memory answers `AllocError`,
+/// A document: styled texts, and marks that start and end blocks. A call whose allocation fails returns `AllocError`,
 /// and leaves every document as it was.
 #[derive(Drop)]
 pub struct Doc<A: Allocator = Global> {
@@ -154,8 +154,8 @@ impl<A: Allocator + Copy> Doc<A> {
         Ok(doc)
     }
 
-    /// A document of one plain text, which it takes over: no byte is copied. Where the growth is refused, the text is
-    /// given up.
+    /// A document of one plain text, which it takes over without copying. Where an allocation fails, the text is
+    /// dropped.
     pub fn from_string(text: String<A>) -> Result<Doc<A>, AllocError>
         ensures { IfOk result (λ doc. doc ≡ with_text [] (string_bytes text) Style.Text) }
     {
@@ -193,8 +193,7 @@ impl<A: Allocator + Copy> Doc<A> {
         })
     }
 
-    /// A document of the leading texts, up to the first newline or mark and without them. `None` where there are no
-    /// parts.
+    /// The first line of the document: its texts up to the first newline or mark. `None` where there are no parts.
     #[tactic(auto, using(crate::proofs::lemmas::Buffer::Nesting::nested_front))]
     pub fn first_line(&self) -> Result<Option<Doc<A>>, AllocError>
         ensures line { IfOk result (λ line. line ≡ first_line_of self.now) }
@@ -227,8 +226,8 @@ impl<A: Allocator + Copy> Doc<A> {
 }
 
 impl<A: Allocator> Doc<A> {
-    /// Writes a text. It joins a last part that is a text of its style, and else it is a part of its own, also where it
-    /// is empty.
+    /// Writes a text. It joins the last part if that is a text of the same style, and otherwise is a part of its own,
+    /// even if it is empty.
     #[tactic(auto, using(crate::proofs::lemmas::Buffer::Nesting::text_pushed))]
     pub fn write_str(&mut self, text: &str, style: Style) -> Result<(), AllocError>
         ensures ok { OnOk result (self.new ≡ with_text self.old text.now style) }
@@ -263,7 +262,7 @@ impl<A: Allocator> Doc<A> {
         self.write_str(text, Style::Text)
     }
 
-    /// Writes a text that a user types as it stands.
+    /// Writes a text that a user types exactly as it is.
     pub fn literal(&mut self, text: &str) -> Result<(), AllocError>
         ensures ok { OnOk result (self.new ≡ with_text self.old text.now Style.Literal) }
         ensures err { OnErr result (self.new ≡ self.old) }
@@ -324,9 +323,10 @@ impl<A: Allocator> Doc<A> {
         self.push_empty(Kind::End(Block::InlineBlock))
     }
 
-    /// Adds another document in an inline block. Where its first part is a plain text, that is a title: up to its first
-    /// newline in emphasis, and the rest of it, with the parts behind it, in a section; without a newline in it the
-    /// other parts follow the title as they are. Any other document is added as it is.
+    /// Adds another document in an inline block, with its first part as a title if that is a plain text. The title is
+    /// that text up to its first newline, in emphasis; the rest of the text and the other parts follow in a section.
+    /// Without a newline the whole text is the title, and the other parts follow as they are. A document that does not
+    /// begin with a plain text is added as it is.
     #[tactic(auto, using(crate::proofs::lemmas::Buffer::Nesting::nested_parts))]
     pub fn em_doc<B: Allocator>(&mut self, other: &Doc<B>) -> Result<(), AllocError>
         ensures ok { OnOk result (self.new ≡ with_writes self.old (em_doc_writes other.now)) }
@@ -377,7 +377,7 @@ impl<A: Allocator> Doc<A> {
         }
     }
 
-    /// Writes each name literally, and a blank after it.
+    /// Writes each name literally, with a blank after it.
     #[tactic(auto, using(crate::proofs::lemmas::Buffer::Nesting::nested_parts))]
     pub fn write_path<B: Allocator>(&mut self, path: &[String<B>]) -> Result<(), AllocError>
         ensures ok { OnOk result (self.new ≡ with_writes self.old (path_writes (map string_bytes path.now))) }
@@ -400,8 +400,8 @@ impl<A: Allocator> Doc<A> {
         Ok(())
     }
 
-    /// Asks at once for the memory of that many more parts, and of that many more bytes of text, for a caller who knows
-    /// what comes. The document stays as it is, also after `AllocError`.
+    /// Reserves memory for that many more parts and that many more bytes of text, for a caller who knows what comes.
+    /// The document stays as it is, even after `AllocError`.
     pub fn reserve(&mut self, parts: usize, bytes: usize) -> Result<(), AllocError>
         ensures { self.new ≡ self.old }
     {
@@ -409,7 +409,7 @@ impl<A: Allocator> Doc<A> {
         self.payload.reserve(bytes)
     }
 
-    /// How far the document has come. What is written behind it can be undone by `roll_back`.
+    /// How far the document is written. `roll_back` can undo what is written after it.
     pub fn checkpoint(&self) -> Checkpoint
         ensures { IsCheckpointOf self.now result }
     {
@@ -436,7 +436,7 @@ impl<A: Allocator> Doc<A> {
         move_last_end(&mut self.ends, to.bytes);
     }
 
-    /// Answers `written`, and where that is an error undoes what was written since the document was at that checkpoint.
+    /// Returns `written`, and if that is an error, undoes what was written since the document was at that checkpoint.
     /// So what is written in several steps is written whole or not at all.
     pub fn settle(
         &mut self,
@@ -543,7 +543,7 @@ impl<A: Allocator> Doc<A> {
         }
     }
 
-    /// The part at that place, counted from 0; `None` from `len` on. It makes no walk over the parts before.
+    /// The part at that place, counted from 0; `None` from `len` on. It does not walk over the parts before.
     #[tactic(auto, using(crate::proofs::lemmas::Buffer::Ends::next_slice))]
     pub fn part_at(&self, index: usize) -> Option<Part<'_>>
         ensures { option_map part_of result ≡ slice_get self.now index }
@@ -555,7 +555,7 @@ impl<A: Allocator> Doc<A> {
         }
     }
 
-    // The parts without that many first ones.
+    // The parts without the first ones, of which there are that many.
     fn parts_after(&self, count: usize) -> Parts<'_>
         requires { count ≤ length self.now }
         ensures { result ≡ drop count self.now }
@@ -567,7 +567,7 @@ impl<A: Allocator> Doc<A> {
     }
 }
 
-// A text up to its first newline, and behind it.
+// A text up to its first newline, and the text after that.
 fn split_line(text: &str) -> Option<(&str, &str)>
     ensures { MatchOption result (list_any is_newline text.now ≡ false)
         (λ lines. IsSplitLine text.now lines.0.now lines.1.now) }
@@ -584,7 +584,7 @@ fn start_of(ends: &[PartEnd], index: usize) -> usize
     if index == 0 { 0 } else { ends[index - 1].end }
 }
 
-// Adds a text that ends here, or moves the end of the last part here, where that is a text of its style.
+// Adds a text that ends here; if the last part is a text of the same style, moves its end here instead.
 #[tactic(auto, using(crate::proofs::lemmas::Buffer::Ends::text_ends))]
 fn push_text<A: Allocator>(ends: &mut Vec<PartEnd, A>, style: Style, end: usize)
     requires { vec_len ends.old < vec_capacity ends.old }
@@ -614,7 +614,7 @@ fn move_last_end<A: Allocator>(ends: &mut Vec<PartEnd, A>, end: usize)
     }
 }
 
-// Adds parts whose texts stand from `from` on in their payload, and from `to` on in this one.
+// Adds parts whose texts begin at `from` in their payload, and at `to` in this one.
 fn push_moved<A: Allocator>(ends: &mut Vec<PartEnd, A>, more: &[PartEnd], from: usize, to: usize)
     requires room { vec_len ends.old + length more.now ≤ vec_capacity ends.old }
     requires fits { All (CanMove from to) more.now }
@@ -628,7 +628,7 @@ fn push_moved<A: Allocator>(ends: &mut Vec<PartEnd, A>, more: &[PartEnd], from: 
     }
 }
 
-/// The parts of a document that are left, in order.
+/// The remaining parts of a document, in order.
 #[derive(Drop)]
 pub struct Parts<'a> {
     text: &'a str,

@@ -23,16 +23,15 @@ use tabs::tab_stop;
 pub const MAX_WIDTH: usize = 100;
 
 impl<A: Allocator> Doc<A> {
-    /// The document as lines that break before a chunk that would pass `max_width` columns, in full or in brief, as a
-    /// text in `alloc`.
+    /// The document as a text in `alloc`, in full or in brief, with lines that break before a chunk that would pass
+    /// `max_width` columns.
     ///
-    /// Each character of a shown text that is not White_Space stands there once and in order, with one backquote for
-    /// each mark of a term reference. Lines break where a mark or a break chunk asks for it and otherwise only where a
-    /// chunk would pass the width, and are indented by the margin in force, which the end of an inline
-    /// block lowers too: `docs/console.md` says each rule, and
-    /// `console_page` each byte.
+    /// Each character of a shown text that is not White_Space is in the result once and in order, with one backquote
+    /// for each mark of a term reference. Lines break where a mark or a break chunk asks for it, and otherwise only
+    /// where a chunk would pass the width. They are indented by the margin in force, which the end of an inline block
+    /// lowers too. `docs/console.md` says each rule, and `console_page` each byte.
     ///
-    /// `AllocError` where a growth was refused.
+    /// An `AllocError` says that an allocation failed.
     pub fn render_console<B: Allocator + Copy>(
         &self,
         alloc: B,
@@ -59,8 +58,7 @@ impl<A: Allocator> Doc<A> {
         self.render_console(alloc, full, MAX_WIDTH)
     }
 
-    // Every byte of the text is said here, part by part as it is written: `console_text` is `console_page`, and the clauses
-    // above are theorems on that.
+    // The text, part by part as it is written: it is `console_page`, and the clauses above are theorems about that.
     #[tactic(auto, using(crate::proofs::lemmas::Console::Pages::page_left))]
     fn lay_out<B: Allocator + Copy>(
         &self,
@@ -102,9 +100,10 @@ impl<A: Allocator> Doc<A> {
     }
 }
 
-// The page takes a `&` to the document's own allocator, so that no second handle is asked for.
+// The page takes a `&` to the document's own allocator, so that no second handle is needed.
 impl<A: Allocator> fmt::Display for Doc<A> {
-    /// The full text at `MAX_WIDTH` columns, made in the document's own allocator. A refused growth is a `fmt::Error`.
+    /// The full text at `MAX_WIDTH` columns, made in the document's own allocator. A failed allocation is a
+    /// `fmt::Error`.
     fn fmt<W: fmt::Write>(&self, f: &mut fmt::Formatter<W>) -> fmt::Result {
         let text = self.monochrome(self.allocator(), true)?;
         f.write_str(text.as_str())

@@ -50,14 +50,14 @@ impl From<Style> for Styles {
     }
 }
 
-// The tag or mark where it is turned on, and else nothing.
+// The tag or mark if it is turned on, otherwise nothing.
 fn when(on: bool, mark: &'static str) -> &'static str
     ensures { result.now ≡ when on mark.now }
 {
     if on { mark } else { "" }
 }
 
-// A language that gives some characters of a text another spelling. All of these are ASCII.
+// A language that spells some characters of a text differently. All of these are ASCII.
 #[derive(Clone, Copy)]
 enum Language {
     Html,
@@ -65,7 +65,7 @@ enum Language {
 }
 
 impl Language {
-    // Where the first character with another spelling stands.
+    // The place of the first character with another spelling.
     #[tactic(auto, using(crate::proofs::lemmas::Html::Spelled::finds_html, crate::proofs::lemmas::Html::Spelled::finds_markdown))]
     fn find(self, text: &str) -> Option<usize>
         ensures { MatchOption result (IsPlain self text.now) (λ at. IsFirstSpelled self text.now at) }
@@ -88,7 +88,8 @@ impl Language {
     }
 }
 
-// Whether neither byte is among these. It looks at each, whatever came before, so that it looks at many at once.
+// Whether neither byte is among these. It looks at each byte, even after it found one, so that it looks at many at
+// once.
 #[inline(always)]
 fn has_neither(bytes: &[u8], one: u8, other: u8) -> bool
     ensures { result ≡ list_all (λ byte. not (is_byte2 one other byte)) bytes.now }
@@ -100,8 +101,7 @@ fn has_neither(bytes: &[u8], one: u8, other: u8) -> bool
     neither
 }
 
-// Appends a block in the language's spelling. That of each character is a text, so no pass looks whether the bytes are
-// one.
+// Appends a block in the language's spelling. The spelling of each character is a text, so the bytes are not checked.
 #[inline(always)]
 fn push_block<B: Allocator>(
     out: &mut String<B>,
@@ -116,9 +116,9 @@ fn push_block<B: Allocator>(
     out.push_str(unsafe { str::from_utf8_unchecked(&room[..end]) })
 }
 
-// Appends the text in the language's spelling. A run of characters that stay as they are is appended whole, and the one
-// behind it with a block, since others often stand near. A short text without others is appended whole too: to look for
-// the first of them would go byte by byte.
+// Appends the text in the language's spelling. A run of characters that stay as they are is appended whole, and what
+// follows it as a block, since characters with another spelling are often near each other. A short text without such
+// characters is appended whole too: a search for the first of them would go byte by byte.
 fn push_spelled<B: Allocator>(
     out: &mut String<B>,
     text: &str,

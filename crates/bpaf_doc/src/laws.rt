@@ -1,4 +1,4 @@
-//! Laws of the definitions that the contracts cite: nothing to call, but statements that the check proves.
+//! Laws of the definitions that the contracts cite: statements that the check proves, not functions to call.
 
 ghost use Rattle.bpaf_doc.specs.Console.Ink.{FullInkIsBackquotedInk, FullInkIsDocumentInk};
 ghost use Rattle.bpaf_doc.specs.Console.Laws.{IsExactPageLayout};
@@ -14,7 +14,7 @@ pub fn one_spelling()
     ensures { EachTextIsSpelledOnce }
 {}
 
-/// The chunks of a text have together its ink, in order.
+/// Together the chunks of a text have its ink, in order.
 #[tactic(auto, using(crate::proofs::lemmas::Splitter::Facts::ink_of_chunks))]
 pub fn chunks_keep_ink()
     ensures { ChunksKeepInk }
@@ -63,8 +63,8 @@ pub fn laws_of_exact_page()
     ensures { IsExactPageLayout }
 {}
 
-/// The ink that a console shows in full of a document of UTF-8 texts, as each `Doc` is: that of its texts, in order, with a
-/// backquote in the place of each mark of a term reference; without such marks it is just the document's ink.
+/// The ink that a console shows in full of a document of UTF-8 texts, as each `Doc` is: the ink of its texts, in order,
+/// with a backquote in place of each mark of a term reference. Without such marks it is exactly the document's ink.
 #[tactic(auto, using(crate::proofs::lemmas::Console::InFull::backquoted, crate::proofs::lemmas::Console::InFull::own))]
 pub fn ink_in_full()
     ensures backquoted { FullInkIsBackquotedInk }
@@ -72,7 +72,7 @@ pub fn ink_in_full()
 {}
 
 /// The HTML page as a function of the document is well nested, with the document's tags and breaks, where the document
-/// is well nested; and of each document it erases to its HTML text.
+/// is well nested. For each document it erases to the HTML text.
 #[tactic(auto, using(crate::proofs::lemmas::Html::Exact::page_laws, crate::proofs::lemmas::Html::Exact::page_words))]
 pub fn laws_of_exact_html()
     ensures page { IsExactHtmlPage }

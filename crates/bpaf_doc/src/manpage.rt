@@ -31,13 +31,13 @@ impl From<Style> for Font {
 }
 
 impl<A: Allocator> Doc<A> {
-    /// The roff of the page with this document after what the page holds, behind the preamble for apostrophes.
+    /// The roff of the page with this document after what the page holds, and the preamble for apostrophes before it.
     ///
-    /// For every page and every list of parts the bytes are those of `roff_page`: the page rendered with the pieces
-    /// behind its own that the rules of `docs/manpage.md` give (clause `exact`). Where the page keeps newlines and
-    /// stands at a line start, a reader of roff reads what comes after the page as the controls, headings and texts of
-    /// the document (`read`). Headings are in ASCII capitals. The page is used up, and the answer takes its memory
-    /// where the page does. An `AllocError` says that a growth was refused; nothing of the page is left then.
+    /// For every page and every list of parts the bytes are those of `roff_page`: the page rendered with its own pieces
+    /// and then those that the rules of `docs/manpage.md` give (clause `exact`). Where the page keeps newlines and is
+    /// at a line start, a reader of roff reads what comes after the page as the controls, headings and texts of the
+    /// document (`read`). Headings are in ASCII capitals. The page is consumed, and the result takes its memory from
+    /// the allocator of the page. An `AllocError` says that an allocation failed; then the page is dropped.
     pub fn render_roff<B: Allocator + Copy>(&self, page: Roff<B>) -> Result<String<B>, AllocError>
         ensures read { TakesDocument page → IfOk result (λ text. IsPageOf page self.now (string_bytes text)) }
         ensures exact { IfOk result (λ text. string_bytes text ≡ roff_page page self.now) }
@@ -48,8 +48,8 @@ impl<A: Allocator> Doc<A> {
         Ok(text.into_string())
     }
 
-    /// The same text as that of `render_roff`. The document is used up. An `AllocError` says that a growth was refused;
-    /// nothing of document and page is left then.
+    /// The same text as that of `render_roff`. The document is consumed too. An `AllocError` says that an allocation
+    /// failed; then document and page are dropped.
     pub fn into_roff<B: Allocator + Copy>(self, page: Roff<B>) -> Result<String<B>, AllocError>
         ensures read { TakesDocument page → IfOk result (λ text. IsPageOf page self (string_bytes text)) }
         ensures exact { IfOk result (λ text. string_bytes text ≡ roff_page page self) }
@@ -58,7 +58,7 @@ impl<A: Allocator> Doc<A> {
     }
 }
 
-// The page with the parts on it.
+// The page with the parts written to it.
 fn written<A: Allocator + Copy>(
     page: RoffWriter<A>,
     strip_newlines: bool,
@@ -73,7 +73,7 @@ fn written<A: Allocator + Copy>(
     Ok(writer.page)
 }
 
-// A page that a document is being written on.
+// A page to which a document is being written.
 #[derive(Drop)]
 struct Writer<A: Allocator> {
     page: RoffWriter<A>,
@@ -158,7 +158,7 @@ impl<A: Allocator> Writer<A> {
         Ok(())
     }
 
-    // The heading goes out, in capitals.
+    // Writes the heading, in capitals.
     fn end_section(&mut self, name: &str) -> Result<(), AllocError>
         ensures { OnOk result (self.new ≡ after_section self.old name.now) }
     {
@@ -169,7 +169,7 @@ impl<A: Allocator> Writer<A> {
         Ok(())
     }
 
-    // Of a block that is no section.
+    // The end of a block that is not a section.
     fn end_block(&mut self, block: Block) -> Result<(), AllocError>
         ensures { OnOk result (self.new ≡ after_block self.old block) }
     {
@@ -197,7 +197,7 @@ fn start_control(block: Block) -> Option<&'static str>
     }
 }
 
-// The ends of sections write another one.
+// The control that the end of a block writes, unless the block is a section.
 fn end_control(block: Block) -> Option<&'static str>
     ensures { option_copied result ≡ end_name block }
 {

@@ -1,4 +1,4 @@
-//! A text into chunks: words, blanks, line breaks, paragraph breaks and code lines.
+//! A text cut into chunks: words, blanks, line breaks, paragraph breaks and code lines.
 
 ghost use Rattle.std.specs.Prelude.{◌≡◌, ◌≢◌, ◌<◌, ◌≤◌, [], ◌∷◌, ◌++◌, length, take, IfNone, IfSome, IsTrue, IsUtf8};
 ghost use Rattle.std.specs.Prelude.{List, MatchBool, MatchOption, codes, ℕ};
@@ -31,20 +31,20 @@ pub enum Chunk<'a> {
 }
 
 impl Chunk<'_> {
-    /// The weight of a code line. A word of so many columns has it too.
+    /// The weight of a code line. A word of that many columns has the same weight.
     pub const CODE: usize = 1_000_000;
 
-    /// The weight of a line of a fence. A word of so many columns has it too.
+    /// The weight of a line of a fence. A word of that many columns has the same weight.
     pub const TICKED_CODE: usize = 1_000_001;
 }
 
-// How many bytes a run has at most. So short a word has not the columns that are the weight of a code line.
+// How many bytes a run has at most. A word that short has fewer columns than the weight of a code line.
 const LONGEST_RUN: usize = 300_000;
 
 // How many bytes of a line are looked at together at most.
 const MOST_COUNTED: usize = 255;
 
-/// How what is left of a text is read.
+/// How the rest of a text is read.
 #[derive(Clone, Copy, Debug, PartialEq, Eq)]
 enum Form {
     /// Outside of a fence.
@@ -72,7 +72,7 @@ impl<'a> Model for Splitter<'a> {
     ghost view = { λ s. chunks_in (form_of s.form) s.rest.now };
 }
 
-/// The chunks of the text, in order. All of them together take time in proportion to the text's bytes, and no memory.
+/// The chunks of the text, in order. Cutting all of them takes time in proportion to the text's bytes, and no memory.
 #[tactic(auto, using(crate::proofs::lemmas::Splitter::Facts::text_split))]
 pub fn split(text: &str) -> Splitter<'_>
     ensures value { result ≡ chunks_of text.now }
@@ -96,7 +96,7 @@ impl<'a> Iterator for Splitter<'a> {
 
     ghost remaining = { item_count (λ left. left) };
 
-    // This and what it calls is inlined: a call hands a chunk on through memory, which costs more than cutting it.
+    // This and what it calls are inlined: a call passes a chunk through memory, which costs more than cutting it.
     #[tactic(auto, using(crate::proofs::lemmas::Splitter::FirstChunk::nothing_left))]
     #[inline(always)]
     fn next(&mut self) -> Option<Chunk<'a>> {
@@ -113,11 +113,11 @@ impl<'a> Iterator for Splitter<'a> {
     }
 }
 
-// Runs: words of a line and the blanks between them, which can be shown together. As a text of its own a run has the
-// chunks that it has here.
+// Runs: words of a line and the blanks between them, which can be shown together. Cut into chunks as a text of its own,
+// a run gives the same chunks.
 impl<'a> Splitter<'a> {
-    /// Takes the rest of a line off, or as much of it as a run has at most. None where no word or blank of a line comes
-    /// next, or too long a word.
+    /// Takes the rest of a line, or as much of it as a run may have. None where no word or blank of a line comes next,
+    /// or a word that is too long.
     #[tactic(auto, using(crate::proofs::lemmas::Splitter::FirstChunk::plain_chunks))]
     #[inline(always)]
     pub(crate) fn take_line(&mut self) -> Option<&'a str>
@@ -139,7 +139,7 @@ impl<'a> Splitter<'a> {
         }
     }
 
-    /// Takes a code line off. None where something else comes next.
+    /// Takes a code line. None where something else comes next.
     #[inline(always)]
     pub(crate) fn take_code(&mut self) -> Option<&'a str>
         ensures chunks { IfSome result (λ line. self.old ≡ Raw line.now code_weight ∷ self.new) }
@@ -155,7 +155,7 @@ impl<'a> Splitter<'a> {
         }
     }
 
-    /// Takes two blanks off. Answers whether they came next.
+    /// Takes two blanks. Returns whether they came next.
     #[inline(always)]
     pub(crate) fn take_blanks(&mut self) -> bool
         ensures { MatchBool result (self.old ≡ Raw (codes " ") 1 ∷ Raw (codes " ") 1 ∷ self.new) (self.new ≡ self.old) }
@@ -172,8 +172,8 @@ impl<'a> Splitter<'a> {
         }
     }
 
-    /// Takes as many words of a line off as have no other characters than printable ASCII and Latin letters and fit
-    /// these columns, with the columns that they take. None where none fits.
+    /// Takes as many words of a line as fit these columns and have only printable ASCII and Latin letters. Returns them
+    /// with the columns that they take. None where none fits.
     #[tactic(auto, using(crate::proofs::lemmas::Splitter::FirstChunk::plain_chunks))]
     #[inline(always)]
     pub(crate) fn take_fitting(&mut self, columns: usize) -> Option<(&'a str, usize)>
@@ -200,7 +200,7 @@ impl<'a> Splitter<'a> {
     }
 }
 
-// The code line that a text outside of a fence begins with, and the chunks after it. Bytes are looked at, since
+// The code line that a text outside of a fence begins with, and the chunks after it. It looks at bytes, since
 // `strip_prefix` is a call.
 #[tactic(auto, using(crate::proofs::lemmas::Splitter::CodeLines::code_cut))]
 #[inline(always)]
@@ -235,8 +235,8 @@ fn cut_run(text: &str, end: usize) -> (&str, Splitter<'_>)
     (run, split(rest))
 }
 
-// The place up to which the text is a run: the end of its line, or that of the last word that a run has room for. 0
-// where it is none.
+// The place up to which the text is a run: the end of its line, or of the last word that a run has room for. 0 where
+// there is no run.
 #[inline(always)]
 fn line_run_end(text: &str) -> usize
     ensures run { 0 < result → IsRunEnd text.now result }
@@ -264,8 +264,8 @@ fn first_line_end(bytes: &[u8], longest: usize) -> usize
     memrchr(b' ', window).unwrap_or(0)
 }
 
-// The place up to which the text is a run of printable ASCII and Latin letters that has at most so many columns, and
-// its columns. The place is 0 where it is none.
+// The place up to which the text is a run of printable ASCII and Latin letters that has at most that many columns, and
+// its columns. The place is 0 where there is no such run.
 #[inline(always)]
 fn fitting_run_end(text: &str, columns: usize) -> (usize, usize)
     ensures run { 0 < result.0 → IsRunEnd text.now result.0 }
@@ -281,13 +281,13 @@ fn fitting_run_end(text: &str, columns: usize) -> (usize, usize)
     }
 }
 
-// Whether the first two bytes are such, so that it is worth while to look at all that may fit.
+// Whether the first two bytes are of such characters, so that it is worthwhile to look at all that may fit.
 #[inline(always)]
 fn begins_with_letters(bytes: &[u8]) -> bool {
     bytes.len() > 1 && is_lettered(bytes[0]) && is_lettered(bytes[1])
 }
 
-// The words that fit where each byte takes a column are looked at all at once. Out of line, so that the caller's loop
+// The words that would fit if each byte took a column are looked at together. Out of line, so that the caller's loop
 // keeps its values in registers.
 #[inline(never)]
 fn fitting_words_end(bytes: &[u8], columns: usize) -> (usize, usize)
@@ -307,7 +307,7 @@ fn fitting_words_end(bytes: &[u8], columns: usize) -> (usize, usize)
     lettered_run_end(bytes, columns)
 }
 
-// Whether all of these are. It looks at each, whatever came before, so that it looks at many at once.
+// Whether all bytes are of such characters. It does not stop at the first other byte, so that it looks at many at once.
 fn are_lettered(bytes: &[u8]) -> bool
     ensures { result ≡ list_all is_lettered bytes.now }
 {
@@ -318,7 +318,7 @@ fn are_lettered(bytes: &[u8]) -> bool
     lettered
 }
 
-// How many characters these are. Counted in a byte, so that many are counted at once.
+// How many characters these bytes are. The counter is a byte, so that many are counted at once.
 fn count_letters(bytes: &[u8]) -> usize
     requires { length bytes.now ≤ MOST_COUNTED }
     ensures { result ≡ letters bytes.now }
@@ -415,7 +415,7 @@ fn after_newline(text: &str) -> (Chunk<'_>, Splitter<'_>)
     }
 }
 
-// The text behind this byte, where it begins with it. `strip_prefix` would decode a character first.
+// The text after this byte, if it begins with it. `strip_prefix` would decode a character first.
 #[inline(always)]
 fn strip_byte(text: &str, byte: u8) -> Option<&str>
     requires { byte < 128 }
@@ -499,8 +499,8 @@ fn cut_line(text: &str) -> (&str, &str)
     }
 }
 
-// The text up to its first newline or blank, the columns of that, and the rest. Each printable ASCII character takes a
-// column, so that most words are read once.
+// The text up to its first newline or blank, its columns, and the rest. Each printable ASCII character takes a column,
+// so that most words are read once.
 #[tactic(auto, using(crate::proofs::lemmas::Splitter::Printable::printable_words))]
 #[inline(always)]
 fn cut_word(text: &str) -> (&str, usize, &str)
@@ -528,7 +528,7 @@ fn cut_any_word(text: &str) -> (&str, usize, &str)
     (word, word.width(), rest)
 }
 
-// How many printable ASCII characters the text begins with, blanks left out.
+// How many printable ASCII characters other than blanks the text begins with.
 fn printable_len(text: &str) -> usize
     ensures len { result ≤ length text.now }
     ensures printable { IsTrue (list_all is_ascii_graphic (take result text.now)) }
@@ -561,7 +561,7 @@ fn split_word(text: &str) -> (&str, &str)
     }
 }
 
-// The rest after a line, without the newline in front.
+// The rest after a line, without its leading newline.
 fn past_newline(rest: &str) -> &str
     requires { IsLineEnd rest.now }
     ensures { IsPastNewline rest.now result.now }

@@ -1,5 +1,5 @@
--- Which documents are equal, and which comes first: by their parts in order, and of two parts by their kind, then the
--- text, then the style or the block.
+-- Which documents are equal, and which comes first. Parts are compared in order: by kind, then by text, then by style
+-- or block.
 use Rattle.std.specs.Prelude.{◌≡◌, ℕ, ◌↔◌, IsTrue, Bool, List, nat_eq}
 use Rattle.std.specs.Ordering.{nat_cmp, on, then_cmp, eq_of_both}
 use Rattle.std.specs.Cmp.Lexicographic.{slice_cmp, pointwise}

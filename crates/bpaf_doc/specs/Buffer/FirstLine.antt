@@ -4,7 +4,7 @@ use Rattle.std.specs.List.{list_any, before_first, after_first}
 use Rattle.bpaf_doc.specs.Buffer.Parts.{Part, Text, Start, End}
 use Rattle.bpaf_doc.specs.Buffer.Writes.{is_newline}
 
--- the leading texts up to the first newline or mark, of which the newline is cut off
+-- the leading texts up to the first newline or mark, without either
 abbrev pub leading_texts : List Part → List Part
 leading_texts [] = []
 leading_texts (Text bytes style ∷ ps) =
@@ -20,7 +20,7 @@ abbrev pub first_line_of : List Part → Option (List Part)
 first_line_of [] = None
 first_line_of (p ∷ ps) = Some (leading_texts (p ∷ ps))
 
--- a text with a newline, up to its first one and behind it
+-- a text with a newline: what is before its first newline, and what is after it
 pub record IsSplitLine (text front rest : List ℕ) : Type 0 where
   pub some : list_any is_newline text ≡ true
   pub front_is : front ≡ before_first is_newline text

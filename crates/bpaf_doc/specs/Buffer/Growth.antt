@@ -1,13 +1,13 @@
--- How a document grows, and how far it had come.
+-- How a document grows, and how far it is at a checkpoint.
 use Rattle.std.specs.Prelude.{◌≡◌, ℕ, List, length}
 use Rattle.bpaf_doc.specs.Buffer.Parts.{Part, HasUtf8Texts, document_bytes}
 use Rattle.bpaf_doc.specs.Buffer.Writes.{Write, with_writes}
 
--- the parts now are those before after some writes
+-- some writes lead from the first list of parts to the second
 abbrev pub Grows : List Part → List Part → Type 0
 Grows before now = (writes : List Write) × (now ≡ with_writes before writes)
 
--- how far a document had come: how many parts it had, and how many bytes of text
+-- how far a document is: how many parts it has, and how many bytes of text
 pub record Reached : Type 0 where
   pub parts : ℕ
   pub bytes : ℕ

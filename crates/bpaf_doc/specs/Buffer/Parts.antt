@@ -30,7 +30,7 @@ part_ink (Text bytes style) = ink bytes
 part_ink (Start b) = []
 part_ink (End b) = []
 
--- the bytes of a text, of which a mark has none
+-- the bytes of a text; a mark has none
 abbrev pub part_bytes : Part → List ℕ
 part_bytes (Text bytes style) = bytes
 part_bytes (Start b) = []

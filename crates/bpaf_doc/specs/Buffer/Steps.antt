@@ -1,3 +1,3 @@
--- How the code holds a document. Nobody has to believe it.
+-- How the code holds a document. This is internal.
 pub mod Ends
 pub mod Order

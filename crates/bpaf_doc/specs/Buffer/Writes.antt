@@ -20,15 +20,15 @@ pub data Write : Type 0 where
 abbrev pub same_style : Style → Style → Bool
 same_style = (style_eq.ghosts).eq
 
--- a last part with a text after it, which joins a text of its style
+-- a last part, and after it a text, which joins the last part if that is a text of the same style
 abbrev pub part_then_text : Part → List ℕ → Style → List Part
 part_then_text (Text before kind) bytes style =
     if same_style kind style then Text (before ++ bytes) style ∷ [] else Text before kind ∷ Text bytes style ∷ []
 part_then_text (Start b) bytes style = Start b ∷ Text bytes style ∷ []
 part_then_text (End b) bytes style = End b ∷ Text bytes style ∷ []
 
--- the parts with a text written after them: it joins a last part that is a text of its style, and else is a part of its
--- own
+-- the parts with a text written after them: it joins the last part if that is a text of the same style, and otherwise
+-- is a part of its own
 abbrev pub with_text : List Part → List ℕ → Style → List Part
 with_text [] bytes style = Text bytes style ∷ []
 with_text (p ∷ []) bytes style = part_then_text p bytes style
@@ -82,7 +82,7 @@ doc_writes d = inside block.InlineBlock (parts d ∷ [])
 abbrev pub is_newline : ℕ → Bool
 is_newline c = c == byte.newline
 
--- a first text as a title: up to its first newline in Emphasis, and what follows in Section3
+-- a first text as a title: up to its first newline in Emphasis, the rest in Section3
 abbrev pub title_writes : List ℕ → List Part → List Write
 title_writes bytes others =
     if list_any is_newline bytes
@@ -94,7 +94,7 @@ abbrev pub titled : List Part → List Write
 titled (Text bytes style.Text ∷ others) = title_writes bytes others
 titled d = parts d ∷ []
 
--- `em_doc`: the same with a first Text-style text as a title
+-- `em_doc`: like `doc`, but a first text of style Text becomes a title
 -- e.g. document_of (em_doc_writes (Text (codes "Title") style.Text ∷ Text (codes "x") style.Literal ∷ []))
 --     ≡ Start block.InlineBlock ∷ Text (codes "Title") style.Emphasis ∷ Text (codes "x") style.Literal
 --     ∷ End block.InlineBlock ∷ []

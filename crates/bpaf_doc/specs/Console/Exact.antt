@@ -1,7 +1,7 @@
 -- The console page as a function of the document, the width, and full or brief: the rules of docs/console.md, one after
--- another. What can be looked up by place, as margins and what brief hides, is looked up by the counting definitions of
--- `Margin` and `Shown`. The ink and the laws of `IsLayout` are theorems on this function (`Console/Laws`): who believes
--- them need not read it.
+-- another. What depends on the place in the document, such as margins and what brief hides, comes from the counting
+-- definitions of `Margin` and `Shown`. The ink and the laws of `IsLayout` are theorems about this function
+-- (`Console/Laws`): whoever relies on them need not read it.
 use Rattle.std.specs.Prelude.{ℕ, ◌+◌, ◌-◌, Bool, true, false, not, ◌&&◌, ◌||◌, List, [], ◌∷◌, ◌++◌, codes, take, replicate, min, nat_eq, nat_lt, nat_le, if◌then◌else◌}
 use Rattle.std.specs.List.{ends_with}
 use Rattle.std.specs.Str.{trim_end, bytes_eq}
@@ -35,7 +35,7 @@ saturated n = min n 18_446_744_073_709_551_615
 abbrev pub on_new_line : PageSoFar → PageSoFar
 on_new_line page = record page { text = page.text ++ codes "\n"; column = 0 }
 
--- so many blanks are put
+-- that many blanks are put
 abbrev pub with_blanks : ℕ → PageSoFar → PageSoFar
 with_blanks count page =
     record page { text = page.text ++ replicate count byte.blank; column = saturated (page.column + count) }
@@ -54,7 +54,8 @@ asks_blank_line NoBreak = false
 asks_blank_line NewLine = false
 asks_blank_line BlankLine = true
 
--- (a) where one is asked for and the text does not end in a newline, a newline is put, and the column is 0
+-- (a) where a line or a blank line is asked for and the text does not end in a newline, a newline is put, and the
+-- column is 0
 abbrev pub line_ended : PageSoFar → PageSoFar
 line_ended page =
     if asks_line page.request && not (ends_with nat_eq page.text (codes "\n")) then on_new_line page else page
@@ -74,7 +75,7 @@ request_met page = blank_line_put (line_ended page)
 abbrev pub is_too_wide : ℕ → List ℕ → PageSoFar → Bool
 is_too_wide width slice page = nat_lt width (saturated (page.column + columns slice))
 
--- (c) the White_Space at the end goes, newlines too, a newline is put, and the column is 0
+-- (c) the White_Space at the end is removed, newlines too, a newline is put, and the column is 0
 abbrev pub wrapped : PageSoFar → PageSoFar
 wrapped page = on_new_line (record page { text = trim_end page.text })
 
@@ -84,7 +85,7 @@ wrapped page = on_new_line (record page { text = trim_end page.text })
 abbrev pub missing_blanks : ℕ → PageSoFar → ℕ
 missing_blanks margin page = margin - page.column
 
--- step 3: where the margin is pending and the column is at least 28, two blanks in all, of which step 2 put this many
+-- step 3: where the margin is pending and the column is at least 28, two blanks in all, this many of which step 2 put
 abbrev pub body_parted : ℕ → PageSoFar → PageSoFar
 body_parted missing page = if page.is_pending && nat_le 28 page.column then with_blanks (2 - missing) page else page
 
@@ -108,15 +109,15 @@ placed margin slice weight page = slice_put slice weight (indented margin page)
 
 -- ---- the chunks of a text
 
--- The rest of step 1 and the steps after it, where some text stands and what was asked for does: (c), by which one
--- blank is dropped and what is asked for stays so, or the slice is placed.
+-- The rest of step 1 and the steps after it, where there is text and what was asked for is at its end: either (c),
+-- where a blank is dropped and what was asked for still is, or the slice is placed.
 abbrev pub fitted : ℕ → ℕ → List ℕ → ℕ → PageSoFar → PageSoFar
 fitted width margin slice weight page =
     if is_too_wide width slice page
     then if bytes_eq slice (codes " ") then wrapped page else placed margin slice weight (wrapped page)
     else placed margin slice weight page
 
--- a Raw chunk, at the margin of its text: step 1 is passed over where no text stands yet
+-- a Raw chunk, at the margin of its text: step 1 is skipped where there is no text yet
 abbrev pub raw_put : ℕ → ℕ → List ℕ → ℕ → PageSoFar → PageSoFar
 raw_put width margin slice weight page =
     if has_some page.text then fitted width margin slice weight (request_met page) else placed margin slice weight page
@@ -175,7 +176,7 @@ end_put b page =
 
 -- ---- the document
 
--- the part at place k: the shown chunks of a text, at its margin; a mark, of which those of a skipped pair do nothing
+-- the part at place k: the shown chunks of a text, at its margin; or a mark, which does nothing in a skipped pair
 abbrev pub part_put : Bool → ℕ → List Part → ℕ → Part → PageSoFar → PageSoFar
 part_put full width document k (Text bytes style) page =
     chunks_put width (saturated (margin document k)) (shown_chunks full (take k document) bytes) page

@@ -10,7 +10,7 @@ backquoted_part_ink (Text bytes style) = ink bytes
 backquoted_part_ink (Start b) = mark_bytes b
 backquoted_part_ink (End b) = mark_bytes b
 
--- the ink of a document's texts, with a backquote in the place of each TermRef mark
+-- the ink of a document's texts, with a backquote in place of each TermRef mark
 abbrev pub backquoted_ink : List Part → List ℕ
 backquoted_ink = flat_map backquoted_part_ink
 
@@ -25,7 +25,7 @@ abbrev pub FullInkIsBackquotedInk : Type 0
 FullInkIsBackquotedInk =
     (document : List Part) → HasUtf8Texts document → console_ink true document ≡ backquoted_ink document
 
--- and of a document without term references just the document's
+-- without term references it is exactly the document's ink
 abbrev pub FullInkIsDocumentInk : Type 0
 FullInkIsDocumentInk =
     (document : List Part) → HasUtf8Texts document → IsTrue (not (list_any is_term_mark document))

@@ -90,8 +90,8 @@ is_inked_event _ = false
 abbrev pub is_inked_stretch : Stretch → Bool
 is_inked_stretch stretch = list_any is_inked_event (stretch_events stretch)
 
--- What may stand before these stretches: a blank or a newline; a whole chunk, or one without its blank end, where a
--- newline follows directly; an event that is no inked chunk.
+-- What may come before these stretches: a blank or a newline; a whole chunk, or one without the blanks at its end if a
+-- newline follows directly; an event that is not an inked chunk.
 abbrev pub MayStand : Stretch → List Stretch → Type 0
 MayStand (Gap b) after = (b ≡ byte.blank) ⊎ (b ≡ byte.newline)
 MayStand (Placed e) after =
@@ -107,13 +107,13 @@ pub record IsPlacing (document : List Part) (full : Bool) (text : List ℕ) (str
 
 -- ---- columns
 
--- the columns of a chunk count in full, also where its end was cut; a byte outside the places counts one
+-- the columns of a chunk count in full, even where its end was cut; a byte outside the places counts one
 abbrev pub stretch_columns : Stretch → ℕ
 stretch_columns (Gap b) = 1
 stretch_columns (Placed e) = columns e.bytes
 stretch_columns (Passed event) = length (event_bytes event)
 
--- what stands before a place in its line
+-- what is before a place in its line
 abbrev pub line_before : List Stretch → List Stretch
 line_before before = after_last is_newline before
 
@@ -165,12 +165,12 @@ abbrev pub is_raw_event : Event → Bool
 is_raw_event (Shows k chunk) = is_raw chunk
 is_raw_event _ = false
 
--- two newlines stand together
+-- there are two newlines in a row
 abbrev pub HasBlankLine : List ℕ → Type 0
 HasBlankLine text = (front back : List ℕ) × (text ≡ front ++ codes "\n\n" ++ back)
 
--- Between two inked chunks stands a newline where one is asked for; a blank line where a Block ends, if no Raw stands
--- between the two and the second fits the width.
+-- Between two inked chunks there is a newline where one is asked for, and a blank line where a Block ends, if there is
+-- no Raw between the two and the second fits the width.
 pub record BreaksWhereAsked (width : ℕ) (stretches : List Stretch) : Type 0 where
   pub newline : (before between : List Stretch) (e f : Place) → AreApart stretches before e between f
       → IsTrue (list_any asks_newline (events_of between)) → IsTrue (list_any is_newline between)
@@ -204,15 +204,15 @@ is_written (Shows k LineBreak) = true
 is_written (Opens b) = is_term_ref b
 is_written (Closes b) = is_term_ref b
 
--- no empty code or fence line stands before the first byte of the page
+-- there is no empty code or fence line before the first byte of the page
 abbrev pub BeginsClear : List Event → Type 0
 BeginsClear events = IsTrue (not (list_any is_empty_code (before_first is_written events)))
 
--- no inked chunk stands before it in its line
+-- there is no inked chunk before it in its line
 abbrev pub IsFirstInLine : List Stretch → Type 0
 IsFirstInLine before = IsTrue (not (list_any is_inked_stretch (line_before before)))
 
--- the events since the inked chunk before, or since the start
+-- the events since the previous inked chunk, or since the start
 abbrev pub events_since_ink : List Stretch → List Event
 events_since_ink before = events_of (after_last is_inked_stretch before)
 
@@ -222,7 +222,7 @@ is_raw_or_ref (Shows k chunk) = is_raw chunk
 is_raw_or_ref (Opens b) = is_term_ref b
 is_raw_or_ref (Closes b) = is_term_ref b
 
--- the inked chunk before is of the same text, and one ordinary blank and no other chunk stands between
+-- the previous inked chunk is of the same text, and between them there is one ordinary blank and no other chunk
 pub record FollowsBlank (before : List Stretch) (f : Place) : Type 0 where
   pub front : List Stretch
   pub between : List Stretch
@@ -232,8 +232,8 @@ pub record FollowsBlank (before : List Stretch) (f : Place) : Type 0 where
   pub same_text : e.part ≡ f.part
   pub one_blank : events_of between ≡ Shows f.part (Raw (codes " ") 1) ∷ []
 
--- An inked chunk's column is at least its margin. It is the margin for the first inked chunk of a line, where no blank
--- chunk and no TermRef mark stands before it since the last ink, or just the one blank of a text.
+-- An inked chunk's column is at least its margin. It is the margin for the first inked chunk of a line if since the
+-- last ink there was no blank chunk and no TermRef mark, or only the one blank of a text.
 pub record KeepsMargin (document : List Part) (stretches : List Stretch) : Type 0 where
   pub at_least : (before after : List Stretch) (f : Place) → stretches ≡ before ++ Placed f ∷ after
       → IsInked (chunk_at f)
@@ -264,7 +264,7 @@ is_light_mark (Closes blocks.ItemTerm) = true
 is_light_mark (Shows k chunk) = false
 is_light_mark event = is_light event
 
--- Where a newline stands between two ordinary inked chunks, and between them the document has only light chunks and
+-- Where there is a newline between two ordinary inked chunks, and between them the document has only light chunks and
 -- marks, or only light marks, the second would pass the width without it.
 abbrev pub WrapsOnlyIfNeeded : ℕ → List Stretch → Type 0
 WrapsOnlyIfNeeded width stretches =
@@ -280,7 +280,7 @@ is_ref (Shows k chunk) = false
 is_ref (Opens b) = is_term_ref b
 is_ref (Closes b) = is_term_ref b
 
--- no line is longer than the greatest margin, 2, and the greater of the width and the widest chunk
+-- no line is longer than the sum of the greatest margin, 2, and the greater of the width and the widest chunk
 abbrev pub IsBounded : List Part → ℕ → List Stretch → Type 0
 IsBounded document width stretches =
     All (λ line. sum_by stretch_columns line ≤ greatest_margin document + 2 + max width (widest (events_of stretches)))
@@ -296,8 +296,8 @@ abbrev pub is_gap : Stretch → Bool
 is_gap (Gap b) = true
 is_gap _ = false
 
--- how many bytes outside the places stand in the line since the last place (in a layout they stand directly before the
--- next one)
+-- how many bytes outside the places the line has since the last place (in a layout they are directly before the next
+-- one)
 abbrev pub padding : List Stretch → ℕ
 padding before = count_by is_gap (after_last is_placed (line_before before))
 
@@ -307,8 +307,8 @@ holds_line (Gap b) = false
 holds_line (Placed e) = true
 holds_line (Passed event) = is_ref event
 
--- A chunk with a place or a backquote before it in its line fits: with its columns, the column where the blanks that
--- are added before it begin is at most the width.
+-- A chunk with a place or a backquote before it in its line fits: its columns, and the column where the blanks that are
+-- added before it begin, are together at most the width.
 abbrev pub FitsWidth : ℕ → List Stretch → Type 0
 FitsWidth width stretches = (before after : List Stretch) (f : Place) → stretches ≡ before ++ Placed f ∷ after
     → IsTrue (list_any holds_line (line_before before)) → column before + columns f.bytes ≤ width + padding before
@@ -334,7 +334,7 @@ pub record PadsToMargin (document : List Part) (stretches : List Stretch) : Type
   pub before_place : (before after : List Stretch) → stretches ≡ before ++ Gap byte.blank ∷ after
       → IsTrue (leads_to_place after)
 
--- no other place stands in its line behind a code or fence line: a newline comes before it
+-- after a code or fence line there is no other place in its line: a newline comes first
 abbrev pub StandsAlone : List Stretch → Type 0
 StandsAlone stretches =
     (before between after : List Stretch) (e f : Place) → stretches ≡ before ++ Placed e ∷ (between ++ Placed f ∷ after)
@@ -349,9 +349,9 @@ room_of (Closes blocks.TermRef) = 1
 room_of (Opens blocks.ItemBody) = 2
 room_of _ = 0
 
--- Where a newline stands between neighbouring inked chunks, and none is asked for, there is no room without it: the
--- column of the first, its weight, what all between may add, the columns of the second and, between different texts,
--- the greatest margin are together more than the width.
+-- Where there is a newline between neighbouring inked chunks, and none is asked for, there is no room without it: the
+-- column of the first, its weight, what everything between may add, the columns of the second and, between different
+-- texts, the greatest margin are together more than the width.
 abbrev pub BreaksForRoom : List Part → ℕ → List Stretch → Type 0
 BreaksForRoom document width stretches =
     (before between : List Stretch) (e f : Place) → AreApart stretches before e between f
@@ -369,7 +369,7 @@ BreaksForRoom document width stretches =
 --     ≡ codes "a\nbc"
 -- e.g. column (word_at (codes "a") ∷ Passed (Shows 0 (Raw (codes " ") 1)) ∷ Gap 10 ∷ []) ≡ 0
 
--- What holds of the lines at a width that a code line passes, where no empty one begins the page.
+-- What holds of the lines at a width below the weight of a code line, if no empty code or fence line begins the page.
 pub record KeepsToLines (document : List Part) (width : ℕ) (stretches : List Stretch) : Type 0 where
   pub margin : KeepsMargin document stretches
   pub needed : WrapsOnlyIfNeeded width stretches

@@ -22,7 +22,7 @@ abbrev pub is_section4_end : Part → Bool
 is_section4_end (End blocks.Section4) = true
 is_section4_end _ = false
 
--- a start and an end of Block stand in front
+-- the parts begin with a start and an end of Block
 abbrev pub has_empty_block : List Part → Bool
 has_empty_block (Start blocks.Block ∷ End blocks.Block ∷ rest) = true
 has_empty_block _ = false
@@ -61,8 +61,8 @@ text_columns (Text bytes style) = columns bytes
 text_columns (Start b) = 0
 text_columns (End b) = 0
 
--- The length at an ItemTerm end that these parts stand before: the columns of the texts between the last ItemTerm start
--- and the first ItemTerm end after it, or 0 without such a start.
+-- The length at an ItemTerm end after these parts: the columns of the texts between the last ItemTerm start and the
+-- first ItemTerm end after it, or 0 without such a start.
 -- e.g. term_length (inside block.ItemTerm (words (codes "--a"))) ≡ 3
 abbrev pub term_length : List Part → ℕ
 term_length before =

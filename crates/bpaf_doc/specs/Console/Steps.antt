@@ -1,4 +1,4 @@
--- What leads from the code to a console page and its promise. Nobody has to believe it.
+-- What leads from the code to a console page and its promise. This is internal.
 pub mod Hiding
 pub mod Page
 pub mod Pairs

@@ -1,6 +1,6 @@
--- An HTML page as one function of the document. It goes by the rules of docs/html.md: what each fragment writes, by the
--- text and the fragments that stand before it. `render_html` answers just this text. The laws of `Html` are theorems on
--- it (proofs/lemmas/Html/Exact, proofs/lemmas/Html/Meets).
+-- An HTML page as one function of the document, by the rules of docs/html.md: what each fragment writes depends on the
+-- text and the fragments before it. `render_html` returns exactly this text. The laws of `Html` are theorems about it
+-- (proofs/lemmas/Html/Exact, proofs/lemmas/Html/Meets).
 use Rattle.std.specs.Prelude.{ℕ, zero, suc, Bool, true, false, ◌||◌, List, [], ◌∷◌, ◌++◌, Option, Some, None, reverse, flat_map, if◌then◌else◌, codes, nat_eq}
 use Rattle.std.specs.List.{ends_with}
 use Rattle.bpaf_doc.specs.declared.buffer.Style.{Style}
@@ -32,7 +32,7 @@ closing_tags styles.Invalid = codes "</b>"
 
 -- ---- blocks
 
--- at the start of a block, which stands directly in a definition list or not
+-- the tag at the start of a block, which is directly in a definition list or not
 abbrev pub start_tag : Block → Bool → List ℕ
 start_tag blocks.Header _ = codes "# "
 start_tag blocks.Section2 _ = codes "<div>\n"
@@ -45,7 +45,7 @@ start_tag blocks.DefinitionList _ = codes "<dl>"
 start_tag blocks.Block _ = codes "<p>"
 start_tag _ _ = []
 
--- at its end
+-- the tag at its end
 abbrev pub end_tag : Block → Bool → List ℕ
 end_tag blocks.Section2 _ = codes "</div>"
 end_tag blocks.Section3 _ = codes "</div>"
@@ -57,9 +57,9 @@ end_tag blocks.DefinitionList _ = codes "</dl>\n"
 end_tag blocks.Block _ = codes "</p>"
 end_tag _ _ = []
 
--- The block of the last start that is left, of fragments that are given from the last to the first. Each end takes off
--- the last start that is left, of whatever block, and nothing where none is. The number is that of the ends behind
--- these fragments that have still to take off a start.
+-- The block of the last start that is still open after fragments that are given from the last to the first. Each end
+-- closes the last open start, of whatever block, if there is one. The number is that of the ends after these fragments
+-- that have yet to close a start.
 abbrev pub open_block : List Fragment → ℕ → Option Block
 open_block [] ends = None
 open_block (Start b ∷ earlier) zero = Some b
@@ -71,7 +71,7 @@ abbrev pub is_open_list : Option Block → Bool
 is_open_list (Some b) = is_definition_list b
 is_open_list None = false
 
--- what follows these fragments stands directly in a definition list
+-- what follows these fragments is directly in a definition list
 abbrev pub is_directly_in_list : List Fragment → Bool
 is_directly_in_list before = is_open_list (open_block (reverse before) 0)
 
@@ -104,8 +104,7 @@ chunk_html (Raw bytes weight) = flat_map escaped_character bytes
 chunk_html Paragraph = break_text
 chunk_html LineBreak = break_text
 
--- What a fragment writes, by the text and the fragments before it. An end takes off a start before its own tag is
--- chosen.
+-- What a fragment writes, by the text and the fragments before it. An end closes a start before its own tag is chosen.
 abbrev pub fragment_html : List ℕ → List Fragment → Fragment → List ℕ
 fragment_html text before (TextStart style) = opening_tags style
 fragment_html text before (Shown style chunk) = chunk_html chunk
@@ -114,12 +113,12 @@ fragment_html text before Hidden = []
 fragment_html text before (Start b) = header_break text b ++ start_tag b (is_directly_in_list before)
 fragment_html text before (End b) = header_break text b ++ end_tag b (is_directly_in_list (before ++ End b ∷ []))
 
--- the text with what these fragments write behind it, one after another
+-- the text with what these fragments write after it, one after another
 abbrev pub html_after : List ℕ → List Fragment → List Fragment → List ℕ
 html_after text before [] = text
 html_after text before (f ∷ after) = html_after (text ++ fragment_html text before f) (before ++ f ∷ []) after
 
--- the page of a document, in full or in brief, with the style sheet behind it or without
+-- the page of a document, in full or in brief, followed by the style sheet or not
 -- e.g. html_page true false (Words (codes "a<b") Literal ∷ []) ≡ codes "<tt><b>a&lt;b</b></tt>"
 abbrev pub html_page : Bool → Bool → List Part → List ℕ
 html_page full include_css document =

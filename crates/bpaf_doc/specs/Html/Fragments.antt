@@ -1,6 +1,6 @@
--- What HTML and markdown have of a document, in order: each shown text with its chunks, each hidden text, and each
--- mark. In brief a console has the Paragraph that hides what follows it as its last chunk; HTML and markdown leave that
--- Paragraph out.
+-- What HTML and markdown show of a document, in order: each shown text with its chunks, each hidden text, and each
+-- mark. In brief the last chunk of a console text may be the Paragraph that hides what follows; HTML and markdown leave
+-- that Paragraph out.
 use Rattle.std.specs.Prelude.{Bool, not, ◌&&◌, List, [], ◌∷◌, ◌++◌, map, take, false, flat_map, if◌then◌else◌, ℕ}
 use Rattle.std.specs.List.{before_first}
 use Rattle.bpaf_doc.specs.declared.buffer.Style.{Style}
@@ -23,12 +23,12 @@ abbrev pub shows : (Chunk → Bool) → Fragment → Bool
 shows passes (Shown style chunk) = passes chunk
 shows passes _ = false
 
--- the chunks that are shown of a text which these parts stand before, in brief without a Paragraph
+-- the chunks that are shown of a text after these parts, in brief without a Paragraph
 abbrev pub chunks_without_break : Bool → List Part → List ℕ → List Chunk
 chunks_without_break full before bytes =
     if full then shown_chunks full before bytes else before_first is_paragraph (shown_chunks full before bytes)
 
--- the fragments of a part that these stand before
+-- the fragments of a part after these parts
 abbrev pub part_fragments : Bool → List Part → Part → List Fragment
 part_fragments full before (Text bytes style) =
     if not full && is_hidden before then Hidden ∷ []

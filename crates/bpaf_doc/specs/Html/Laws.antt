@@ -1,4 +1,4 @@
--- What the page as a function comes to.
+-- Theorems about the page as a function.
 use Rattle.std.specs.Prelude.{Bool, List}
 use Rattle.bpaf_doc.specs.Buffer.Parts.{Part, IsWellNested}
 use Rattle.bpaf_doc.specs.Html.Page.{IsHtmlPageOf, IsHtmlTextPageOf}

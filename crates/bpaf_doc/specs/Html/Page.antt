@@ -1,4 +1,4 @@
--- What an HTML answer promises: it is cut into tags, newlines and the fragments of the document, in the document's
+-- What an HTML answer promises: it can be cut into tags, newlines and the fragments of the document, in the document's
 -- order.
 use Rattle.std.specs.Prelude.{◌≡◌, ℕ, ◌==◌, Bool, true, false, not, ◌&&◌, ◌||◌, List, [], ◌∷◌, ◌++◌, map, reverse, filter, flat_map, if◌then◌else◌, IsTrue, codes}
 use Rattle.std.specs.List.{list_any, AllPass}
@@ -26,7 +26,7 @@ erased_from inside (c ∷ cs) =
 abbrev pub erased : List ℕ → List ℕ
 erased text = erased_from false text
 
--- the elements that an answer uses; a div stands plain or indented
+-- the elements that an answer uses; a div is plain or indented
 pub data Element : Type 0 where
   Tt : Element
   B : Element
@@ -93,7 +93,7 @@ fragment_text _ = []
 abbrev pub html_text : List Part → Bool → List ℕ
 html_text document full = flat_map fragment_text (shown_fragments full document)
 
--- what is put round the texts
+-- what is put around the texts
 pub data HtmlMark : Type 0 where
   Open : Element → HtmlMark
   Close : Element → HtmlMark
@@ -133,7 +133,7 @@ abbrev pub is_break : HtmlSnippet → Bool
 is_break (Put Break) = true
 is_break _ = false
 
--- the elements round a text of a style, from the outside in
+-- the elements around a text of a style, from the outside in
 abbrev pub style_elements : Style → List Element
 style_elements Text = []
 style_elements Emphasis = B ∷ []
@@ -167,7 +167,7 @@ abbrev pub is_definition_list : Block → Bool
 is_definition_list DefinitionList = true
 is_definition_list _ = false
 
--- the element of a block, which stands directly in a definition list or not
+-- the element of a block, which is directly in a definition list or not
 abbrev pub block_elements : Bool → Block → List Element
 block_elements in_list Section2 = Div ∷ []
 block_elements in_list Section3 = IndentedDiv ∷ []
@@ -184,8 +184,8 @@ is_mark (Start b) = true
 is_mark (End b) = true
 is_mark _ = false
 
--- well-nested fragments with the tags of their marks: nothing; a fragment that is no mark; a block with its tags, round
--- what it holds; two joined
+-- well-nested fragments with the tags of their marks: nothing; a fragment that is not a mark; a block with its tags
+-- around what it holds; two joined
 pub data HasBlockTags : Bool → List Fragment → List HtmlSnippet → Type 0 where
   nothing : {in_list : Bool} {fragments : List Fragment} {snippets : List HtmlSnippet} → fragments ≡ [] → snippets ≡ []
       → HasBlockTags in_list fragments snippets
@@ -213,16 +213,16 @@ pub record IsHtmlOf (document : List Part) (full : Bool) (answer : List ℕ) : T
   pub cut : List HtmlSnippet
   pub spelling : answer ≡ flat_map snippet_text cut
   pub fragments : fragments_in cut ≡ shown_fragments full document
-  -- `<br>` stands between two inked chunks that have a Paragraph, a LineBreak or a Header mark between them
+  -- there is a `<br>` between two inked chunks that have a Paragraph, a LineBreak or a Header mark between them
   pub breaks : (before between after : List HtmlSnippet) (a b : Fragment)
       → cut ≡ before ++ Of a ∷ (between ++ Of b ∷ after)
       → IsTrue (shows is_inked a) → IsTrue (shows is_inked b) → IsTrue (list_any asks_break (fragments_in between))
       → IsTrue (list_any is_break between)
   -- Raw chunks that follow one another in a text touch
   pub touching : Touch (shows is_raw) cut
-  -- the tags of the blocks stand round what the blocks hold
+  -- the tags of the blocks are around what the blocks hold
   pub tags : HasBlockTags false (shown_fragments full document) (filter (is_mark_or_fragment is_block_tag) cut)
-  -- just the tags of its style stand round the chunks of each text
+  -- exactly the tags of its style are around the chunks of each text
   pub styles : filter (is_mark_or_fragment is_style_tag) cut ≡ flat_map styled_snippets (shown_fragments full document)
 
 -- what follows an answer where the style sheet is asked for
@@ -238,7 +238,7 @@ abbrev pub IsHtmlPageOf : List Part → Bool → Bool → List ℕ → Type 0
 IsHtmlPageOf document full include_css answer =
     (html : List ℕ) × IsHtmlOf document full html × (answer ≡ html ++ (if include_css then style_sheet else []))
 
--- The same of its text alone: without tags and newlines it is the HTML text. This holds of ill-nested lists too.
+-- The same for its text only: without tags and newlines it is the HTML text. This holds of ill-nested lists too.
 abbrev pub IsHtmlTextPageOf : List Part → Bool → Bool → List ℕ → Type 0
 IsHtmlTextPageOf document full include_css answer =
     (html : List ℕ) × (filter is_line_byte (erased html) ≡ html_text document full)

@@ -4,7 +4,6 @@ use Rattle.bpaf_doc.specs.declared.buffer.Style.{Style}
 use Rattle.bpaf_doc.specs.declared.buffer.Style.TheVariants as style
 use Rattle.bpaf_doc.specs.declared.html.Styles.{Styles}
 
--- what a style turns on
 abbrev pub styles_of : Style → Styles
 styles_of style.Text = record { mono = false; bold = false; italic = false }
 styles_of style.Emphasis = record { mono = false; bold = true; italic = false }

@@ -1,4 +1,4 @@
--- The events of a document as a manual page. What a part gives is told by the marks that stand before it.
+-- The events of a document as a manual page. What a part gives depends on the marks before it.
 use Rattle.std.specs.Prelude.{ℕ, Bool, true, false, List, [], ◌∷◌, ◌++◌, Option, Some, map, reverse, find, flat_map, codes, if◌then◌else◌}
 use Rattle.std.specs.List.{after_last}
 use Rattle.std.specs.Str.{str_to_ascii_uppercase}
@@ -13,7 +13,7 @@ use Rattle.bpaf_doc.specs.declared.buffer.Style.TheVariants as style
 use Rattle.bpaf_doc.specs.declared.buffer.Block.{Block}
 use Rattle.bpaf_doc.specs.declared.buffer.Block.TheVariants as block
 
--- each part with the parts that stand before it
+-- each part with the parts before it
 abbrev pub places : List Part → List Part → List (List Part × Part)
 places before [] = []
 places before (part ∷ parts) = (before, part) ∷ places (before ++ part ∷ []) parts
@@ -59,7 +59,7 @@ captured_text (before, Text bytes how) = if last_is_start is_section_mark before
 captured_text (before, Start b) = []
 captured_text (before, End b) = []
 
--- a text as one word of a control: newlines are blanks, and an empty one is two quotes
+-- a text as one word of a control: newlines are blanks, and an empty text is two quotes
 abbrev pub word_of : List ℕ → List ℕ
 word_of text = argument_word (map newline_as_blank text)
 
@@ -67,7 +67,7 @@ word_of text = argument_word (map newline_as_blank text)
 abbrev pub captured_texts : List Part → List ℕ
 captured_texts before = flat_map captured_text (after_last (λ place. is_section_end place.1) (places [] before))
 
--- those in ASCII capitals, as one word
+-- these texts in ASCII capitals, as one word
 abbrev pub heading : List Part → List ℕ
 heading before = word_of (str_to_ascii_uppercase (captured_texts before))
 
@@ -95,7 +95,7 @@ start_steps block.Block = control_step (codes "PP") []
 start_steps block.Meta = control_step (codes "nf") []
 start_steps _ = []
 
--- what an end gives, with the heading of what stands before
+-- what an end gives, with the heading of what is before
 abbrev pub end_steps : List Part → Block → List Step
 end_steps before block.Header = control_step (codes "SH") (heading before ∷ [])
 end_steps before block.Section2 = control_step (codes "SS") (heading before ∷ [])
@@ -106,7 +106,7 @@ end_steps before block.ItemBody = control_step (codes "PP") []
 end_steps before block.Meta = control_step (codes "fi") []
 end_steps before _ = []
 
--- an emphasized text stands under a heading of no words
+-- an emphasized text is under a heading without words
 abbrev pub emphasis_steps : Style → List Step
 emphasis_steps style.Emphasis = control_step (codes "SS") []
 emphasis_steps _ = []

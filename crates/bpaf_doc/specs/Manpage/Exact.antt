@@ -1,6 +1,6 @@
--- A document on a page of roff as one function. It goes by the rules of docs/manpage.md: the pieces that each part
--- adds, by the marks that stand before it. `render_roff` answers just the rendering of the page with these pieces. That
--- a reader of roff reads them as the document's events, where the page takes a document, is a theorem on them
+-- A document on a page of roff as one function, by the rules of docs/manpage.md: the pieces that each part adds depend
+-- on the marks before it. `render_roff` returns exactly the rendering of the page with these pieces. That a reader of
+-- roff reads them as the document's events, where the page takes a document, is a theorem about them
 -- (proofs/lemmas/Manpage/Drafts, proofs/lemmas/Manpage/PageRead).
 use Rattle.std.specs.Prelude.{ℕ, Bool, List, [], ◌∷◌, ◌++◌, Option, Some, None, reverse, find, flat_map, codes, if◌then◌else◌}
 use Rattle.std.specs.Str.{str_to_ascii_uppercase}
@@ -46,17 +46,17 @@ abbrev pub style_pieces : Style → List (Piece Escape)
 style_pieces style.Emphasis = control (codes "SS")
 style_pieces _ = []
 
--- what the last mark says, or, where none came, the page
+-- what the last mark says, or what the page says where there was none
 abbrev pub start_or : Bool → Option Part → Bool
 start_or by_page None = by_page
 start_or by_page (Some mark) = is_start (Some mark)
 
--- whether newlines are stripped behind these parts: the last ItemTerm start, ItemTerm end or ItemBody end is a start;
--- where none came, the page strips them
+-- whether newlines are stripped after these parts: the last ItemTerm start, ItemTerm end or ItemBody end is a start;
+-- where there was none, the page strips them
 abbrev pub strips_newlines : Bool → List Part → Bool
 strips_newlines by_page before = start_or by_page (find is_term_mark (reverse before))
 
--- a text is captured where the last section mark before it is a start, and else written in the font of its style
+-- a text is captured where the last section mark before it is a start, otherwise written in the font of its style
 abbrev pub text_part_pieces : Bool → List Part → List ℕ → Style → List (Piece Escape)
 text_part_pieces by_page before bytes how =
     if last_is_start is_section_mark before then []
@@ -72,6 +72,6 @@ part_pieces by_page (before, End b) = end_pieces before b
 abbrev pub document_pieces : Bool → List Part → List (Piece Escape)
 document_pieces by_page document = flat_map (part_pieces by_page) (places [] document)
 
--- the text of a page with a document behind what it holds
+-- the text of a page with a document after what it holds
 abbrev pub roff_page : Script → List Part → List ℕ
 roff_page page document = rendering Handle (page.pieces ++ document_pieces page.strip_newlines document)

@@ -13,7 +13,7 @@ pub record IsReadAfter (front : List ℕ) (events : List Event) (text : List ℕ
   pub joined : text ≡ front ++ body
   pub reads : Reads AtLineStart body events
 
--- the page keeps newlines and stands at a line start
+-- the page keeps newlines and is at a line start
 pub record TakesDocument (page : Script) : Type 0 where
   pub keeps_newlines : page.strip_newlines ≡ false
   pub at_line_start : is_line_start (escaped Handle page.pieces) ≡ true
@@ -27,14 +27,14 @@ abbrev pub title_arguments : List ℕ → List ℕ → Option (List ℕ) → Opt
 title_arguments app section date vendor title =
     app ∷ section ∷ unwrap_or date (codes "-") ∷ unwrap_or vendor (codes "-") ∷ unwrap_or title [] ∷ []
 
--- those as a control
+-- the same as a control
 -- e.g. title_event (codes "a\\") (codes "1") None None None
 --     ≡ Control (codes "TH") (codes "a\\" ∷ codes "1" ∷ codes "-" ∷ codes "-" ∷ codes "\"\"" ∷ [])
 abbrev pub title_event : List ℕ → List ℕ → Option (List ℕ) → Option (List ℕ) → Option (List ℕ) → Event
 title_event app section date vendor title =
     Control (codes "TH") (map word_of (title_arguments app section date vendor title))
 
--- a page that holds nothing but the title line
+-- a page that holds only the title line
 abbrev pub title_page : List (List ℕ) → Script
 title_page arguments = with_pieces no_script (control_pieces (codes "TH") arguments)
 

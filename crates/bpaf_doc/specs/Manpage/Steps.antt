@@ -1,2 +1,2 @@
--- What leads from the code to a manual page. Nobody has to believe it.
+-- What leads from the code to a manual page. This is internal.
 pub mod Draft

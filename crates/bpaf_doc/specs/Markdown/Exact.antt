@@ -1,6 +1,6 @@
--- A markdown text as one function of the document. It goes by the rules of docs/html.md: what each fragment writes, by
--- the text and the fragments that stand before it and the fragments that come after it. `render_markdown` answers just
--- this text. The laws of `Markdown` are theorems on it (proofs/lemmas/Markdown/Exact, proofs/lemmas/Markdown/Meets).
+-- A markdown text as one function of the document, by the rules of docs/html.md: what each fragment writes depends on
+-- the text and the fragments before it, and on the fragments after it. `render_markdown` returns exactly this text. The
+-- laws of `Markdown` are theorems about it (proofs/lemmas/Markdown/Exact, proofs/lemmas/Markdown/Meets).
 use Rattle.std.specs.Prelude.{ℕ, ◌==◌, Bool, false, ◌||◌, List, [], ◌∷◌, ◌++◌, reverse, filter, flat_map, if◌then◌else◌, codes, nat_eq}
 use Rattle.std.specs.List.{ends_with, list_any}
 use Rattle.bpaf_doc.specs.declared.buffer.Style.{Style}
@@ -63,7 +63,7 @@ abbrev pub begins_with_code_line : List Fragment → Bool
 begins_with_code_line [] = false
 begins_with_code_line (f ∷ fs) = shows is_code_line f
 
--- a code block is open behind these fragments: the last that decides was a code line
+-- a code block is open after these fragments: the last that decides was a code line
 abbrev pub is_in_code : List Fragment → Bool
 is_in_code before = begins_with_code_line (filter decides_code (reverse before))
 
@@ -75,7 +75,7 @@ opening_fence before = if is_in_code before then [] else codes "\n\n  ```text\n"
 abbrev pub closing_fence : List Fragment → List ℕ
 closing_fence before = if is_in_code before then codes "\n  ```\n" else []
 
--- and so does the end of a text
+-- so does the end of a text
 abbrev pub last_fence : List Fragment → List ℕ
 last_fence before = if is_in_code before then codes "  ```\n" else []
 
@@ -108,7 +108,7 @@ heading_mark before = if list_any is_header_start before then codes "## " else c
 abbrev pub item_mark : List Fragment → List ℕ
 item_mark after = if begins_with_term_end after then codes "  " else codes "- "
 
--- in a definition list, a long dash before a body, or a blank behind such an item
+-- in a definition list, a long dash before a body, or a blank after such an item
 abbrev pub body_mark : List Fragment → List ℕ
 body_mark before =
     if is_in_list before then (if is_after_empty_item before then codes " " else codes " &mdash; ") else []
@@ -146,7 +146,7 @@ fragment_markdown text before Hidden after = []
 fragment_markdown text before (Start b) after = start_markdown text before b after
 fragment_markdown text before (End b) after = end_markdown before b
 
--- the text with what these fragments write behind it, one after another
+-- the text with what these fragments write after it, one after another
 abbrev pub markdown_after : List ℕ → List Fragment → List Fragment → List ℕ
 markdown_after text before [] = text
 markdown_after text before (f ∷ after) =

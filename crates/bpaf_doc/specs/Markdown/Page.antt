@@ -1,4 +1,4 @@
--- What a markdown answer promises: it is cut into marks and the fragments of the document, in the document's order.
+-- What a markdown answer promises: it can be cut into marks and the fragments of the document, in the document's order.
 use Rattle.std.specs.Prelude.{◌≡◌, ℕ, ◌<◌, ◌==◌, Bool, true, false, not, ◌&&◌, ◌||◌, List, [], ◌∷◌, ◌++◌, map, reverse, filter, flat_map, count_by, if◌then◌else◌, IsTrue, nat_lt, codes}
 use Rattle.std.specs.List.{list_any, AllPass, after_last}
 use Rattle.bpaf_roff.specs.Bytes as byte
@@ -10,7 +10,7 @@ use Rattle.bpaf_doc.specs.Buffer.Parts.{Part}
 use Rattle.bpaf_doc.specs.Html.Fragments.{Fragment, Shown, TextEnd, Start, End, shows, shown_fragments}
 use Rattle.bpaf_doc.specs.Snippets.{Snippet, Put, Of, fragments_in, is_mark_or_fragment, styled_by, Touch}
 
--- what f gives at each place of xs, from what stands before it, it, and what stands after it
+-- what f gives at each place of xs, from what is before it, the element itself, and what is after it
 abbrev pub flat_map_places_from : {X Y : Type 0} → (List X → X → List X → List Y) → List X → List X → List Y
 flat_map_places_from f before [] = []
 flat_map_places_from f before (x ∷ after) = f before x after ++ flat_map_places_from f (before ++ x ∷ []) after
@@ -18,7 +18,7 @@ flat_map_places_from f before (x ∷ after) = f before x after ++ flat_map_place
 abbrev pub flat_map_places : {X Y : Type 0} → (List X → X → List X → List Y) → List X → List Y
 flat_map_places f xs = flat_map_places_from f [] xs
 
--- what is written round the texts
+-- what is written around the texts
 pub data Mark : Type 0 where
   Italic : Mark
   Bold : Mark
@@ -59,7 +59,7 @@ abbrev pub is_mono_end : Fragment → Bool
 is_mono_end (End Mono) = true
 is_mono_end _ = false
 
--- more Mono starts than ends came so far
+-- so far there are more Mono starts than ends
 abbrev pub is_in_mono : List Fragment → Bool
 is_in_mono before = nat_lt (count_by is_mono_end before) (count_by is_mono_start before)
 
@@ -109,7 +109,7 @@ is_in_list before = begins_with_list_start (filter is_list_mark (reverse before)
 abbrev pub is_after_empty_item : List Fragment → Bool
 is_after_empty_item before = list_any is_item_start before && begins_with_term_end (after_last is_item_start before)
 
--- the heading and list marks of a fragment, by what stands before and after it
+-- the heading and list marks of a fragment, by what is before and after it
 abbrev pub headings_of : List Fragment → Fragment → List Fragment → List Mark
 headings_of before (Start Header) after = (if list_any is_header_start before then SecondHeading else Heading) ∷ []
 headings_of before (Start Section3) after = ThirdHeading ∷ []
@@ -131,7 +131,7 @@ is_heading Dash = true
 is_heading LongDash = true
 is_heading _ = false
 
--- the marks round a text of a style, from the outside in
+-- the marks around a text of a style, from the outside in
 abbrev pub style_marks : Style → List Mark
 style_marks Text = []
 style_marks Emphasis = Bold ∷ []
@@ -139,7 +139,7 @@ style_marks Literal = Bold ∷ Tick ∷ []
 style_marks Metavar = Italic ∷ Tick ∷ []
 style_marks Invalid = Bold ∷ []
 
--- each text has its style's marks before its chunks and, in the other order, after them
+-- each text has its style's marks before its chunks and, in reverse order, after them
 abbrev pub styled_snippets : Fragment → List MarkdownSnippet
 styled_snippets fragment = styled_by style_marks (λ style. reverse (style_marks style)) fragment
 
@@ -189,27 +189,27 @@ pub record IsMarkdownOf (document : List Part) (full : Bool) (answer : List ℕ)
   -- the heading and list marks are those of the block marks, in order among the fragments
   pub headings : filter (is_mark_or_fragment is_heading) cut ≡ flat_map_places headed_snippets
       (shown_fragments full document)
-  -- just the marks of its style stand round the chunks of each text
+  -- exactly the marks of its style are around the chunks of each text
   pub styles : filter (is_mark_or_fragment is_style_mark) cut ≡ flat_map styled_snippets (shown_fragments full document)
   -- at a code line more fences were opened than closed
   pub fenced : (before after : List MarkdownSnippet) (a : Fragment) → cut ≡ before ++ Of a ∷ after
       → IsTrue (shows is_code_line a) → closed_fences before < opened_fences before
-  -- at an ordinary Raw chunk, and at the end of a text, as many
+  -- at an ordinary Raw chunk, and at the end of a text, as many were opened as closed
   pub unfenced : (before after : List MarkdownSnippet) (a : Fragment) → cut ≡ before ++ Of a ∷ after
       → IsTrue (shows is_ordinary a || is_text_end a) → closed_fences before ≡ opened_fences before
-  -- a code line and a line of a fence stand alone on their line, after blanks
+  -- a code line and a line of a fence are alone on their line, after blanks
   pub lines : (before after : List MarkdownSnippet) (a : Fragment) → cut ≡ before ++ Of a ∷ after
       → IsTrue (shows is_whole_line a)
       → EndsInBlankLine (text_after [] before) × IsTrue (starts (text_after (before ++ Of a ∷ []) after) (codes "\n"))
-  -- between ordinary Raw chunks that follow one another in a text stands nothing
+  -- there is nothing between ordinary Raw chunks that follow one another in a text
   pub touching : Touch (shows is_ordinary) cut
-  -- between Raw chunks with a Paragraph between them two newlines stand together
+  -- between Raw chunks with a Paragraph between them there are two newlines in a row
   pub paragraphs : (before between after : List MarkdownSnippet) (a b : Fragment)
       → cut ≡ before ++ Of a ∷ (between ++ Of b ∷ after)
       → IsTrue (shows is_raw a) → IsTrue (shows is_raw b)
       → IsTrue (list_any (shows is_paragraph) (fragments_in between))
       → (front back : List MarkdownSnippet) × (between ≡ front ++ Put Newline ∷ Put Newline ∷ back)
-  -- and with a LineBreak between them a newline
+  -- and with a LineBreak between them there is a newline
   pub line_breaks : (before between after : List MarkdownSnippet) (a b : Fragment)
       → cut ≡ before ++ Of a ∷ (between ++ Of b ∷ after)
       → IsTrue (shows is_raw a) → IsTrue (shows is_raw b)

@@ -1,3 +1,3 @@
--- What leads from the code to a markdown page. Nobody has to believe it.
+-- What leads from the code to a markdown page. This is internal.
 pub mod Page
 pub mod Items

@@ -147,11 +147,11 @@ pub data Spells : Form → List Chunk → List ℕ → Type 0 where
   paragraph : {chunks : List Chunk} {text : List ℕ} (rest : List ℕ) (others : List Chunk) → chunks ≡ Paragraph ∷ others
       → text ≡ codes "\n\n" ++ rest → ¬ IsTrue (starts rest (codes "```")) → ¬ IsTrue (starts rest (codes "    "))
       → Spells Plain others rest → Spells Plain chunks text
-  -- a newline and a blank, with no three blanks more
+  -- a newline and a blank, without three more blanks
   line_break : {chunks : List Chunk} {text : List ℕ} (rest : List ℕ) (others : List Chunk) → chunks ≡ LineBreak ∷ others
       → text ≡ codes "\n " ++ rest → ¬ IsTrue (starts rest (codes "   "))
       → Spells Plain others rest → Spells Plain chunks text
-  -- a newline with no newline and no blank after it stands for a blank
+  -- a newline without a newline or a blank after it stands for a blank
   newline : {chunks : List Chunk} {text : List ℕ} (rest : List ℕ) (others : List Chunk)
       → chunks ≡ Raw (codes " ") 1 ∷ others
       → text ≡ codes "\n" ++ rest → ¬ IsTrue (starts rest (codes "\n")) → ¬ IsTrue (starts rest (codes " "))
@@ -169,12 +169,12 @@ pub data Spells : Form → List Chunk → List ℕ → Type 0 where
       → chunks ≡ Raw line fence_weight ∷ others
       → text ≡ line ++ rest → text ≢ [] → IsLine line → IsPastNewline rest next
       → Spells Later others next → Spells Opening chunks text
-  -- a later line with no three backquotes in front
+  -- a later line that does not begin with three backquotes
   later : {chunks : List Chunk} {text : List ℕ} (line rest next : List ℕ) (others : List Chunk)
       → chunks ≡ Raw line fence_weight ∷ others
       → text ≡ line ++ rest → text ≢ [] → IsLine line → ¬ IsTrue (starts line (codes "```")) → IsPastNewline rest next
       → Spells Later others next → Spells Later chunks text
-  -- a later line with three backquotes in front closes the fence
+  -- a later line that begins with three backquotes closes the fence
   closing : {chunks : List Chunk} {text : List ℕ} (line rest next : List ℕ) (others : List Chunk)
       → chunks ≡ Raw line fence_weight ∷ others
       → text ≡ line ++ rest → IsLine line → IsTrue (starts line (codes "```")) → ¬ IsTrue (starts rest (codes "\n\n"))
@@ -188,7 +188,7 @@ pub data Spells : Form → List Chunk → List ℕ → Type 0 where
 
 -- ---- the chunks of a text
 
--- the bytes after those from the front on that pass the test
+-- the bytes without the leading ones that pass the test
 abbrev pub without_front : (ℕ → Bool) → List ℕ → List ℕ
 without_front test bytes = drop (prefix_len test bytes) bytes
 

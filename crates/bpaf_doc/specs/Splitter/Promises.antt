@@ -29,11 +29,11 @@ IsText LineBreak = ⊤
 abbrev pub is_gap_byte : ℕ → Bool
 is_gap_byte b = (b == byte.newline) || (b == byte.blank)
 
--- newlines and blanks alone
+-- only newlines and blanks
 abbrev pub IsGap : List ℕ → Type 0
 IsGap bytes = IsTrue (list_all is_gap_byte bytes)
 
--- What of the text a chunk stands for: a Raw for its own bytes, or for a newline in whose place it is a blank; a break
+-- The part of the text that a chunk stands for: a Raw for its own bytes, or, if it is a blank, for a newline; a break
 -- for its newlines and its blank.
 abbrev pub StandsFor : Chunk → List ℕ → Type 0
 StandsFor (Raw bytes weight) there = (there ≡ bytes) ⊎ ((there ≡ codes "\n") × (bytes ≡ codes " ") × (weight ≡ 1))
@@ -61,7 +61,7 @@ StandInOrder text from (chunk ∷ chunks) =
 abbrev pub EachTextIsSpelledOnce : Type 0
 EachTextIsSpelledOnce = (text : List ℕ) → IsSpelledOnce text
 
--- the chunks of a UTF-8 text have together its ink, in order
+-- together the chunks of a UTF-8 text have its ink, in order
 abbrev pub ChunksKeepInk : Type 0
 ChunksKeepInk = (text : List ℕ) → IsUtf8 text → flat_map chunk_ink (chunks_of text) ≡ ink text
 

@@ -1,3 +1,3 @@
--- How the code cuts a text. Nobody has to believe it.
+-- How the code cuts a text. This is internal.
 pub mod Forms
 pub mod Runs

@@ -1,4 +1,4 @@
-//! Documents are equal, and come one before the other, as their lists of parts do.
+//! Documents are equal, and ordered, as their lists of parts are.
 
 ghost use Rattle.std.specs.Prelude.{◌≡◌};
 ghost use Rattle.bpaf_doc.specs.Buffer.Equality.{part_cmp, same_part};

@@ -1,4 +1,4 @@
-//! A console text while it is written.
+//! A console text while it is being written.
 ghost use Rattle.std.specs.Prelude.{◌≡◌, ◌≤◌, ◌++◌, [], ◌∷◌, Bool, not, IfOk, IsTrue, OnOk, length, string_bytes};
 ghost use Rattle.std.specs.Prelude.{replicate};
 ghost use Rattle.std.specs.Str.{trim_end};
@@ -28,7 +28,7 @@ pub enum Asked {
     BlankLine,
 }
 
-/// The text so far, and what the next one has to keep to.
+/// The text so far, and what the next text depends on.
 #[derive(Drop)]
 pub struct Page<B: Allocator> {
     out: String<B>,
@@ -36,7 +36,7 @@ pub struct Page<B: Allocator> {
     column: usize,
     width: usize,
     tab_stop: usize,
-    // Each adds at most 30 to the one below it, so that no document has one that a `usize` does not hold.
+    // Each adds at most 30 to the one below it, so that all margins of a document fit a `usize`.
     margins: Vec<usize, B>,
     asked: Asked,
     // An item's body starts at the next text.
@@ -44,7 +44,7 @@ pub struct Page<B: Allocator> {
 }
 
 impl<B: Allocator + Copy> Page<B> {
-    /// An empty page of lines of at most `width` columns.
+    /// An empty page with lines of at most `width` columns.
     pub fn new(alloc: B, width: usize, tab_stop: usize) -> Self
         ensures { sheet_of result ≡ blank_sheet width tab_stop }
     {
@@ -61,7 +61,7 @@ impl<B: Allocator + Copy> Page<B> {
 }
 
 impl<B: Allocator> Page<B> {
-    /// Writes the chunks of a text, in brief up to the first paragraph break. Answers whether that break hides what
+    /// Writes the chunks of a text, in brief up to the first paragraph break. Returns whether that break hides what
     /// follows.
     pub fn put_text(&mut self, text: &str, full: bool) -> Result<bool, AllocError>
         ensures page { OnOk result (sheet_of self.new ≡ text_put full (chunks_of text.now) (sheet_of self.old)) }
@@ -86,7 +86,7 @@ impl<B: Allocator> Page<B> {
         Ok(false)
     }
 
-    /// Takes the start of a block in. `adjacent` tells of a Section4 whether an empty Block pair follows its end.
+    /// Processes the start of a block. For a Section4, `adjacent` says whether an empty Block pair follows its end.
     #[tactic(auto, unfolding(crate::specs::Console::Steps::Page::opened))]
     pub fn open(&mut self, block: Block, adjacent: bool) -> Result<(), AllocError>
         ensures page { OnOk result (sheet_of self.new ≡ opened block adjacent (sheet_of self.old)) }
@@ -98,7 +98,7 @@ impl<B: Allocator> Page<B> {
         Ok(())
     }
 
-    /// Takes the end of a block in.
+    /// Processes the end of a block.
     #[tactic(auto, unfolding(crate::specs::Console::Steps::Page::closed))]
     pub fn close(&mut self, block: Block) -> Result<(), AllocError>
         ensures page { OnOk result (sheet_of self.new ≡ closed block (sheet_of self.old)) }
@@ -121,8 +121,8 @@ impl<B: Allocator> Page<B> {
         Ok(out)
     }
 
-    // Writes as many of the words that come next as fit behind the last one, all at once. Inlined, so that the chunks
-    // that are left need not lie in memory.
+    // Writes as many of the next words as fit after the last one, all at once. Inlined, so that the remaining chunks
+    // need not be in memory.
     #[tactic(auto, using(crate::proofs::lemmas::Console::Runs::run_hides))]
     #[inline(always)]
     fn put_run(&mut self, chunks: &mut Splitter<'_>) -> Result<(), AllocError>
@@ -155,8 +155,8 @@ impl<B: Allocator> Page<B> {
             && self.margin() <= self.column
     }
 
-    // Whether of two blanks that come next nothing would be left: the first would stand on a new line, behind a margin
-    // with no room for more, and the second, which does not fit, would take it and the margin away again.
+    // Whether two blanks that come next would leave nothing: the first would be on a new line, after a margin with no
+    // room for more, and the second, which does not fit, would remove it and the margin again.
     fn drops_blanks(&self) -> bool
         ensures { IsTrue result → DropsBlanks (sheet_of self.now) }
     {
@@ -169,7 +169,7 @@ impl<B: Allocator> Page<B> {
             && ends_bare(&self.out)
     }
 
-    // Passes over blanks, two by two. So a margin is not written for each two of many.
+    // Passes over blanks, two at a time, so that a margin is not written for each pair of many.
     #[inline(always)]
     fn pass_blanks(&self, chunks: &mut Splitter<'_>)
         requires { DropsBlanks (sheet_of self.now) }
@@ -181,7 +181,7 @@ impl<B: Allocator> Page<B> {
         'blanks: while chunks.take_blanks() {}
     }
 
-    // Writes the code lines that come next where a line is behind that no chunk fits.
+    // Writes the code lines that come next, if they follow a line on which no chunk fits.
     #[inline(always)]
     fn put_code(&mut self, chunks: &mut Splitter<'_>) -> Result<(), AllocError>
         ensures page { OnOk result ((full : Bool)
@@ -202,7 +202,7 @@ impl<B: Allocator> Page<B> {
         Ok(())
     }
 
-    // Whether the last line is past the width, as it is behind a code line, and nothing has to come before the next one.
+    // Whether the last line is past the width, as it is after a code line, and nothing has to come before the next one.
     fn is_past_line(&self) -> bool
         ensures { IsTrue result → IsPastLine (sheet_of self.now) }
     {
@@ -236,7 +236,7 @@ impl<B: Allocator> Page<B> {
         self.place(raw, weight)
     }
 
-    // Breaks the line where that is asked for or a Raw chunk does not fit. Answers whether it did not.
+    // Breaks the line where that is asked for or a Raw chunk does not fit. Returns whether it did not fit.
     fn make_room(&mut self, raw: &str, weight: usize) -> Result<bool, AllocError>
         ensures page { OnOk result (sheet_of self.new ≡ on (room_made self.old.width (columns_of raw.now weight)) (sheet_of self.old)) }
         ensures wraps { IfOk result (λ too_wide. too_wide ≡ wraps self.old.width (columns_of raw.now weight) (page_of self.old)) }
@@ -252,7 +252,7 @@ impl<B: Allocator> Page<B> {
         Ok(true)
     }
 
-    // Whether a Raw chunk fits the line: by its weight, unless it is a code or fence line. Behind such a line nothing
+    // Whether a Raw chunk fits the line: by its weight, unless it is a code or fence line. After such a line nothing
     // fits, so that the columns of the next one are not counted.
     fn has_room(&self, raw: &str, weight: usize) -> bool
         ensures { result ≡ not (has_no_room self.now.width (columns_of raw.now weight) (page_of self.now)) }
@@ -350,7 +350,7 @@ impl<B: Allocator> Page<B> {
         Ok(())
     }
 
-    // Pushes the innermost margin and so many columns more.
+    // Pushes a margin of that many columns more than the innermost one.
     fn push_margin(&mut self, indent: Option<usize>) -> Result<(), AllocError>
         ensures { OnOk result (sheet_of self.new ≡ margin_pushed indent (sheet_of self.old)) }
     {
@@ -369,7 +369,7 @@ impl<B: Allocator> Page<B> {
     }
 }
 
-// Whether a newline alone stands behind the last character that is no White_Space.
+// Whether only a newline stands after the last character that is not White_Space.
 fn ends_bare<B: Allocator>(out: &String<B>) -> bool
     ensures { IsTrue result → string_bytes out.now ≡ trim_end (string_bytes out.now) ++ 10 ∷ [] }
 {
@@ -378,7 +378,7 @@ fn ends_bare<B: Allocator>(out: &String<B>) -> bool
     matches!(end, [b'\n'])
 }
 
-// Takes the White_Space at the end of the text away.
+// Removes the White_Space at the end of the text.
 #[tactic(auto, using(crate::proofs::lemmas::Console::Ends::trimmed_end))]
 fn trim_end<B: Allocator>(out: &mut String<B>)
     ensures bytes { string_bytes out.new ≡ trim_end (string_bytes out.old) }
@@ -414,7 +414,7 @@ fn line_columns(line: &str) -> usize
     }
 }
 
-// Whether all of these are printable ASCII. It looks at each, whatever came before, so that it looks at many at once.
+// Whether all bytes are printable ASCII. It does not stop at the first other byte, so that it looks at many at once.
 fn is_printable(bytes: &[u8]) -> bool
     ensures { result ≡ list_all (is_in_range 0x20 0x7E) bytes.now }
 {
@@ -425,7 +425,7 @@ fn is_printable(bytes: &[u8]) -> bool
     printable
 }
 
-// What has to stand before the next text, behind what was asked for.
+// What has to stand before the next text after the start of a block, given what was asked for before.
 fn asked_by_start(asked: Asked, block: Block) -> Asked
     ensures { request_of result ≡ request_at_start block (request_of asked) }
 {

@@ -26,10 +26,10 @@ impl Pairs {
         }
     }
 
-    /// Whether the start of `block` at `index` is that of a Section4 whose first following Section4 end has such a pair
-    /// after it.
+    /// Whether the start of `block` at `index` is that of a Section4, and an empty Block pair follows the first
+    /// Section4 end after it.
     ///
-    /// Starts before the same end share its answer, so that nested sections are looked through once.
+    /// Starts before the same end share the answer, so that nested sections are searched once.
     pub fn is_before_pair<A: Allocator>(&mut self, doc: &Doc<A>, index: usize, block: Block) -> bool
         requires { index < length doc.now }
         ensures pairs { self.new ≡ pairs_at doc.now index block self.old }

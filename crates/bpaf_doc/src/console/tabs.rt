@@ -1,14 +1,14 @@
-//! Where the bodies of items stand.
+//! The column where the bodies of items begin.
 ghost use Rattle.std.specs.Prelude.{◌≡◌, false};
 ghost use Rattle.bpaf_doc.specs.Console.Steps.Text.{tab_stop_from, wider_term};
 
 use crate::buffer::{Block, Part, Parts};
 use unicode_width::UnicodeWidthStr;
 
-/// The widest term, in columns, that the tab stop counts.
+/// The width, in columns, of the widest term that the tab stop counts.
 pub const MAX_TAB: usize = 24;
 
-/// 4 plus the columns of the widest item term that has at most `MAX_TAB`, or 4.
+/// 4 plus the columns of the widest item term that has at most `MAX_TAB` of them, or 4 without such a term.
 pub fn tab_stop(parts: Parts<'_>) -> usize
     ensures { result ≡ tab_stop_from 0 false 0 parts.entry }
 {
@@ -36,7 +36,7 @@ pub fn tab_stop(parts: Parts<'_>) -> usize
     widest.saturating_add(4)
 }
 
-// The wider of two terms, where the second counts up to `MAX_TAB`.
+// The wider of two terms, where the second counts only up to `MAX_TAB`.
 fn wider_term(widest: usize, term: usize) -> usize
     ensures { result ≡ wider_term widest term }
 {

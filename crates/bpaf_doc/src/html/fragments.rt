@@ -1,4 +1,4 @@
-//! What HTML and markdown have of a document, one piece after another: the same for both, in full and in brief.
+//! The pieces of a document that HTML and markdown show, one after another: the same for both, in full and in brief.
 ghost use Rattle.std.specs.Prelude.{◌≡◌, ◌∷◌, [], IfNone, IfSome, MatchOption};
 ghost use Rattle.bpaf_doc.specs.Html.Fragments.{Shown, shown_fragments};
 ghost use Rattle.bpaf_doc.specs.Splitter.Chunks.{Raw, code_weight, is_paragraph};
@@ -22,7 +22,7 @@ pub(super) enum Fragment<'a> {
     End(Block),
 }
 
-/// What is handed out at once: a run of a shown text, which stands for its chunks, a code line, or another fragment.
+/// What is returned at once: a run of a shown text, which stands for its chunks, a code line, or another fragment.
 #[derive(Clone, Copy)]
 pub(super) enum Taken<'a> {
     Words(Style, &'a str),
@@ -30,12 +30,12 @@ pub(super) enum Taken<'a> {
     One(Fragment<'a>),
 }
 
-/// The fragments that are left.
+/// The remaining fragments.
 #[derive(Drop)]
 pub(super) struct Fragments<'a> {
     full: bool,
     parts: Parts<'a>,
-    // Whether a shown text was begun and not ended, its style, and its chunks that are left.
+    // Whether a shown text was begun and not ended, its style, and its remaining chunks.
     in_text: bool,
     style: Style,
     chunks: Splitter<'a>,
@@ -58,7 +58,7 @@ impl<'a> Model for Fragments<'a> {
         × (f.in_text ≡ true → (f.depth ≡ 0) × (length f.parts + 1 < 2 ^ 64)) };
 }
 
-/// The fragments of a document: all of its texts in full, and in brief less.
+/// The fragments of a document: all of its texts in full, fewer in brief.
 #[tactic(auto, using(crate::proofs::lemmas::Html::Fragments::Walking::walked))]
 pub(super) fn fragments_of<A: Allocator>(doc: &Doc<A>, full: bool) -> Fragments<'_>
     ensures { result ≡ shown_fragments full doc.now }
@@ -88,7 +88,7 @@ fn is_paragraph(chunk: Chunk<'_>) -> bool
 }
 
 impl<'a> Fragments<'a> {
-    /// Takes a code line of a shown text off. None where another fragment comes next.
+    /// Takes a code line of a shown text. None where another fragment comes next.
     #[inline(always)]
     pub(super) fn take_code(&mut self) -> Option<&'a str>
         ensures code { IfSome result (λ line. (style : Style)
@@ -102,7 +102,7 @@ impl<'a> Fragments<'a> {
         }
     }
 
-    // The next fragment alone.
+    // The next fragment, never a run.
     #[inline(always)]
     fn next_fragment(&mut self) -> Option<Fragment<'a>>
         ensures steps { MatchOption result ((self.old ≡ []) × (self.new ≡ []))
@@ -161,7 +161,7 @@ impl<'a> Iterator for Fragments<'a> {
 
     ghost remaining = { item_count (λ left. left) };
 
-    // A call hands a fragment on through memory, which costs more than the fragment.
+    // Inlined, since a call passes a fragment through memory, which costs more than the fragment.
     #[inline(always)]
     fn next(&mut self) -> Option<Taken<'a>> {
         if self.in_text {

@@ -18,7 +18,7 @@ use crate::splitter::Chunk;
 use std::alloc::{AllocError, Allocator};
 use std::marker::Model;
 
-// What stands before the item that was begun last. Before the first one nothing is pending.
+// What is before the item that was begun last. Before the first item nothing is pending.
 #[derive(Clone, Copy)]
 enum Item {
     // Nothing yet: its dash waits for the next fragment.
@@ -99,7 +99,7 @@ impl<B: Allocator> Markdown<B> {
         }
     }
 
-    // So many bytes are not moved then as the text grows.
+    // With memory reserved, that many bytes are not moved as the text grows.
     fn with_room(alloc: B, bytes: usize) -> Result<Self, AllocError>
         ensures { IfOk result (λ page. page ≡ blank_text) }
     {
@@ -122,7 +122,7 @@ impl<B: Allocator> Markdown<B> {
         self.text.push_str(text)
     }
 
-    // Goes to the start of a line, where the text is at none.
+    // Goes to the start of a line, unless the text is at one.
     fn new_line(&mut self) -> Result<(), AllocError>
         ensures { OnOk result (self.new ≡ with_new_line self.old) }
     {
@@ -132,7 +132,7 @@ impl<B: Allocator> Markdown<B> {
         Ok(())
     }
 
-    // Ends the line and leaves an empty one, where the text ends in none.
+    // Ends the line and leaves an empty one, unless the text ends in one.
     fn blank_line(&mut self) -> Result<(), AllocError>
         ensures { OnOk result (self.new ≡ with_blank_line self.old) }
     {
@@ -181,7 +181,7 @@ impl<B: Allocator> Markdown<B> {
         self.put("\n")
     }
 
-    // A line of a code block, which it opens where none is open.
+    // A line of a code block, which is opened unless one is open.
     fn code_line(&mut self, text: &str) -> Result<(), AllocError>
         ensures { OnOk result (self.new ≡ with_line (open_code self.old) text.now) }
     {
@@ -192,7 +192,7 @@ impl<B: Allocator> Markdown<B> {
         self.line(text)
     }
 
-    // Writes the lines that come next in a code block that is open.
+    // Writes the lines that come next in an open code block.
     #[tactic(auto, using(crate::proofs::lemmas::Markdown::Runs::code_line_more))]
     #[inline(always)]
     fn code_lines(&mut self, fragments: &mut Fragments<'_>) -> Result<(), AllocError>
@@ -362,15 +362,15 @@ impl<B: Allocator> Markdown<B> {
 }
 
 impl<A: Allocator> Doc<A> {
-    /// The document as markdown, as a text in `alloc`: all of it where `full`, and else without what brief hides.
+    /// The document as markdown, as a text in `alloc`: all of it if `full`, otherwise without what brief hides.
     ///
     /// For every list of parts the bytes are those of `markdown_page`, a function of the document by the rules of
-    /// `docs/html.md` (clause `exact`). In them (`laws`) the slices that the shown texts are cut into stand in order,
-    /// round those of each text the marks of its style, and among them the marks of headings and lists; code lines
-    /// stand inside fences, each on a line of its own; and between two slices stand two newlines where they have a
-    /// paragraph between them, and a newline where they have a line break.
+    /// `docs/html.md` (clause `exact`). Clause `laws` says that the slices of the shown texts are in order. Around the
+    /// slices of each text are the marks of its style, and among them the marks of headings and lists. Code lines are
+    /// inside fences, each on a line of its own. Between two slices there are two newlines where they have a paragraph
+    /// between them, and a newline where they have a line break.
     ///
-    /// An `AllocError` says that a growth was refused.
+    /// An `AllocError` says that an allocation failed.
     #[tactic(auto, using(crate::proofs::lemmas::Markdown::Exact::written_text))]
     pub fn render_markdown<B: Allocator>(
         &self,
@@ -380,7 +380,7 @@ impl<A: Allocator> Doc<A> {
         ensures laws { IfOk result (λ answer. IsMarkdownOf self.now full (string_bytes answer)) }
         ensures exact { IfOk result (λ answer. string_bytes answer ≡ markdown_page full self.now) }
     {
-        // The marks can be counted: there are at most as many as parts.
+        // The marks can be counted, since there are at most as many as parts.
         let _count = self.len();
         let mut page = Markdown::with_room(alloc, if full { self.text_len() } else { 0 })?;
         let mut fragments = fragments_of(self, full);

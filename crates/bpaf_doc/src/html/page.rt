@@ -140,7 +140,7 @@ impl<B: Allocator> Page<B> {
         Ok(())
     }
 
-    // Writes a text with its angles as entities. Inlined, as `take` is, since a call for each chunk costs as much as a
+    // Writes a text with its angles as entities. Inlined, like `take`, since a call for each chunk costs as much as a
     // short one.
     #[inline(always)]
     fn put_words(&mut self, text: &str) -> Result<(), AllocError>
@@ -190,7 +190,7 @@ impl<B: Allocator> Page<B> {
         Ok(())
     }
 
-    // The end of a block: its tag, and again what held before its start.
+    // The end of a block: its tag, and the state from before its start.
     fn end(&mut self, block: Block) -> Result<(), AllocError>
         ensures { OnOk result (self.new ≡ ended self.old block) }
     {
@@ -239,17 +239,17 @@ impl<B: Allocator> Page<B> {
 }
 
 impl<A: Allocator> Doc<A> {
-    /// The document as HTML, as a text in `alloc`: all of it where `full`, and else without what brief hides. With
+    /// The document as HTML, as a text in `alloc`: all of it if `full`, otherwise without what brief hides. With
     /// `include_css` the style sheet follows it.
     ///
     /// For every list of parts the bytes are those of `html_page`, a function of the document by the rules of
-    /// `docs/html.md` (clause `exact`). What stands before the style sheet is, without tags and newlines, the slices
-    /// that the shown texts are cut into, with `<` and `>` as entities, and `# ` at each start of a header (`text`).
-    /// For a well-nested document (`html`) it is well-nested HTML, in which each shown text has the tags of its style
-    /// and each block its own, and `<br>` stands between two inked slices that have a paragraph, a line break or a mark
-    /// of a header between them.
+    /// `docs/html.md` (clause `exact`). Without tags and newlines, what comes before the style sheet is the slices of
+    /// the shown texts, with `<` and `>` as entities, and `# ` at each start of a header (`text`). For a well-nested
+    /// document it is well-nested HTML (`html`): each shown text has the tags of its style and each block its own, and
+    /// there is a `<br>` between two inked slices that have a paragraph, a line break or a mark of a header between
+    /// them.
     ///
-    /// An `AllocError` says that a growth was refused, of the text or of the list of open blocks.
+    /// An `AllocError` says that an allocation failed, for the text or for the list of open blocks.
     pub fn render_html<B: Allocator + Copy>(
         &self,
         alloc: B,
@@ -270,7 +270,7 @@ impl<A: Allocator> Doc<A> {
         Ok(text)
     }
 
-    /// `render_html` in full and without the style sheet: for a page that has its own.
+    /// `render_html` in full and without the style sheet, for a page that has its own.
     pub fn full_html<B: Allocator + Copy>(&self, alloc: B) -> Result<String<B>, AllocError>
         ensures html { IfOk result (λ answer. IsWellNested self.now
             → IsHtmlPageOf self.now true false (string_bytes answer)) }
@@ -280,7 +280,7 @@ impl<A: Allocator> Doc<A> {
         self.render_html(alloc, true, false)
     }
 
-    /// `render_html` in full, with the style sheet behind it: for a page that has none.
+    /// `render_html` in full and followed by the style sheet, for a page that has none.
     pub fn styled_html<B: Allocator + Copy>(&self, alloc: B) -> Result<String<B>, AllocError>
         ensures html { IfOk result (λ answer. IsWellNested self.now
             → IsHtmlPageOf self.now true true (string_bytes answer)) }

@@ -1,5 +1,5 @@
-//! A block of a text as a language spells it, put into a room on the stack. No branch depends on a byte: where many
-//! bytes have another spelling, it would often be guessed wrong.
+//! A block of a text in the spelling of a language, first written to a room on the stack. No branch depends on a byte:
+//! where many bytes have another spelling, it would often be guessed wrong.
 
 ghost use Rattle.std.specs.Prelude.{◌≡◌, ◌+◌, ◌≤◌, ◌++◌, [], ◌∷◌, take, length, flat_map, codes};
 ghost use Rattle.bpaf_doc.specs.Html.Steps.View.{spelling_of};
@@ -9,10 +9,10 @@ use super::Language;
 /// How many bytes are spelled at once.
 pub const BLOCK: usize = 32;
 
-/// How many bytes these become at most: `&lt;` for each.
+/// How many bytes they become at most: `&lt;` for each.
 pub const ROOM: usize = 4 * BLOCK;
 
-// Puts the four bytes of an entity, of which the first may be meant alone.
+// Puts the four bytes of an entity, of which the caller may use only the first.
 #[inline(always)]
 fn put_entity(room: &mut [u8; ROOM], at: usize, first: u8, letter: u8)
     requires fits { at + 4 ≤ ROOM }
@@ -25,7 +25,7 @@ fn put_entity(room: &mut [u8; ROOM], at: usize, first: u8, letter: u8)
     room[at + 3] = b';';
 }
 
-// Puts a byte in HTML at a place, and answers the place behind it, as the one below does in markdown.
+// Puts a byte in HTML at a place, and returns the place after it. The one below does the same in markdown.
 #[inline(always)]
 fn put_html(room: &mut [u8; ROOM], at: usize, byte: u8) -> usize
     requires fits { at + 4 ≤ ROOM }
@@ -66,7 +66,7 @@ fn put_spelled(room: &mut [u8; ROOM], at: usize, language: Language, byte: u8) -
     }
 }
 
-/// Puts a block in the language's spelling at the start of the room, and answers how many bytes these are.
+/// Puts a block in the language's spelling at the start of the room, and returns how many bytes that is.
 #[inline(always)]
 pub fn fill(room: &mut [u8; ROOM], language: Language, bytes: &[u8]) -> usize
     requires short { length bytes.now ≤ BLOCK }

@@ -8,13 +8,13 @@ use Rattle.bpaf_doc.specs.declared.buffer.PartEnd.{PartEnd}
 use Rattle.bpaf_doc.specs.Buffer.Parts.{Part, Text, Start, End}
 use Rattle.bpaf_doc.specs.Buffer.Writes.{same_style}
 
--- the part of this kind with these bytes, of which a mark has none
+-- the part of this kind with these bytes; a mark has none
 abbrev pub part_with : Kind → List ℕ → Part
 part_with (kind.Text style) bytes = Text bytes style
 part_with (kind.Start b) bytes = Start b
 part_with (kind.End b) bytes = End b
 
--- The parts with these ends, where `rest` is the payload from `start` on: each reaches from the end before it to its
+-- The parts with these ends, where `rest` is the payload from `start` on: each reaches from the previous end to its
 -- own.
 abbrev pub parts_from : ℕ → List PartEnd → List ℕ → List Part
 parts_from start [] rest = []
@@ -27,7 +27,7 @@ MayTake (kind.Text style) bytes = Unit {0}
 MayTake (kind.Start b) bytes = bytes ≡ 0
 MayTake (kind.End b) bytes = bytes ≡ 0
 
--- a part's end does not fall below the end before it, lies within the payload and between two characters
+-- a part's end is not below the previous end, and lies within the payload, between two characters
 pub record IsEnd (start : ℕ) (e : PartEnd) (rest : List ℕ) : Type 0 where
   pub not_below : start ≤ e.end
   pub within : e.end - start ≤ length rest
@@ -55,11 +55,11 @@ is_text_of (kind.Text other) style = same_style other style
 is_text_of (kind.Start b) style = false
 is_text_of (kind.End b) style = false
 
--- a last end with a text after it that ends here: it takes the place of a text of its style
+-- a last end, and after it a text that ends here: if the last end is that of a text of the same style, it is replaced
 abbrev pub end_then_text : PartEnd → Style → ℕ → List PartEnd
 end_then_text e style end = if is_text_of e.kind style then text_end style end ∷ [] else e ∷ text_end style end ∷ []
 
--- the ends with a text after them that ends here
+-- the ends, and after them a text that ends here
 abbrev pub with_text_end : List PartEnd → Style → ℕ → List PartEnd
 with_text_end [] style end = text_end style end ∷ []
 with_text_end (e ∷ []) style end = end_then_text e style end
@@ -71,10 +71,10 @@ with_last_end [] end = []
 with_last_end (e ∷ []) end = record { kind = e.kind; end = end } ∷ []
 with_last_end (e ∷ f ∷ es) end = e ∷ with_last_end (f ∷ es) end
 
--- an end of a part whose text stands from `from` on in its payload, in a payload where it stands from `to` on
+-- the end of a part whose text moves from `from` in one payload to `to` in another
 abbrev pub moved : ℕ → ℕ → PartEnd → PartEnd
 moved from to e = record { kind = e.kind; end = e.end - from + to }
 
--- it lies there, and fits a `usize`
+-- the end is not before `from`, and where it moves to fits a `usize`
 abbrev pub CanMove : ℕ → ℕ → PartEnd → Type 0
 CanMove from to e = (from ≤ e.end) × (e.end - from + to < 2 ^ 64)

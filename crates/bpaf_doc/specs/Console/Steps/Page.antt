@@ -1,5 +1,5 @@
 -- A console page, step by step, as the private functions leave it: the page so far of the exact rules, and what the
--- code carries beside it. Nothing here has to be believed.
+-- code carries beside it. This is internal.
 use Rattle.std.specs.Prelude.{◌≡◌, ℕ, ◌+◌, ◌-◌, ◌<◌, ◌≤◌, ◌==◌, Bool, false, not, ◌&&◌, List, [], ◌∷◌, ◌++◌, Option, Some, None, unwrap_or, length, take, nat_eq, nat_lt, string_bytes, if◌then◌else◌}
 use Rattle.std.specs.List.{slice_get, ends_with}
 use Rattle.std.specs.Str.{trim_end, bytes_eq}
@@ -17,7 +17,7 @@ request_of asked.Nothing = NoBreak
 request_of asked.NewLine = NewLine
 request_of asked.BlankLine = BlankLine
 
--- what a page says, without where it lies in memory
+-- what a page says, without where it is in memory
 pub record Sheet : Type 0 where
   pub page : PageSoFar
   pub width : ℕ
@@ -34,7 +34,7 @@ sheet_of p = record { page = page_of p; width = p.width; tab_stop = p.tab_stop; 
 abbrev pub blank_sheet : ℕ → ℕ → Sheet
 blank_sheet width tab_stop = record { page = empty_page; width = width; tab_stop = tab_stop; margins = [] }
 
--- a step of the page leaves all beside it
+-- a step that changes only the page so far
 abbrev pub on : (PageSoFar → PageSoFar) → Sheet → Sheet
 on step s = record s { page = step s.page }
 
@@ -42,7 +42,7 @@ on step s = record s { page = step s.page }
 abbrev pub margin_of : Sheet → ℕ
 margin_of s = unwrap_or (slice_get s.margins (length s.margins - 1)) 0
 
--- some text stands, and the next stands right behind it: the line has room, nothing is asked for, and no margin is
+-- there is text, and the next text follows it directly: the line has room, nothing is asked for, and no margin is
 -- missing
 pub record IsWithinLine (s : Sheet) : Type 0 where
   pub nothing_asked : s.page.request ≡ NoBreak
@@ -51,7 +51,7 @@ pub record IsWithinLine (s : Sheet) : Type 0 where
   pub past_margin : margin_of s ≤ s.page.column
   pub room : s.page.column < s.width
 
--- nothing is asked for, and the last line is past the width, as it is behind a code line
+-- nothing is asked for, and the last line is past the width, as it is after a code line
 pub record IsPastLine (s : Sheet) : Type 0 where
   pub nothing_asked : s.page.request ≡ NoBreak
   pub no_body : s.page.is_pending ≡ false
@@ -59,7 +59,7 @@ pub record IsPastLine (s : Sheet) : Type 0 where
   pub past : s.width < s.page.column
   pub narrow : s.width < code_weight
 
--- a line was begun behind the last ink, and behind its margin no more than one blank fits
+-- a line was begun after the last ink, and after its margin no more than one blank fits
 pub record DropsBlanks (s : Sheet) : Type 0 where
   pub nothing_asked : s.page.request ≡ NoBreak
   pub no_body : s.page.is_pending ≡ false
@@ -69,7 +69,7 @@ pub record DropsBlanks (s : Sheet) : Type 0 where
   pub small : s.width < 18446744073709551615
   pub bare : s.page.text ≡ trim_end s.page.text ++ 10 ∷ []
 
--- where a break, or an empty line, is asked for and does not stand at the end
+-- a line break is asked for, and the text does not end in one
 abbrev pub lacks_newline : PageSoFar → Bool
 lacks_newline page = asks_line page.request && not (ends_with nat_eq page.text (byte.newline ∷ []))
 
@@ -77,7 +77,7 @@ abbrev pub lacks_blank_line : PageSoFar → Bool
 lacks_blank_line page =
     asks_blank_line page.request && not (ends_with nat_eq page.text (byte.newline ∷ byte.newline ∷ []))
 
--- the line is broken where these columns do not fit
+-- these columns do not fit the line
 abbrev pub has_no_room : ℕ → ℕ → PageSoFar → Bool
 has_no_room width more page = nat_lt width (saturated (page.column + more))
 
@@ -100,7 +100,7 @@ code_put margin line page =
 abbrev pub columns_of : List ℕ → ℕ → ℕ
 columns_of raw weight = if nat_lt weight code_weight then weight else columns raw
 
--- a Raw chunk, or no blank where it does not fit
+-- a Raw chunk; a blank that does not fit is left out
 unfoldable pub raw_put : ℕ → ℕ → List ℕ → ℕ → PageSoFar → PageSoFar
 raw_put width margin raw weight page =
     if wraps width (columns_of raw weight) page && bytes_eq raw (byte.blank ∷ [])

@@ -1,5 +1,5 @@
--- What the console remembers of empty Block pairs from part to part. Private machinery that nobody has to believe: that
--- it comes to `is_skipped` is proved (proofs/lemmas/Console/Pairs).
+-- What the console remembers of empty Block pairs from part to part. This is internal: that it comes to `is_skipped` is
+-- proved (proofs/lemmas/Console/Pairs).
 use Rattle.std.specs.Prelude.{◌≡◌, ℕ, ◌+◌, ◌<◌, true, ◌⊎◌, List, Some, slice_get}
 use Rattle.bpaf_doc.specs.declared.buffer.Block.TheVariants as blocks
 use Rattle.bpaf_doc.specs.declared.buffer.Block.{Block}
@@ -11,7 +11,7 @@ use Rattle.bpaf_doc.specs.Console.Margin.{after_section4, skips_pair}
 abbrev pub SkipsAt : List Part → ℕ → Type 0
 SkipsAt document i = (slice_get document i ≡ Some (Start blocks.Section4)) × (skips_pair document i ≡ true)
 
--- a start or an end of this block stands at place i
+-- a start or an end of this block is at place i
 abbrev pub HasMarkAt : List Part → ℕ → Block → Type 0
 HasMarkAt document i block = (slice_get document i ≡ Some (Start block)) ⊎ (slice_get document i ≡ Some (End block))
 

@@ -1,5 +1,5 @@
--- A console text, part by part, as the private functions leave it. Nothing here has to be believed: that such a text is
--- the exact page is proved.
+-- A console text, part by part, as the private functions leave it. This is internal: that such a text is the exact page
+-- is proved.
 use Rattle.std.specs.Prelude.{ℕ, ◌+◌, ◌-◌, ◌==◌, Bool, true, false, ◌&&◌, List, [], ◌∷◌, Option, Some, drop, max, nat_le, nat_lt, if◌then◌else◌}
 use Rattle.std.specs.List.{slice_get, position_or_len}
 use Rattle.bpaf_doc.specs.declared.buffer.Block.TheVariants as blocks
@@ -17,11 +17,11 @@ abbrev pub is_term : Block → Bool
 is_term blocks.ItemTerm = true
 is_term _ = false
 
--- the wider of two terms, where the second counts up to 24 columns
+-- the wider of two terms, where the second counts only up to 24 columns
 abbrev pub wider_term : ℕ → ℕ → ℕ
 wider_term widest term = if nat_le term 24 then max widest term else widest
 
--- the tab stop over the parts that follow: the widest term so far, whether a term is open, and its columns
+-- the tab stop over the remaining parts, from the widest term so far, whether a term is open, and its columns
 abbrev pub tab_stop_from : ℕ → Bool → ℕ → List Part → ℕ
 tab_stop_from widest in_term term [] = saturated (widest + 4)
 tab_stop_from widest in_term term (Text bytes style ∷ parts) =
@@ -59,7 +59,7 @@ abbrev pub section4_end : List Part → ℕ → ℕ
 section4_end document index =
     index + 1 + position_or_len (λ part. is_section4_end (Some part)) (drop (index + 1) document)
 
--- a start and an end of Block stand directly after this place
+-- a start and an end of Block come directly after this place
 abbrev pub has_empty_block : List Part → ℕ → Bool
 has_empty_block document index =
     is_block_start (slice_get document (saturated (index + 1)))

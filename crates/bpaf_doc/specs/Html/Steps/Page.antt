@@ -1,5 +1,5 @@
--- An HTML page as the code keeps it while it writes one fragment after another. `Html/Exact` says what comes out; that
--- these pages are those is proved (proofs/lemmas/Html/Exact), so this need not be believed.
+-- An HTML page as the code keeps it while it writes one fragment after another. This is internal: `Html/Exact` says
+-- what comes out, and that these pages are the same is proved (proofs/lemmas/Html/Exact).
 use Rattle.std.specs.Prelude.{ℕ, Bool, true, false, ◌&&◌, List, [], ◌∷◌, ◌++◌, flat_map, if◌then◌else◌, codes}
 use Rattle.bpaf_doc.specs.declared.buffer.Block.{Block}
 use Rattle.bpaf_doc.specs.Splitter.Chunks.{Chunk, Raw, Paragraph, LineBreak}
@@ -7,8 +7,8 @@ use Rattle.bpaf_doc.specs.Html.Fragments.{Fragment, TextStart, Shown, TextEnd, H
 use Rattle.bpaf_doc.specs.Html.Page.{escaped_character, is_definition_list}
 pub use Rattle.bpaf_doc.specs.Html.Exact.{is_empty, is_header, start_tag, end_tag, opening_tags, closing_tags}
 
--- the bytes so far, whether they are none or end in a break, whether the innermost open block is a definition list, and
--- the same of the blocks around it
+-- the bytes so far, whether there are none or they end in a break, whether the innermost open block is a definition
+-- list, and the same for the blocks around it
 pub record Written : Type 0 where
   pub bytes : List ℕ
   pub fresh : Bool
@@ -18,7 +18,7 @@ pub record Written : Type 0 where
 abbrev pub blank_page : Written
 blank_page = record { bytes = []; fresh = true; in_list = false; outer = [] }
 
--- tags, or a text as it stands
+-- tags, or a text as it is
 abbrev pub with_text : Written → List ℕ → Written
 with_text p text = record p { bytes = p.bytes ++ text; fresh = p.fresh && is_empty text }
 
@@ -59,7 +59,7 @@ chunk_page p (Raw bytes weight) = with_words p bytes
 chunk_page p Paragraph = with_break p
 chunk_page p LineBreak = with_break p
 
--- and after a fragment
+-- the page after a fragment
 abbrev pub page_after : Written → Fragment → Written
 page_after p (TextStart style) = with_text p (opening_tags style)
 page_after p (Shown style chunk) = chunk_page p chunk
@@ -68,7 +68,7 @@ page_after p Hidden = p
 page_after p (Start b) = started p b
 page_after p (End b) = ended p b
 
--- and after all of some
+-- the page after some fragments
 abbrev pub page_after_all : Written → List Fragment → Written
 page_after_all p [] = p
 page_after_all p (f ∷ fs) = page_after_all (page_after p f) fs

@@ -13,7 +13,7 @@ use Rattle.bpaf_doc.specs.Html.Fragments.{Fragment, TextStart, Shown, TextEnd, H
 use Rattle.bpaf_doc.specs.Html.Page.{escaped_character}
 use Rattle.bpaf_doc.specs.Markdown.Page.{escaped_character as markdown_character}
 
--- the fragment that was handed out
+-- the fragment that was returned
 abbrev pub fragment_of : declared.Fragment → Fragment
 fragment_of (handed.TextStart style) = TextStart style
 fragment_of (handed.Shown style chunk) = Shown style (chunk_of chunk)
@@ -22,19 +22,19 @@ fragment_of handed.Hidden = Hidden
 fragment_of (handed.Start block) = Start block
 fragment_of (handed.End block) = End block
 
--- the fragments that were handed out at once: those of the chunks of a run, that of a code line, or another one
+-- the fragments that were returned at once: those of the chunks of a run, that of a code line, or another one
 abbrev pub fragments_in : declared_taken.Taken → List Fragment
 fragments_in (taken.Words style run) = map (Shown style) (chunks_of run.now)
 fragments_in (taken.Code style line) = Shown style (Raw line.now code_weight) ∷ []
 fragments_in (taken.One fragment) = fragment_of fragment ∷ []
 
--- what is handed out as a run is one
+-- what is returned as a run is one
 abbrev pub IsTaken : declared_taken.Taken → Type 0
 IsTaken (taken.Words style run) = IsRun run.now
 IsTaken (taken.Code style line) = ⊤
 IsTaken (taken.One fragment) = ⊤
 
--- a call gave the first of what was left, and left the others, or gave None where nothing was left
+-- a call returned the first of the remaining fragments, and left the others, or returned None where none remained
 abbrev pub YieldsTaken : List Fragment → Option declared_taken.Taken → List Fragment → Type 0
 YieldsTaken before result after =
     MatchOption result ((before ≡ []) × (after ≡ [])) (λ x. IsTaken x × (before ≡ fragments_in x ++ after))
@@ -48,12 +48,12 @@ spelling_of language.Markdown byte = markdown_character byte
 abbrev pub IsPlain : Language → List ℕ → Type 0
 IsPlain language bytes = flat_map (spelling_of language) bytes ≡ bytes
 
--- the text is plain up to this place, where an ASCII character stands that is written in another way
+-- the text is plain up to this place, where there is an ASCII character that is written differently
 abbrev pub IsFirstSpelled : Language → List ℕ → ℕ → Type 0
 IsFirstSpelled language text at =
     (at < length text) × IsPlain language (take at text) × (slice_index text at < 128)
     × (spelling_of language (slice_index text at) ≢ slice_index text at ∷ [])
 
--- the bytes where it is turned on, and else none
+-- the bytes if it is turned on, otherwise none
 abbrev pub when : Bool → List ℕ → List ℕ
 when on bytes = if on then bytes else []

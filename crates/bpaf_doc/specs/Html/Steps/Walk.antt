@@ -1,6 +1,6 @@
 -- The fragments of a document as the code finds them: one part after another, with a number that says how deep hiding
--- is. `shown_fragments` says what is meant, by looking back; that this is the same is proved
--- (proofs/lemmas/Html/Fragments/Walking), so it need not be believed.
+-- is. This is internal: `shown_fragments` says what is meant, by looking back, and that this is the same is proved
+-- (proofs/lemmas/Html/Fragments/Walking).
 use Rattle.std.specs.Prelude.{ℕ, zero, suc, Bool, true, false, not, ◌&&◌, List, [], ◌∷◌, ◌++◌, map, if◌then◌else◌}
 use Rattle.std.specs.List.{list_any, before_first}
 use Rattle.bpaf_doc.specs.declared.buffer.Style.{Style}
@@ -18,7 +18,7 @@ is_inline _ = false
 abbrev pub depth_after_text : Bool → List Chunk → ℕ
 depth_after_text full chunks = if (not full && list_any is_paragraph chunks) then 1 else 0
 
--- How deep hiding is after a part: 0 where texts are shown, and else how many ends of inline blocks have to come, less
+-- How deep hiding is after a part: 0 where texts are shown, otherwise how many ends of inline blocks have to come, less
 -- the starts between.
 abbrev pub depth_after : Bool → Part → ℕ → ℕ
 depth_after full (Text bytes style) zero = depth_after_text full (chunks_of bytes)
@@ -32,7 +32,7 @@ depth_after full (PartEnd b) (suc depth) = if is_inline b then depth else suc de
 abbrev pub visible : Bool → List Chunk → List Chunk
 visible full chunks = if full then chunks else before_first is_paragraph chunks
 
--- what is left of a text that was begun
+-- the rest of a text that was begun
 abbrev pub text_rest : Bool → Style → List Chunk → List Fragment
 text_rest full style chunks = map (Shown style) (visible full chunks) ++ TextEnd style ∷ []
 
@@ -42,7 +42,7 @@ part_walk full (Text bytes style) (suc depth) = Hidden ∷ []
 part_walk full (PartStart b) depth = Start b ∷ []
 part_walk full (PartEnd b) depth = End b ∷ []
 
--- the fragments of the parts that are left
+-- the fragments of the remaining parts
 abbrev pub walk : Bool → ℕ → List Part → List Fragment
 walk full depth [] = []
 walk full depth (part ∷ parts) = part_walk full part depth ++ walk full (depth_after full part depth) parts

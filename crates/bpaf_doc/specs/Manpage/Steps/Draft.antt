@@ -1,5 +1,5 @@
--- What a page under way holds after each part, as its writer keeps it. `Manpage/Exact` says what comes out; that this
--- comes to it is proved (proofs/lemmas/Manpage/Drafts), so this need not be believed.
+-- What an unfinished page holds after each part, as its writer keeps it. This is internal: `Manpage/Exact` says what
+-- comes out, and that this comes to it is proved (proofs/lemmas/Manpage/Drafts).
 use Rattle.std.specs.Prelude.{ℕ, Bool, true, false, List, [], ◌∷◌, ◌++◌, ◌||◌, Option, Some, None, flat_map, fold, codes, if◌then◌else◌}
 use Rattle.std.specs.Str.{str_to_ascii_uppercase}
 use Rattle.bpaf_roff.specs.Pieces.{Piece}
@@ -70,11 +70,11 @@ pub record Draft : Type 0 where
 abbrev pub with_draft_calls : Draft → List Call → Draft
 with_draft_calls draft calls = record draft { page = with_calls draft.page calls }
 
--- a page that nothing of the document is on
+-- a page before the first part of the document
 abbrev pub draft_on : RoffText → Bool → Draft
 draft_on page strips = record { page = page; strips = strips; heading = []; captures = false }
 
--- a text in capture is kept for the heading, and any other is written
+-- a captured text is kept for the heading, any other is written
 abbrev pub after_text : Draft → List ℕ → Style → Draft
 after_text draft text how =
     if draft.captures then record draft { heading = draft.heading ++ text }
@@ -99,7 +99,7 @@ after_start draft b =
       captures = draft.captures || is_section b;
     }
 
--- a heading goes out in capitals
+-- a heading is written in capitals
 abbrev pub after_section : Draft → List ℕ → Draft
 after_section draft name =
     record {

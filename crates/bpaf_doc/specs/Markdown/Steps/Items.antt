@@ -8,7 +8,7 @@ abbrev pub is_pending : Item → Bool
 is_pending items.Pending = true
 is_pending _ = false
 
--- blanks stand in place of its dash
+-- there are blanks in place of its dash
 abbrev pub is_empty : Item → Bool
 is_empty items.Empty = true
 is_empty _ = false

@@ -1,5 +1,5 @@
--- A markdown text as the code keeps it while it writes one fragment after another. `Markdown/Exact` says what comes
--- out; that these texts are those is proved (proofs/lemmas/Markdown/Exact), so this need not be believed.
+-- A markdown text as the code keeps it while it writes one fragment after another. This is internal: `Markdown/Exact`
+-- says what comes out, and that these texts are the same is proved (proofs/lemmas/Markdown/Exact).
 use Rattle.std.specs.Prelude.{ℕ, ◌+◌, ◌-◌, ◌^◌, ◌==◌, Bool, true, false, List, [], ◌∷◌, ◌++◌, flat_map, if◌then◌else◌, codes, nat_lt, min}
 use Rattle.bpaf_doc.specs.declared.buffer.Style.{Style}
 use Rattle.bpaf_doc.specs.declared.buffer.Block.{Block}
@@ -10,8 +10,8 @@ use Rattle.bpaf_doc.specs.Markdown.Page.{escaped_character}
 pub use Rattle.bpaf_doc.specs.Markdown.Exact.{starts_line, starts_paragraph, opening_marks, closing_marks}
 
 -- The bytes so far; whether a heading was written; whether the last mark of a definition list was a start; whether an
--- item's dash waits for the next fragment, and else whether it is empty; the Mono starts and ends so far; whether a
--- code block is open.
+-- item's dash waits for the next fragment, and otherwise whether it is empty; the Mono starts and ends so far; whether
+-- a code block is open.
 pub record Marked : Type 0 where
   pub bytes : List ℕ
   pub headed : Bool
@@ -93,7 +93,7 @@ body_started p =
     put (with_new_line (if p.in_list then put p (if p.empty_item then codes " " else codes " &mdash; ") else p))
     (codes "  ")
 
--- one more, up to the greatest number
+-- one more, up to the greatest usize
 abbrev pub one_more : ℕ → ℕ
 one_more n = min (n + 1) (2 ^ 64 - 1)
 

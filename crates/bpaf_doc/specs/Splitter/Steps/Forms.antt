@@ -1,4 +1,4 @@
--- The form in which a splitter reads what is left.
+-- The form in which a splitter reads the rest of a text.
 use Rattle.bpaf_doc.specs.declared.splitter.Form.TheVariants as held
 use Rattle.bpaf_doc.specs.declared.splitter.Form as state
 use Rattle.bpaf_doc.specs.Splitter.Chunks.{Form, Plain, Opening, Later}

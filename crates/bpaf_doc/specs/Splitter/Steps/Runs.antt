@@ -1,5 +1,5 @@
--- A run: words of a line and blanks between them, which a text begins with. As a text of its own it has the chunks that
--- it has there.
+-- A run: words of a line and blanks between them, at the start of a text. Cut into chunks as a text of its own, it
+-- gives the same chunks.
 use Rattle.std.specs.Prelude.{◌≡◌, ◌≢◌, ℕ, ◌≤◌, Bool, true, not, ◌||◌, List, [], length, take, drop, count_by}
 use Rattle.std.specs.Int.{is_in_range}
 use Rattle.std.specs.List.{list_all}
@@ -11,7 +11,7 @@ pub record IsRunEnd (text : List ℕ) (end : ℕ) : Type 0 where
   pub line : IsLine (take end text)
   pub word_end : IsWordEnd (drop end text)
 
--- a run that is taken at once: so short that no word of it has the columns that are the weight of a code line
+-- a run that is taken at once: so short that each of its words has fewer columns than the weight of a code line
 pub record IsRun (run : List ℕ) : Type 0 where
   pub some : run ≢ []
   pub line : IsLine run
