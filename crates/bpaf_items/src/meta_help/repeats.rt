@@ -12,8 +12,8 @@ use std::collections::BTreeSet;
 use std::hash::{FoldHasher, Hash, Hasher};
 
 /// What is remembered of the entries of one group or heading: the keys of its items, unless all items have different
-/// hashes; and whether a note would be shown now. Each key is stored with its hash first, so that most keys are told
-/// apart by a number. Keys whose hashes collide are ordered too, so that no key is compared with all others.
+/// hashes; and whether a note would be shown now. Each key is stored with its hash first, so that a number tells most
+/// keys apart. Keys whose hashes collide are ordered too, so that no key is compared with all others.
 #[derive(Drop)]
 pub struct Repeats<'s, B: Allocator, L: Allocator> {
     are_apart: bool,
