@@ -90,7 +90,7 @@ impl Kind {
     }
 }
 
-/// A part's kind, and where the payload up to its end is cut. A mark ends where the part before it does.
+/// A part's kind, and where its text ends in the payload. A mark ends where the part before it does.
 #[derive(Clone, Copy)]
 struct PartEnd {
     kind: Kind,
@@ -289,7 +289,7 @@ impl<A: Allocator> Doc<A> {
         self.write_str(text, Style::Invalid)
     }
 
-    /// Adds the mark. The token is not a text.
+    /// Adds the mark. The token must not be a text.
     pub fn token(&mut self, token: Token) -> Result<(), AllocError>
         requires { IsMark token }
         ensures ok { OnOk result (self.new ≡ self.old ++ mark_parts token) }

@@ -26,7 +26,7 @@ pub fn chunks_are_lines()
     ensures { ChunksAreLines }
 {}
 
-/// Each chunk has a place in the text, in order: a Raw is the slice there, or the blank for the newline there.
+/// Each chunk has a place in the text, in order: a Raw is the slice there, or a blank that stands for a newline there.
 #[tactic(auto, using(crate::proofs::lemmas::Splitter::Facts::chunks_in_order))]
 pub fn chunks_stand_in_order()
     ensures { ChunksStandInOrder }
@@ -63,8 +63,9 @@ pub fn laws_of_exact_page()
     ensures { IsExactPageLayout }
 {}
 
-/// The ink that a console shows in full of a document of UTF-8 texts, as each `Doc` is: the ink of its texts, in order,
-/// with a backquote in place of each mark of a term reference. Without such marks it is exactly the document's ink.
+/// For a document of UTF-8 texts, as each `Doc` is, a console text in full has the ink of the document's texts, in
+/// order, with a backquote in place of each mark of a term reference. Without such marks it is exactly the document's
+/// ink.
 #[tactic(auto, using(crate::proofs::lemmas::Console::InFull::backquoted, crate::proofs::lemmas::Console::InFull::own))]
 pub fn ink_in_full()
     ensures backquoted { FullInkIsBackquotedInk }

@@ -7,13 +7,13 @@ ghost use Rattle.bpaf_items.specs.Listing.ListLaws.{FallsSomewhere, FallsUnderWr
 ghost use Rattle.bpaf_items.specs.Listing.ListLaws.{IsEqualityOfTypes, KeyOnce};
 ghost use Rattle.bpaf_items.specs.Page.NestedTexts.{GroupsAreNested, HelpPagesAreNested, ItemListsAreNested};
 
-/// Two types are equal exactly where they are the same.
+/// Two types compare as equal exactly where they are the same.
 #[tactic(auto, using(crate::proofs::Listing::KeyLaws::equality_of_types))]
 pub fn equality_of_types()
     ensures { IsEqualityOfTypes }
 {}
 
-/// Two keys are equal exactly where they say the same.
+/// Two keys compare as equal exactly where they say the same.
 #[tactic(auto, using(crate::proofs::Listing::KeyLaws::equality_of_keys))]
 pub fn equality_of_keys()
     ensures { IsEqualityOfKeys }
@@ -43,7 +43,7 @@ pub fn headings_agree()
     ensures { HeadingsAgree }
 {}
 
-/// An inserted text is the one for its name, and no other changes.
+/// After an insertion the name has the inserted text, and all other names have the texts that they had.
 #[tactic(auto, using(crate::proofs::Page::EnvLaws::texts_are_inserted))]
 pub fn texts_are_inserted()
     ensures { TextsAreInserted }
@@ -61,8 +61,8 @@ pub fn groups_are_nested()
     ensures groups { GroupsAreNested }
 {}
 
-/// The groups of an item list can be taken out one after another. The list without its first group has the other
-/// groups, in order, and the same entries outside groups, until `find_group` is `None`.
+/// The groups of an item list can be taken out one after another until `find_group` is `None`. The list without its
+/// first group has the other groups, in order, and the same entries outside groups.
 pub fn groups_are_taken_out()
     ensures { GroupsAreTakenOut }
 {}

@@ -169,7 +169,7 @@ fn clone_parts<A: Allocator + Copy>(parts: &Vec<Meta<A>, A>) -> Result<Vec<Meta<
 }
 
 impl<A: Allocator + Copy> Meta<A> {
-    /// The normal form of the tree, for a usage line or for elsewhere. It is a new tree; this one does not change.
+    /// The normal form of the tree, for a usage line or for other places. It is a new tree; this one does not change.
     ///
     /// It has no `Adjacent`, `Subsection` or `Suffix`, and one name for each item. What no usage line shows is left
     /// out: `Skip` as the result says that nothing is shown. An `AllocError` says that an allocation failed.

@@ -89,7 +89,7 @@ pub fn roff_sums_join()
         → (script_sum left right).strip_newlines ≡ right.strip_newlines }
 {}
 
-/// The rendering of pieces continues where more pieces follow: these are escaped as after the bytes before them.
+/// More pieces continue the rendering of those before them: they are escaped as after the bytes of those.
 #[tactic(auto, using(crate::proofs::lemmas::EscapedText::renderings_go_on))]
 pub fn renderings_go_on()
     ensures { (apostrophes : Apostrophes) (pieces more : List (Piece Escape))

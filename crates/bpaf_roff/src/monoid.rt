@@ -192,8 +192,8 @@ impl<T: PartialEq + Drop, A: Allocator> FreeMonoid<T, A> {
         Ok(self)
     }
 
-    /// Appends each text, in order. An error comes where an allocation failed; then nothing changed, even if it came
-    /// after the first texts.
+    /// Appends each text, in order. An error comes where an allocation failed; then nothing changed, even if some texts
+    /// had been appended.
     pub fn extend<'a, I: Iterator<Item = (T, &'a str)> + Drop>(
         &mut self,
         items: I,

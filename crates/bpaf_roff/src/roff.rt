@@ -181,7 +181,7 @@ impl<A: Allocator> Roff<A> {
         self.put(Escape::UnescapedAtNewline, "")
     }
 
-    /// Adds a text as it is. An error comes where an allocation failed; then nothing changed.
+    /// Adds a text without escaping it. An error comes where an allocation failed; then nothing changed.
     pub fn append_escape(&mut self, text: &str) -> Result<(), AllocError>
         ensures ok { OnOk result (self.new ≡ with_pieces self.old (escape_pieces text.now)) }
         ensures err { OnErr result (self.new ≡ self.old) }
@@ -189,7 +189,7 @@ impl<A: Allocator> Roff<A> {
         self.put(Escape::Unescaped, text)
     }
 
-    /// Adds a text that is shown as it is, with blanks for its newlines if these are to be stripped. An error comes
+    /// Adds a text that a reader sees as it is, with blanks for its newlines if `strip_newlines` is set. An error comes
     /// where an allocation failed; then nothing changed.
     pub fn append_plaintext(&mut self, text: &str) -> Result<(), AllocError>
         ensures ok { OnOk result (self.new
@@ -337,8 +337,8 @@ impl<A: Allocator> Roff<A> {
         Ok(self)
     }
 
-    /// Puts several after this one, in order. An error comes where an allocation failed; then nothing changed, even if
-    /// it came after the first of them.
+    /// Appends several, in order. An error comes where an allocation failed; then nothing changed, even if some had been
+    /// appended.
     pub fn extend<'a, B: Allocator + 'a, I: Iterator<Item = &'a Roff<B>> + Drop>(
         &mut self,
         items: I,

@@ -1,4 +1,4 @@
-//! Where the reader of a text that is sent to a terminal is.
+//! Where in a text for a terminal its reader is.
 
 ghost use Rattle.std.specs.Prelude.{◌≡◌};
 ghost use Rattle.shown_letters.specs.declared.place.Place.TheVariants as at;
