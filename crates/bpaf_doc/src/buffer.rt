@@ -555,7 +555,7 @@ impl<A: Allocator> Doc<A> {
         }
     }
 
-    // The parts without the first ones, of which there are that many.
+    // The parts without the first `count`.
     fn parts_after(&self, count: usize) -> Parts<'_>
         requires { count ≤ length self.now }
         ensures { result ≡ drop count self.now }

@@ -337,8 +337,8 @@ impl<A: Allocator> Roff<A> {
         Ok(self)
     }
 
-    /// Appends several, in order. An error comes where an allocation failed; then nothing changed, even if some had been
-    /// appended.
+    /// Appends several, in order. An error comes where an allocation failed; then nothing changed, even if some had
+    /// been appended.
     pub fn extend<'a, B: Allocator + 'a, I: Iterator<Item = &'a Roff<B>> + Drop>(
         &mut self,
         items: I,

@@ -79,7 +79,7 @@ impl Lead {
     }
 }
 
-// The first byte, or a quotation mark where there is none.
+// The first byte, or a quotation mark if there are no bytes.
 fn first_or_quote(bytes: &[u8]) -> u8
     ensures { result ≡ slice_index_or bytes.now 0 34 }
 {

@@ -182,7 +182,7 @@ EndsInBlankLine text = AllPass (λ c. c == byte.blank) (after_last (λ c. c == b
 
 -- the answer to a document, in full or in brief
 pub record IsMarkdownOf (document : List Part) (full : Bool) (answer : List ℕ) : Type 0 where
-  -- the answer is cut into marks and the fragments of the document in order, of which the Raw chunks are written
+  -- the answer is cut into marks and the fragments of the document in order; of the fragments, Raw chunks are written
   pub cut : List MarkdownSnippet
   pub spelling : answer ≡ flat_map_places snippet_text cut
   pub fragments : fragments_in cut ≡ shown_fragments full document

@@ -51,7 +51,7 @@ module _ {X : Type 0} where
   take_kept : (xs ys : List X) (p : X) → take (length xs) ((xs ++ p ∷ []) ++ ys) ≡ xs
   take_kept xs ys p = ap (take (length xs)) (append_assoc xs (p ∷ []) ys) ∙ take-append_seam xs (p ∷ ys)
 
-  -- the entry that was put last takes the place
+  -- the entry that was appended takes the place
   pub moved_last : (xs one two : List X) (at : ℕ) (q d : X) → at < length xs → one ≡ xs ++ q ∷ [] → two ≡ swap_remove one at d → two ≡ slice_set xs at q
   moved_last xs one two at q d h e moved =
       grind (arith, length-append xs (q ∷ []), get_or-append_seam xs q, set-append_left xs (q ∷ []) at q h, length-set, take-append_seam)

@@ -114,7 +114,7 @@ module _ {T : Type 0} (eq : T → T → Bool) (squash : Bool) (t : T) where
   with_label-push (k ∷ m ∷ ls) l e = ap (λ xs. k ∷ xs) (with_label-push (m ∷ ls) l e)
   with_label-push x l e = grind arith
 
-  -- the last label was taken off, and what follows it is put on
+  -- the last label was removed, and what follows it is appended
   pub with_label-popped : (ls others : List (Label T)) (o : Option (Label T)) (l : Label T) (e : ℕ) → ls ≡ others ++ option_to_list o → o ≡ Some l → with_label eq squash ls t e ≡ others ++ followed_by eq squash l t e
   with_label-popped ls others o l e was is = rw (was, is) (with_label-push others l e)
 

@@ -57,7 +57,7 @@ pub AllByRecursion-push : {X : Type 0} (P : X → Type 0) (xs : List X) (x : X) 
 AllByRecursion-push P [] x all here = (here, tt)
 AllByRecursion-push P (y ∷ xs) x all here = (all.0, AllByRecursion-push P xs x all.1 here)
 
--- A piece after a text of which it is known whether it ends a line.
+-- A piece after a text, where it is known whether the text ends a line.
 module _ (q : Apostrophes) (old new : List ℕ) (p : Piece Escape) (x : Bool) (e : x ≡ is_line_start old) (is : new ≡ old ++ text_after q (written x) (signs_of p)) where
   pub piece_on : new ≡ old ++ text_after q old (signs_of p)
   piece_on = is ∙ ap (λ t. old ++ t) (sym (text_after-written q (signs_of p) old x e))
