@@ -233,7 +233,7 @@ pub record FollowsBlank (before : List Stretch) (f : Place) : Type 0 where
   pub one_blank : events_of between ≡ Shows f.part (Raw (codes " ") 1) ∷ []
 
 -- An inked chunk's column is at least its margin. It is the margin for the first inked chunk of a line if since the
--- last ink there was no blank chunk and no TermRef mark, or only the one blank of a text.
+-- last ink there was no blank chunk and no TermRef mark, or only one blank of the same text.
 pub record KeepsMargin (document : List Part) (stretches : List Stretch) : Type 0 where
   pub at_least : (before after : List Stretch) (f : Place) → stretches ≡ before ++ Placed f ∷ after
       → IsInked (chunk_at f)
