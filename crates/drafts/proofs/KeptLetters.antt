@@ -11,8 +11,9 @@ use Rattle.std.proofs.lemmas.Str.Ascii.{IsAscii-cons}
 use Rattle.std.proofs.lemmas.Str.{IsUtf8-drop, IsUtf8-take, chars-append, chars-IsAscii}
 use Rattle.help_fronts.specs.Bytes.{is_blank}
 use Rattle.toml_pieces.specs.Toml.{Piece}
-use Rattle.drafts.specs.Texts.{code_piece, indent_len, is_code, prose_below, prose_pieces, shared_indent, width_of}
-use Rattle.drafts.specs.Laws.{TextsAreWhole, letters, piece_letters}
+use Rattle.drafts.specs.Passages.{PassageSaid}
+use Rattle.drafts.specs.Texts.{passage_pieces, code_piece, indent_len, is_code, prose_below, prose_pieces, shared_indent, width_of}
+use Rattle.drafts.specs.Laws.{letters, piece_letters}
 use Rattle.drafts.proofs.Boundaries.{blank_small, within_blanks}
 use Rattle.drafts.proofs.Trims.{end_trimmed, left_out, trimmed}
 
@@ -64,7 +65,7 @@ code_whole indent line utf8 =
     let cut : IsCharBoundary line n = within_blanks line indent (indent_len line) refl utf8 in
     (end_trimmed (drop n line) (IsUtf8-drop line n utf8 cut)).whole ∙ front_whole n line (omega arith) utf8 cut
 
-pub texts_are_whole : TextsAreWhole
+pub texts_are_whole : (p : PassageSaid) → All IsUtf8 p.lines → flat_map piece_letters (passage_pieces p) ≡ flat_map letters p.lines
 texts_are_whole p utf8 = by (is_code p.kind) where
   by : (t : Bool) → flat_map piece_letters (cond t (map (code_piece (shared_indent p.lines)) p.lines) (prose_pieces p.lines)) ≡ flat_map letters p.lines
   by true = each_line (code_piece (shared_indent p.lines)) (code_whole (shared_indent p.lines)) p.lines utf8

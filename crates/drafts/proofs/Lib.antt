@@ -8,13 +8,17 @@ mod Fronts
 mod KeptHelps
 mod KeptLetters
 mod Letters
+mod Lines
 mod Listed
 mod Lists
 mod Noted
 mod Placing
 mod Puts
 mod Roles
+mod Sections
 mod Standing
+mod Titles
 mod Trims
 mod Whole
 mod Words
+mod Written

@@ -8,7 +8,7 @@ use Rattle.drafts.specs.Free.{Has, free_fronts, free_keys, free_name, free_names
 use Rattle.drafts.specs.Passages.{PassageSaid}
 use Rattle.drafts.specs.Places.{MarkedSaid, TakenSaid, above_with, marked, marked_from, nothing_above, nothing_taken, placed_from, taken_after}
 use Rattle.drafts.specs.declared.places.Above.{Above}
-use Rattle.drafts.specs.Laws.{EachIsPlaced, NamesAreFree}
+use Rattle.drafts.specs.Laws.{NamesAreFree}
 
 placed_passages : (a : Above) (ms : List MarkedSaid) → map (λ p. p.passage) (placed_from a ms) ≡ map (λ m. m.passage) ms
 placed_passages a [] = refl
@@ -18,7 +18,7 @@ pub marked_passages : (t : TakenSaid) (ps : List PassageSaid) → map (λ m. m.p
 marked_passages t [] = refl
 marked_passages t (p ∷ ps) = ap (λ qs. p ∷ qs) (marked_passages (taken_after t p) ps)
 
-pub each_is_placed : EachIsPlaced
+pub each_is_placed : (ps : List PassageSaid) → map (λ p. p.passage) (placed_from nothing_above (marked ps)) ≡ ps
 each_is_placed ps = placed_passages nothing_above (marked ps) ∙ marked_passages nothing_taken ps
 
 or_none : (a b c : Bool) → (a || b) ≡ false → (b ≡ false → c ≡ false) → (a || c) ≡ false

@@ -9,12 +9,17 @@ use Rattle.help_blocks.specs.Blocks.{FollowOn, lines_of, starts}
 use Rattle.help_blocks.specs.Laws.{EachLineIsInABlock}
 use Rattle.drafts.specs.Passages.{PassageSaid, inked, is_blank, lines_between, passages}
 use Rattle.drafts.specs.Places.{placed}
-use Rattle.drafts.specs.Laws.{EachLineIsPlaced, FollowIn, PassagesFollow, is_inked}
+use Rattle.drafts.specs.Laws.{is_inked}
 use Rattle.drafts.proofs.Blocks.{cut, cut_all}
 use Rattle.drafts.proofs.Lists.{end_passes}
 use Rattle.drafts.proofs.Placing.{each_is_placed}
 
 -- ---- passages follow one another, as blocks do
+
+-- passages one after another, with blank lines alone after each
+abbrev pub FollowIn : (lines : List (List ℕ)) → List PassageSaid → Type 0
+FollowIn lines [] = lines ≡ []
+FollowIn lines (p ∷ ps) = (blank : List (List ℕ)) × (rest : List (List ℕ)) × (lines ≡ p.lines ++ (blank ++ rest)) × AllPass is_blank blank × FollowIn rest ps
 
 -- the lines of a block, those that are dropped behind them, and the rest
 block_then : (lines : List (List ℕ)) (first end : ℕ) → first < end → (let own = lines_between first end lines in let n = length own - suffix_len is_blank own in drop first lines ≡ inked own ++ (drop n own ++ drop end lines))
@@ -31,10 +36,10 @@ follow_in lines first (b ∷ bs) h =
     let own = lines_between b.first b.end lines in
     (drop (length own - suffix_len is_blank own) own, drop b.end lines, sym (ap (λ n. drop n lines) h.0) ∙ block_then lines b.first b.end h.1, end_passes is_blank own, follow_in lines b.end bs h.2)
 
-pub passages_follow : EachLineIsInABlock → PassagesFollow
+pub passages_follow : EachLineIsInABlock → (lines : List (List ℕ)) → FollowIn lines (passages lines)
 passages_follow in_blocks lines =
     let there = in_blocks lines in
-    subst (FollowIn lines) (cut_all lines there.0 (starts (lines_of lines)) there.1 there.2) (follow_in lines 0 there.0 there.2)
+    subst (FollowIn lines) (cut_all lines there.0 (starts (lines_of lines)) there.1.begun there.1.follow) (follow_in lines 0 there.0 there.1.follow)
 
 -- ---- lines that are not blank
 
@@ -52,7 +57,7 @@ all_inked lines (p ∷ ps) h =
     two_parts p.lines (flat_map (λ p. p.lines) ps) ∙ ap (λ t. filter is_inked p.lines ++ t) (all_inked h.1 ps h.4)
     ∙ sym (ap (filter is_inked) h.2 ∙ two_parts p.lines (h.0 ++ h.1) ∙ ap (λ t. filter is_inked p.lines ++ t) (two_parts h.0 h.1 ∙ ap (λ t. t ++ filter is_inked h.1) (none_inked h.0 h.3)))
 
-pub each_line_is_placed : EachLineIsInABlock → EachLineIsPlaced
+pub each_line_is_placed : EachLineIsInABlock → (lines : List (List ℕ)) → filter is_inked (flat_map (λ p. p.passage.lines) (placed (passages lines))) ≡ filter is_inked lines
 each_line_is_placed in_blocks lines =
     let lines_of_all : List PassageSaid → List (List ℕ) = flat_map (λ p. p.lines) in
     ap (filter is_inked) (sym (flat_map-map (λ (p : PassageSaid). p.lines) (λ p. p.passage) (placed (passages lines))) ∙ ap lines_of_all (each_is_placed (passages lines)))

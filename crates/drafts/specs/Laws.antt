@@ -2,57 +2,25 @@
 use Rattle.std.specs.Prelude.{ℕ, ◌≡◌, ◌==◌, Bool, true, false, not, List, [], ◌∷◌, ◌++◌, filter, flat_map, if◌then◌else◌, map}
 use Rattle.std.specs.Prelude.{◌⊎◌, All, IfSome, IsUtf8, None, Some, chars, codes, drop, length, option_to_list, reverse}
 use Rattle.std.specs.Char.{is_not_whitespace}
-use Rattle.std.specs.List.{AllPass, list_all, list_any}
-use Rattle.page_model.specs.Permitted.{are_permitted}
+use Rattle.std.specs.List.{list_any}
 use Rattle.help_fronts.specs.Fronts.{FrontSaid}
 use Rattle.help_fronts.specs.Laws.{IsFrontOf, IsTextOf}
 use Rattle.toml_pieces.specs.Toml.{Piece}
-use Rattle.drafts.specs.Passages.{PassageSaid, is_blank, passages}
+use Rattle.drafts.specs.Passages.{PassageSaid, is_blank}
 use Rattle.drafts.specs.Options.{are_plain, long_word, short_letter}
 use Rattle.drafts.specs.Free.{Has, free_in, free_keys}
 use Rattle.drafts.specs.Entries.{ValueSaid, value_front, value_name}
-use Rattle.drafts.specs.Texts.{first_word, passage_pieces}
+use Rattle.drafts.specs.Texts.{first_word}
 use Rattle.drafts.specs.Notes.{CutSaid, HelpSaid, IsFront, NoteSaid, NotesSaid, cut, help_said, joined}
 use Rattle.drafts.specs.Notes.{last_note, listed, no_notes, note_in, pieces_in, with_note}
-use Rattle.drafts.specs.Places.{PlacedSaid, is_empty, is_title, placed}
+use Rattle.drafts.specs.Places.{PlacedSaid, is_title, placed}
 use Rattle.drafts.specs.Usages.{FormSaid, first_form, further_form, last_part}
 use Rattle.drafts.specs.declared.notes.Subject.{Subject}
 use Rattle.drafts.specs.declared.places.Role.{Role}
 use Rattle.drafts.specs.declared.places.Role.TheVariants as role
 
--- each passage is placed, once and in order
-abbrev pub EachIsPlaced : Type 0
-EachIsPlaced = (ps : List PassageSaid) → map (λ p. p.passage) (placed ps) ≡ ps
-
--- passages one after another, with blank lines alone behind each
-abbrev pub FollowIn : (lines : List (List ℕ)) → List PassageSaid → Type 0
-FollowIn lines [] = lines ≡ []
-FollowIn lines (p ∷ ps) =
-    (blank : List (List ℕ)) × (rest : List (List ℕ)) × (lines ≡ p.lines ++ (blank ++ rest)) × AllPass is_blank blank
-    × FollowIn rest ps
-
--- no line of a help text is lost but blank ones, and none is in two passages
-abbrev pub PassagesFollow : Type 0
-PassagesFollow = (lines : List (List ℕ)) → FollowIn lines (passages lines)
-
 abbrev pub is_inked : (line : List ℕ) → Bool
 is_inked line = not (is_blank line)
-
--- the lines of all passages that are placed
-abbrev pub placed_lines : (lines : List (List ℕ)) → List (List ℕ)
-placed_lines lines = flat_map (λ p. p.passage.lines) (placed (passages lines))
-
--- those that are not blank are the lines of the text that are not, in order
-abbrev pub EachLineIsPlaced : Type 0
-EachLineIsPlaced = (lines : List (List ℕ)) → filter is_inked (placed_lines lines) ≡ filter is_inked lines
-
--- only a passage without lines has no place in the draft
-abbrev pub EachHasAPlace : Type 0
-EachHasAPlace = (ps : List PassageSaid) → All (λ p. p.role ≡ role.Nothing → p.passage.lines ≡ []) (placed ps)
-
--- a title has a line, and one that a text may hold
-abbrev pub IsTitled : PassageSaid → Type 0
-IsTitled p = is_title p.kind ≡ true → (is_empty p.lines ≡ false) × (list_all are_permitted p.lines ≡ true)
 
 -- the role of the nearest title
 abbrev pub title_after : (title : Role) → PlacedSaid → Role
@@ -66,7 +34,7 @@ StandBelow title (p ∷ ps) =
 
 -- the nearest title above a text of a topic is that of the topic, and above a member of a group that of the group
 abbrev pub EachIsBelowItsTitle : Type 0
-EachIsBelowItsTitle = (ps : List PassageSaid) → All IsTitled ps → StandBelow role.Nothing (placed ps)
+EachIsBelowItsTitle = (ps : List PassageSaid) → StandBelow role.Nothing (placed ps)
 
 -- no option of a line has a name that is taken
 abbrev pub NamesAreFree : Type 0
@@ -119,12 +87,7 @@ letters text = filter is_not_whitespace (chars text)
 abbrev pub piece_letters : Piece → List ℕ
 piece_letters p = letters p.text
 
--- the pieces of a passage's text have all letters of its lines, in order
-abbrev pub TextsAreWhole : Type 0
-TextsAreWhole = (p : PassageSaid) → All IsUtf8 p.lines
-    → flat_map piece_letters (passage_pieces p) ≡ flat_map letters p.lines
-
--- and those of a help, where no note is taken, all letters of its lines
+-- the pieces of a help, where no note is taken, have all letters of its lines, in order
 abbrev pub HelpsAreWhole : Type 0
 HelpsAreWhole = (lines : List (List ℕ)) → All IsUtf8 lines
     → flat_map piece_letters (pieces_in (joined (codes "\n") lines)) ≡ flat_map letters lines

@@ -11,3 +11,4 @@ pub mod Strays
 pub mod Drafts
 pub mod View
 pub mod Laws
+pub mod Sections

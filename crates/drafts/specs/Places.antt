@@ -201,10 +201,17 @@ role_in own m a =
     else if list_all are_permitted m.passage.lines then kind_role m.passage.kind own m a
     else role.LeftOut
 
+-- a text may hold its lines, and there are some
+abbrev pub is_kept : PassageSaid → Bool
+is_kept p = not (is_empty p.lines) && list_all are_permitted p.lines
+
+abbrev pub title_part : PassageSaid → (below : List MarkedSaid) → Part
+title_part p below = if is_kept p then part_below (title_text (first_line p.lines)) below else part.Loose
+
 -- the part that a passage is in or begins
 abbrev pub own_part : MarkedSaid → (below : List MarkedSaid) → Above → Part
 own_part m below a =
-    if is_title m.passage.kind then part_below (title_text (first_line m.passage.lines)) below
+    if is_title m.passage.kind then title_part m.passage below
     else if ends_topic m.passage a then part.Loose
     else a.part
 

@@ -1,39 +1,10 @@
 //! Laws of drafts: nothing to call, but statements that the check proves.
 
-ghost use Rattle.drafts.specs.Laws.{EachHasAPlace, EachIsBelowItsTitle, EachIsPlaced, EachLineIsPlaced};
-ghost use Rattle.drafts.specs.Laws.{NamesAreFree, NoNameIsLost, OptionsStandInTheirLine, PassagesFollow};
-ghost use Rattle.drafts.specs.Laws.{FormsStandInTheirLine, HelpsAreWhole, HelpsStandInTheirLines};
-ghost use Rattle.drafts.specs.Laws.{NotesStandAtTheEnd, TextsAreWhole, ValuesStandInTheirLine, ValuesStandInTheirNote};
+ghost use Rattle.drafts.specs.Laws.{EachIsBelowItsTitle, FormsStandInTheirLine, HelpsAreWhole, HelpsStandInTheirLines};
+ghost use Rattle.drafts.specs.Laws.{NamesAreFree, NoNameIsLost, NotesStandAtTheEnd, OptionsStandInTheirLine};
+ghost use Rattle.drafts.specs.Laws.{ValuesStandInTheirLine, ValuesStandInTheirNote};
 
-use help_blocks::laws::each_line_is_in_a_block;
-
-/// The lines of a help text are those of its passages, one after another, with blank lines alone behind each.
-pub fn passages_follow()
-    ensures { PassagesFollow }
-{
-    each_line_is_in_a_block();
-}
-
-/// Each passage of a help text is placed, once and in order.
-#[tactic(auto, using(crate::proofs::Placing::each_is_placed))]
-pub fn each_is_placed()
-    ensures { EachIsPlaced }
-{}
-
-/// So each line that is not blank is in exactly one passage that is placed, and they stay in order.
-pub fn each_line_is_placed()
-    ensures { EachLineIsPlaced }
-{
-    each_line_is_in_a_block();
-}
-
-/// Only a passage without lines has no place in the draft.
-pub fn each_has_a_place()
-    ensures { EachHasAPlace }
-{}
-
-/// The nearest title above a text of a topic is that of the topic, and above a member of a group that of the group, where
-/// each title has a line that a text may hold.
+/// The nearest title above a text of a topic is that of the topic, and above a member of a group that of the group.
 pub fn each_is_below_its_title()
     ensures { EachIsBelowItsTitle }
 {}
@@ -62,12 +33,6 @@ pub fn values_stand_in_their_line()
 /// What is read of a line of a usage stands in it, also the name of the program.
 pub fn forms_stand_in_their_line()
     ensures { FormsStandInTheirLine }
-{}
-
-/// The text of a passage is written with all letters of its lines, in order.
-#[tactic(auto, using(crate::proofs::KeptLetters::texts_are_whole))]
-pub fn texts_are_whole()
-    ensures { TextsAreWhole }
 {}
 
 /// The help of an entry, where no note is taken, is written with all letters of its lines, in order.

@@ -3,7 +3,10 @@
 
 ghost use Rattle.std.specs.Prelude.{◌≡◌, IfErr, IfOk, None, Some, string_bytes, true};
 ghost use Rattle.toml_pieces.specs.View.{text_of};
+ghost use Rattle.shown_letters.specs.Terminal.{shown_letters};
 ghost use Rattle.drafts.specs.Drafts.{draft_text};
+ghost use Rattle.drafts.specs.Passages.{lines_in};
+ghost use Rattle.drafts.specs.Sections.{IsDraftOf};
 ghost use Rattle.drafts.specs.declared.DraftError.TheVariants.{Memory};
 ghost use Rattle.drafts.specs.View.{is_nameless};
 
@@ -57,6 +60,7 @@ pub fn draft<A: Allocator + Copy>(
     printed: &str,
 ) -> Result<String<A>, DraftError>
     ensures exact { IfOk result (λ text. draft_text (text_of name.entry) printed.now ≡ Some (string_bytes text)) }
+    ensures whole { IfOk result (λ text. IsDraftOf (lines_in (shown_letters printed.now)) (string_bytes text)) }
     ensures nameless { IfErr result (λ fault. is_nameless fault ≡ true
         → draft_text (text_of name.entry) printed.now ≡ None) }
 {

@@ -288,7 +288,7 @@ impl Above {
         ensures { result ≡ spec.own_part (marked_said marked.entry) (map marked_said below.now) self }
     {
         if is_title(marked.passage.kind) {
-            part_below(title_text(marked.passage.first_line()), below)
+            title_part(marked.passage, below)
         } else if self.ends_topic(marked.passage) {
             Part::Loose
         } else {
@@ -317,6 +317,16 @@ impl Above {
             has_entry: self.has_entry || is_entry(kind),
             is_indented: !is_title(kind) && (self.is_indented || is_indented_body(marked)),
         }
+    }
+}
+
+fn title_part(passage: Passage<'_>, below: &[Marked<'_>]) -> Part
+    ensures { result ≡ spec.title_part (passage_said passage.entry) (map marked_said below.now) }
+{
+    if !passage.lines.is_empty() && passage.is_permitted() {
+        part_below(title_text(passage.first_line()), below)
+    } else {
+        Part::Loose
     }
 }
 

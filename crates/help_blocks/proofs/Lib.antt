@@ -1,3 +1,4 @@
 pub mod Read
 pub mod Deeper
 pub mod Whole
+mod Titles
