@@ -9,6 +9,7 @@ use Rattle.std.proofs.lemmas.Str.{IsCharBoundary-after_ascii}
 use Rattle.drafts.specs.Strays.{StraySaid, are_known, are_rising, has_letters, is_cluster, letter}
 use Rattle.drafts.specs.Free.{Has}
 use Rattle.help_fronts.specs.Bytes.{is_dash}
+use Rattle.help_fronts.specs.Usages.{bare}
 
 letter_small : (b : ℕ) → is_ascii_alphanumeric b ≡ true → b < 128
 letter_small b h = grind (arith, nat_tests)
@@ -22,7 +23,7 @@ letters_rest [] back h size is = absurd (omega arith)
 letters_rest (b ∷ bs) back h size is = ap (list_all is_ascii_alphanumeric) is ∙ (and_parts (is_ascii_alphanumeric b) (list_all is_ascii_alphanumeric bs) h).1
 
 abbrev one : List ℕ → StraySaid
-one text = record { is_letter = true; text = text }
+one text = record { is_letter = true; option = bare text }
 
 pub letters_more : (rest front back : List ℕ) (strays more whole : List StraySaid) → 0 < length rest → front ≡ take 1 rest → back ≡ drop 1 rest → more ≡ strays ++ one front ∷ [] → strays ++ map letter rest ≡ whole → more ++ map letter back ≡ whole
 letters_more [] front back strays more whole size f b put so_far = absurd (omega arith)

@@ -10,7 +10,7 @@ use Rattle.drafts.specs.Texts.{empty_piece, passage_pieces}
 use Rattle.drafts.specs.Free.{Has, none_taken}
 use Rattle.drafts.specs.Entries.{after_entry, entry_table}
 use Rattle.drafts.specs.Places.{PlacedSaid, is_title, placed}
-use Rattle.drafts.specs.Strays.{names_in, strays}
+use Rattle.drafts.specs.Strays.{options_in, strays}
 use Rattle.drafts.specs.Usages.{forms, program_name, usage_pieces}
 use Rattle.drafts.specs.declared.places.Role.{Role}
 use Rattle.drafts.specs.declared.places.Role.TheVariants as role
@@ -86,7 +86,7 @@ texts ps =
 
 -- the options that stand in the usage alone
 abbrev pub last_tables : Has → List PlacedSaid → List ℕ
-last_tables has ps = strays has (names_in has (forms ps))
+last_tables has ps = strays has (options_in has (forms ps))
 
 abbrev pub draft_of : List PlacedSaid → (name : List ℕ) → List ℕ
 draft_of ps name =

@@ -1,11 +1,12 @@
 -- Options that stand only in a usage.
-use Rattle.std.specs.Prelude.{ℕ, ◌==◌, ◌||◌, ◌&&◌, Bool, true, false, not, List, [], ◌∷◌, ◌++◌, codes, drop, flat_map, if◌then◌else◌, length, map, nat_le, nat_lt, None}
+use Rattle.std.specs.Prelude.{ℕ, ◌==◌, ◌||◌, ◌&&◌, Bool, true, false, not, List, [], ◌∷◌, ◌++◌, codes, drop, flat_map, if◌then◌else◌, length, map, nat_le, nat_lt, Option, None, Some}
 use Rattle.std.specs.Char.{is_ascii_alphanumeric, to_ascii_lowercase}
 use Rattle.std.specs.List.{list_all, slice_index, slice_index_or}
 use Rattle.help_fronts.specs.Bytes.{is_dash}
 use Rattle.toml_pieces.specs.Toml.{table, word_at}
 use Rattle.help_fronts.specs.Fronts.{FrontSaid}
-use Rattle.help_fronts.specs.Usages.{usage_names}
+use Rattle.help_fronts.specs.Usages.{UsedSaid, bare, usage_options}
+use Rattle.help_fronts.specs.Words.{is_optional, value_word}
 use Rattle.drafts.specs.Options.{is_good, key}
 use Rattle.drafts.specs.Entries.{option_head}
 use Rattle.drafts.specs.Free.{Has, with_key}
@@ -33,39 +34,62 @@ are_known has letters = list_all (λ b. has (b ∷ [])) letters
 abbrev pub is_cluster : Has → (name : List ℕ) → Bool
 is_cluster has n = has_letters n && (are_rising (drop 1 n) || are_known has (drop 1 n))
 
--- a name, or the letter of a short one
+-- an option, or the letter of a short one in the place of its name
 pub record StraySaid : Type 0 where
   pub is_letter : Bool
-  pub text : List ℕ
+  pub option : UsedSaid
 
 abbrev pub letter : ℕ → StraySaid
-letter b = record { is_letter = true; text = b ∷ [] }
+letter b = record { is_letter = true; option = bare (b ∷ []) }
 
-abbrev pub whole : (name : List ℕ) → StraySaid
-whole n = record { is_letter = false; text = n }
+abbrev pub whole : UsedSaid → StraySaid
+whole o = record { is_letter = false; option = o }
 
--- letters are one each, unless an entry is written that has the name
-abbrev pub names_of : Has → (name : List ℕ) → List StraySaid
-names_of has n = if is_cluster has n && not (has (key n)) then map letter (drop 1 n) else whole n ∷ []
+-- no value is joined to letters
+abbrev pub stand_together : Has → UsedSaid → Bool
+stand_together has o = o.joint == 32 && (is_cluster has o.name && not (has (key o.name)))
+
+-- letters are one each, without a value, unless an entry is written that has the name
+abbrev pub options_of : Has → UsedSaid → List StraySaid
+options_of has o = if stand_together has o then map letter (drop 1 o.name) else whole o ∷ []
 
 -- ---- options
 
--- the front of an option that has a name alone
-abbrev pub lone_front : (name : List ℕ) → FrontSaid
-lone_front n = record { names = n ∷ []; values = []; joint = 32; value = None; is_optional = false; written = []; gap = []; help = [] }
+abbrev pub values_of : (value : List ℕ) → List (List ℕ)
+values_of v = if length v == 0 then [] else v ∷ []
+
+abbrev pub word_of : (value : List ℕ) → Option (List ℕ)
+word_of v = if length v == 0 then None else Some (value_word v)
+
+-- the front of a name and its value
+abbrev pub front_of : UsedSaid → FrontSaid
+front_of o = record {
+  names = o.name ∷ [];
+  values = values_of o.value;
+  joint = o.joint;
+  value = word_of o.value;
+  is_optional = is_optional o.value;
+  written = [];
+  gap = [];
+  help = [];
+}
+
+-- without the value, if a description does not take it
+abbrev pub good_front : UsedSaid → FrontSaid
+good_front o = if is_good (front_of o) then front_of o else front_of (bare o.name)
 
 abbrev pub stray_key : StraySaid → List ℕ
-stray_key s = if s.is_letter then s.text else key s.text
+stray_key s = if s.is_letter then s.option.name else key s.option.name
 
 -- a description takes the option, and no other has its name
 abbrev pub is_stray : Has → StraySaid → Bool
-is_stray has s = (s.is_letter || is_good (lone_front s.text)) && not (has (stray_key s))
+is_stray has s = (s.is_letter || is_good (good_front s.option)) && not (has (stray_key s))
 
 abbrev pub letter_table : (letter : List ℕ) → List ℕ
 letter_table text = table (codes "option") ++ word_at (codes "short") text
 
 abbrev pub stray : StraySaid → List ℕ
-stray s = if s.is_letter then letter_table s.text else option_head false (lone_front s.text)
+stray s = if s.is_letter then letter_table s.option.name else option_head false (good_front s.option)
 
 abbrev pub stray_if : Bool → StraySaid → List ℕ
 stray_if false s = []
@@ -79,9 +103,9 @@ abbrev pub strays : Has → List StraySaid → List ℕ
 strays has [] = []
 strays has (s ∷ ss) = stray_if (is_stray has s) s ++ strays (with_stray (is_stray has s) (stray_key s) has) ss
 
-abbrev pub form_names : Has → FormSaid → List StraySaid
-form_names has f = flat_map (names_of has) (usage_names f.text)
+abbrev pub form_options : Has → FormSaid → List StraySaid
+form_options has f = flat_map (options_of has) (usage_options f.text)
 
--- the names in the forms of the usage
-abbrev pub names_in : Has → List FormSaid → List StraySaid
-names_in has fs = flat_map (form_names has) fs
+-- the options in the forms of the usage
+abbrev pub options_in : Has → List FormSaid → List StraySaid
+options_in has fs = flat_map (form_options has) fs

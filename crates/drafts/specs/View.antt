@@ -10,7 +10,7 @@ use Rattle.drafts.specs.declared.entries.ValueFront.{ValueFront}
 use Rattle.drafts.specs.declared.entries.Keys.{Keys}
 use Rattle.drafts.specs.declared.free.Words.{Words}
 use Rattle.drafts.specs.declared.free.FreeFront.{FreeFront}
-use Rattle.help_fronts.specs.View.{said}
+use Rattle.help_fronts.specs.View.{said, used_said}
 use Rattle.toml_pieces.specs.View.{text_of}
 use Rattle.drafts.specs.Free.{FreeSaid, Has}
 use Rattle.drafts.specs.declared.taken.Taken.{Taken}
@@ -64,7 +64,7 @@ is_nameless fault.NoName = true
 is_nameless (fault.Memory error) = false
 
 abbrev pub stray_said : Stray → StraySaid
-stray_said s = record { is_letter = s.is_letter; text = s.text.now }
+stray_said s = record { is_letter = s.is_letter; option = used_said s.option }
 
 abbrev pub split_said : Option (Bor (List ℕ) × Bor (List ℕ)) → Option (List ℕ × List ℕ)
 split_said found = option_map (λ p. (p.0.now, p.1.now)) found

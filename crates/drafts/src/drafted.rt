@@ -12,7 +12,7 @@ use crate::free::Words;
 use crate::passages::Passage;
 use crate::places::{Placed, Role, is_title};
 use crate::seen::title_text;
-use crate::strays::{names_in, push_strays};
+use crate::strays::{options_in, push_strays};
 use crate::texts::{empty_piece, push_passage};
 use crate::usages::{Form, usage_pieces};
 use std::alloc::{AllocError, Allocator};
@@ -228,8 +228,8 @@ fn push_last_tables<'a, A: Allocator + Copy>(
     ensures { OnOk result (string_bytes out.new
         ≡ string_bytes out.old ++ spec.last_tables (held taken.old) (map placed_said placed.now)) }
 {
-    let names = names_in(alloc, taken, forms)?;
-    push_strays(alloc, out, taken, &names)
+    let strays = options_in(alloc, taken, forms)?;
+    push_strays(alloc, out, taken, &strays)
 }
 
 /// The draft of a program of this name.

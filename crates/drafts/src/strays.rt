@@ -2,7 +2,9 @@
 ghost use Rattle.std.specs.Prelude.{◌≡◌, ◌++◌, IfOk, OnOk, flat_map, map, string_bytes, true};
 ghost use Rattle.std.specs.Char.{is_ascii_alphanumeric};
 ghost use Rattle.std.specs.List.{list_all, slice_index_or};
-ghost use Rattle.help_fronts.specs.View.{said};
+ghost use Rattle.std.specs.Option.{option_map};
+ghost use Rattle.help_fronts.specs.Usages as usages;
+ghost use Rattle.help_fronts.specs.View.{said, used_said};
 ghost use Rattle.drafts.specs.Options as options;
 ghost use Rattle.drafts.specs.Strays as spec;
 ghost use Rattle.drafts.specs.View.{form_said, held, stray_said};
@@ -11,15 +13,25 @@ use crate::entries::push_option_head;
 use crate::free::Words;
 use crate::options::{byte_at, is_good, key};
 use crate::usages::Form;
-use help_fronts::{OptionFront, usage_names};
+use help_fronts::{OptionFront, UsageOption, is_optional, usage_options, value_word};
 use std::alloc::{AllocError, Allocator};
 use toml_pieces::{push_table, push_word};
 
-/// A name in a usage, or the letter of a short one.
+/// An option in a usage, or the letter of a short one in the place of its name.
 #[derive(Clone, Copy)]
 pub struct Stray<'a> {
     pub is_letter: bool,
-    pub text: &'a str,
+    pub option: UsageOption<'a>,
+}
+
+fn bare(name: &str) -> UsageOption<'_>
+    ensures { used_said result ≡ usages.bare name.now }
+{
+    UsageOption {
+        name,
+        joint: b' ',
+        value: "",
+    }
 }
 
 // ---- letters that stand together
@@ -99,93 +111,138 @@ fn push_letters<'a, A: Allocator>(
         let (letter, others) = rest.split_at(1);
         strays.push(Stray {
             is_letter: true,
-            text: letter,
+            option: bare(letter),
         })?;
         rest = others;
     }
     Ok(())
 }
 
-fn push_names_of<'a, A: Allocator + Copy>(
+fn stand_together<'a, A: Allocator + Copy>(taken: &Words<'a, A>, option: UsageOption<'a>) -> bool
+    ensures { result ≡ spec.stand_together (held taken.now) (used_said option.entry) }
+{
+    option.joint == b' '
+        && is_cluster(taken, option.name.as_bytes())
+        && !taken.has(key(option.name))
+}
+
+fn push_options_of<'a, A: Allocator + Copy>(
     strays: &mut Vec<Stray<'a>, A>,
     taken: &Words<'a, A>,
-    name: &'a str,
+    option: UsageOption<'a>,
 ) -> Result<(), AllocError>
     ensures { OnOk result (map stray_said strays.new.items
-        ≡ map stray_said strays.old.items ++ spec.names_of (held taken.now) name.now) }
+        ≡ map stray_said strays.old.items ++ spec.options_of (held taken.now) (used_said option.entry)) }
 {
-    if is_cluster(taken, name.as_bytes()) && !taken.has(key(name)) {
-        return push_letters(strays, &name[1..]);
+    if stand_together(taken, option) {
+        return push_letters(strays, &option.name[1..]);
     }
     strays.push(Stray {
         is_letter: false,
-        text: name,
+        option,
     })?;
     Ok(())
 }
 
-fn push_all_names<'a, A: Allocator + Copy>(
+fn push_all_options<'a, A: Allocator + Copy>(
     strays: &mut Vec<Stray<'a>, A>,
     taken: &Words<'a, A>,
-    names: &[&'a str],
+    options: &[UsageOption<'a>],
 ) -> Result<(), AllocError>
     ensures { OnOk result (map stray_said strays.new.items
-        ≡ map stray_said strays.old.items ++ flat_map (spec.names_of (held taken.now)) (map (λ n. n.now) names.now)) }
+        ≡ map stray_said strays.old.items ++ flat_map (spec.options_of (held taken.now)) (map used_said options.now)) }
 {
-    for name in names {
-        push_names_of(strays, taken, name)?;
+    for option in options {
+        push_options_of(strays, taken, *option)?;
     }
     Ok(())
 }
 
-fn push_form_names<'a, A: Allocator + Copy>(
+fn push_form_options<'a, A: Allocator + Copy>(
     alloc: A,
     strays: &mut Vec<Stray<'a>, A>,
     taken: &Words<'a, A>,
     form: Form<'a>,
 ) -> Result<(), AllocError>
     ensures { OnOk result (map stray_said strays.new.items
-        ≡ map stray_said strays.old.items ++ spec.form_names (held taken.now) (form_said form.entry)) }
+        ≡ map stray_said strays.old.items ++ spec.form_options (held taken.now) (form_said form.entry)) }
 {
-    let names = usage_names(alloc, form.text)?;
-    push_all_names(strays, taken, &names)
+    let options = usage_options(alloc, form.text)?;
+    push_all_options(strays, taken, &options)
 }
 
-/// The names in the forms of the usage, where letters that stand together are one each, unless their name is taken.
-pub fn names_in<'a, A: Allocator + Copy>(
+/// The options in the forms of the usage, where letters that stand together are one each, unless their name is taken.
+pub fn options_in<'a, A: Allocator + Copy>(
     alloc: A,
     taken: &Words<'a, A>,
     forms: &[Form<'a>],
 ) -> Result<Vec<Stray<'a>, A>, AllocError>
-    ensures { IfOk result (λ strays. map stray_said strays.items ≡ spec.names_in (held taken.now) (map form_said forms.now)) }
+    ensures { IfOk result (λ strays. map stray_said strays.items ≡ spec.options_in (held taken.now) (map form_said forms.now)) }
 {
     let mut strays = Vec::new(alloc);
     for form in forms {
-        push_form_names(alloc, &mut strays, taken, *form)?;
+        push_form_options(alloc, &mut strays, taken, *form)?;
     }
     Ok(strays)
 }
 
 // ---- options
 
-fn lone_front<'a, A: Allocator + Copy>(
+fn word_of(value: &str) -> Option<&str>
+    ensures { option_map (λ w. w.now) result ≡ spec.word_of value.now }
+{
+    if value.is_empty() {
+        None
+    } else {
+        Some(value_word(value))
+    }
+}
+
+fn values_of<'a, A: Allocator>(alloc: A, value: &'a str) -> Result<Vec<&'a str, A>, AllocError>
+    ensures { IfOk result (λ values. map (λ v. v.now) values.items ≡ spec.values_of value.now) }
+{
+    let mut values = Vec::new(alloc);
+    if !value.is_empty() {
+        values.push(value)?;
+    }
+    Ok(values)
+}
+
+// The front of a name and its value.
+fn front_of<'a, A: Allocator + Copy>(
     alloc: A,
-    name: &'a str,
+    option: UsageOption<'a>,
 ) -> Result<OptionFront<'a, A>, AllocError>
-    ensures { IfOk result (λ front. said front ≡ spec.lone_front name.now) }
+    ensures { IfOk result (λ front. said front ≡ spec.front_of (used_said option.entry)) }
 {
     let mut names = Vec::new(alloc);
-    names.push(name)?;
+    names.push(option.name)?;
+    let values = values_of(alloc, option.value)?;
     Ok(OptionFront {
         names,
-        values: Vec::new(alloc),
-        joint: b' ',
-        value: None,
-        is_optional: false,
+        values,
+        joint: option.joint,
+        value: word_of(option.value),
+        is_optional: is_optional(option.value),
         written: "",
         gap: "",
         help: "",
     })
+}
+
+// Without the value, if a description does not take it.
+fn good_front<'a, A: Allocator + Copy>(
+    alloc: A,
+    option: UsageOption<'a>,
+) -> Result<OptionFront<'a, A>, AllocError>
+    ensures { IfOk result (λ front. said front ≡ spec.good_front (used_said option.entry)) }
+{
+    let front = front_of(alloc, option)?;
+    if is_good(alloc, &front)? {
+        Ok(front)
+    } else {
+        front_of(alloc, bare(option.name))
+    }
 }
 
 impl<'a> Stray<'a> {
@@ -193,9 +250,9 @@ impl<'a> Stray<'a> {
         ensures { result.now ≡ spec.stray_key (stray_said self.entry) }
     {
         if self.is_letter {
-            self.text.as_bytes()
+            self.option.name.as_bytes()
         } else {
-            key(self.text)
+            key(self.option.name)
         }
     }
 }
@@ -207,7 +264,7 @@ fn take<'a, A: Allocator + Copy>(
     stray: Stray<'a>,
     front: &OptionFront<'a, A>,
 ) -> Result<bool, AllocError>
-    requires { said front.now ≡ spec.lone_front stray.text.now }
+    requires { said front.now ≡ spec.good_front (used_said stray.entry.option) }
     ensures free { IfOk result (λ free. free ≡ spec.is_stray (held taken.old) (stray_said stray.entry)) }
     ensures after { IfOk result (λ free. held taken.new
         ≡ spec.with_stray free (spec.stray_key (stray_said stray.entry)) (held taken.old)) }
@@ -232,11 +289,11 @@ fn push_stray_table<A: Allocator, B: Allocator>(
     stray: Stray<'_>,
     front: &OptionFront<'_, B>,
 ) -> Result<(), AllocError>
-    requires { said front.now ≡ spec.lone_front stray.text.now }
+    requires { said front.now ≡ spec.good_front (used_said stray.entry.option) }
     ensures { OnOk result (string_bytes out.new ≡ string_bytes out.old ++ spec.stray (stray_said stray.entry)) }
 {
     if stray.is_letter {
-        push_letter(out, stray.text)
+        push_letter(out, stray.option.name)
     } else {
         push_option_head(out, false, front)
     }
@@ -248,7 +305,7 @@ fn push_stray_if<A: Allocator, B: Allocator>(
     stray: Stray<'_>,
     front: &OptionFront<'_, B>,
 ) -> Result<(), AllocError>
-    requires { said front.now ≡ spec.lone_front stray.text.now }
+    requires { said front.now ≡ spec.good_front (used_said stray.entry.option) }
     ensures { OnOk result (string_bytes out.new
         ≡ string_bytes out.old ++ spec.stray_if is_free (stray_said stray.entry)) }
 {
@@ -270,7 +327,7 @@ fn push_stray<'a, A: Allocator + Copy>(
     ensures after { OnOk result (held taken.new ≡ spec.with_stray
         (spec.is_stray (held taken.old) (stray_said stray.entry)) (spec.stray_key (stray_said stray.entry)) (held taken.old)) }
 {
-    let front = lone_front(alloc, stray.text)?;
+    let front = good_front(alloc, stray.option)?;
     let is_free = take(alloc, taken, stray, &front)?;
     push_stray_if(out, is_free, stray, &front)
 }

@@ -4,3 +4,4 @@ mod Ends
 mod Runs
 pub mod Stands
 pub mod Texts
+mod Values

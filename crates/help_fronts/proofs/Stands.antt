@@ -1,18 +1,17 @@
 -- What is read of a line stands in it.
-use Rattle.std.proofs.Common.{◌≡◌, ℕ, Bool, true, false, cond, List, [], ◌∷◌, ◌++◌, All, IfSome, None, Some, filter, length, map, refl, sym, ap, ◌∙◌, subst, append_assoc}
+use Rattle.std.proofs.Common.{◌≡◌, ℕ, Bool, true, false, cond, List, [], ◌∷◌, ◌++◌, All, IfSome, None, Some, ◌==◌, filter, length, map, refl, sym, ap, ◌∙◌, subst, append_assoc}
 use Rattle.std.specs.List.{concat}
 use Rattle.std.specs.Option.{option_map}
 use Rattle.std.proofs.lemmas.List.Elements.{All-cons, All-filter, All-head, All-nil, All-tail}
 use Rattle.help_fronts.specs.declared.front.Kind.{Kind}
 use Rattle.help_fronts.specs.declared.front.Kind.TheVariants as kind
-use Rattle.help_fronts.specs.Bytes.{is_usage_mark}
 use Rattle.help_fronts.specs.Pieces.{first_word, pieces, word}
 use Rattle.help_fronts.specs.Words.{bare_word, is_name, name, value_text, value_word, without_joints}
 use Rattle.help_fronts.specs.Fronts.{CommandSaid, before_name, begins_front, behind_front, belonging, belongs, command_in, command_name, command_said, first_value, from_last, front, front_in, front_said, gap_of, if_parted, is_alias, is_parted, is_valued, names, or_else, says_more, says_value, values, without_indent}
 use Rattle.help_fronts.specs.Lines.{further_words, goes_on, option_words}
-use Rattle.help_fronts.specs.Usages.{usage_words}
-use Rattle.help_fronts.specs.Laws.{CommandsStandInTheirLine, IsCommandOf, IsFrontOf, IsTextOf, NamesStandInTheirLine, OptionsStandInTheirLine, UsageNamesStandInTheirLine}
-use Rattle.help_fronts.proofs.Texts.{all_read, all_within, at_front, bare_word_of, concat_pieces, dropped, joined, name_of, parts_are, taken, value_text_of, value_word_of, within, without_joints_of, word_of}
+use Rattle.help_fronts.specs.Usages.{WordSaid, bare, is_own, joint_after, options_from, usage_words, used, used_with, value_after}
+use Rattle.help_fronts.specs.Laws.{CommandsStandInTheirLine, IsCommandOf, IsFrontOf, IsTextOf, IsUsedIn, NamesStandInTheirLine, OptionsStandInTheirLine, UsageOptionsStandInTheirLine}
+use Rattle.help_fronts.proofs.Texts.{IsWordIn, all_read, all_within, at_front, bare_word_of, concat_pieces, dropped, joined, name_of, nothing, taken, value_after_of, value_text_of, value_word_of, within, without_joints_of, word_of, usage_words_are}
 
 -- ---- a front begins its text
 
@@ -183,5 +182,26 @@ names_stand_in_their_line line =
     let all : All (IsTextOf text) (pieces text) = subst (λ t. All (IsTextOf t) (pieces text)) (concat_pieces text) (joined (pieces text)) in
     names_are line (option_words (pieces text)) (option_words_are line (pieces text) (all_within line text (dropped _ line) (pieces text) all))
 
-pub usage_names_stand_in_their_line : UsageNamesStandInTheirLine
-usage_names_stand_in_their_line line = names_are line (usage_words line) (parts_are is_usage_mark line)
+-- ---- options in a usage
+
+used_is : (line : List ℕ) (n : List ℕ) (j : ℕ) (v : List ℕ) → IsTextOf line n → IsTextOf line v → IsUsedIn line (used_with n j v)
+used_is line n j v name value = by (length (value_word v) == 0) where
+  by : (t : Bool) → IsUsedIn line (cond t (bare n) (record { name = n; joint = j; value = v }))
+  by true = record { name = name; value = nothing line }
+  by false = record { name = name; value = value }
+
+word_used : (line : List ℕ) (w : WordSaid) → IsWordIn line w → IsUsedIn line (used w)
+word_used line w h =
+    let value = within line w.after (value_after w.after) h.after (value_after_of w.after) in
+    used_is line (name w.text) (joint_after w.after) (without_joints (value_after w.after)) (within line w.text (name w.text) h.text (name_of w.text))
+    (within line (value_after w.after) (without_joints (value_after w.after)) value (without_joints_of (value_after w.after)))
+
+options_are : (line before : List ℕ) (ws : List WordSaid) → All (IsWordIn line) ws → All (IsUsedIn line) (options_from before ws)
+options_are line before [] all = All-nil (IsUsedIn line)
+options_are line before (w ∷ ws) all = by (is_own before w.text) (options_are line w.text ws (All-tail (IsWordIn line) w ws all)) where
+  by : (t : Bool) → All (IsUsedIn line) (options_from w.text ws) → All (IsUsedIn line) (cond t (used w ∷ []) [] ++ options_from w.text ws)
+  by true below = All-cons (IsUsedIn line) (used w) (options_from w.text ws) (word_used line w (All-head (IsWordIn line) w ws all)) below
+  by false below = below
+
+pub usage_options_stand_in_their_line : UsageOptionsStandInTheirLine
+usage_options_stand_in_their_line line = options_are line [] (usage_words line) (usage_words_are line)

@@ -1,13 +1,14 @@
 -- Parts of a text are texts of it.
 use Rattle.std.proofs.Common.{◌≡◌, ℕ, Bool, true, false, cond, List, [], ◌∷◌, ◌++◌, ◌==◌, All, drop, map, take, refl, sym, ap, ◌∙◌, subst, append_assoc}
-use Rattle.std.specs.List.{concat, list_any, onto_first, slice_split}
+use Rattle.std.specs.List.{concat, list_any, onto_first}
 use Rattle.std.proofs.lemmas.List.{append-nil, take-append-drop}
 use Rattle.std.proofs.lemmas.List.Elements.{All-cons, All-map, All-nil, All-weaker}
 use Rattle.help_fronts.specs.declared.bytes.Class.{Class}
 use Rattle.help_fronts.specs.declared.bytes.Class.TheVariants as class
-use Rattle.help_fronts.specs.Bytes.{is_bracket, without_end, without_front}
+use Rattle.help_fronts.specs.Bytes.{first, is_bracket, is_usage_mark, without_end, without_front}
 use Rattle.help_fronts.specs.Pieces.{deeper, is_cut, onto_pieces, pieces, pieces_behind, word}
 use Rattle.help_fronts.specs.Words.{attached, bare_word, is_joiner, is_name, name, name_len, value_text, value_word, without_joints}
+use Rattle.help_fronts.specs.Usages.{WordSaid, apart, behind_value, is_apart, is_joined, last_word, len_of_value, onto_word, usage_words, value_after, value_in}
 use Rattle.help_fronts.specs.Laws.{IsTextOf}
 
 pub itself : (t : List ℕ) → IsTextOf t t
@@ -107,31 +108,75 @@ all_within line text h ts = All-weaker (IsTextOf text) (IsTextOf line) (λ t. wi
 pub all_read : (read : List ℕ → List ℕ) → ((t : List ℕ) → IsTextOf t (read t)) → (line : List ℕ) (ts : List (List ℕ)) → All (IsTextOf line) ts → All (IsTextOf line) (map read ts)
 all_read read reads line ts all = All-map (IsTextOf line) read ts (All-weaker (IsTextOf line) (λ t. IsTextOf line (read t)) (λ t h. within line t (read t) h (reads t)) ts all)
 
--- ---- what marks part
+-- ---- words of a usage
 
--- the first part begins the text, and the others stand in it
-record ArePartsOf (text : List ℕ) (parts : List (List ℕ)) : Type 0 where
-  first : List ℕ
-  others : List (List ℕ)
-  after : List ℕ
-  split : parts ≡ first ∷ others
-  begins : text ≡ first ++ after
-  stand : All (IsTextOf text) others
+pub record IsWordIn (line : List ℕ) (w : WordSaid) : Type 0 where
+  pub text : IsTextOf line w.text
+  pub after : IsTextOf line w.after
 
-behind_one : (b : ℕ) (bs : List ℕ) (ts : List (List ℕ)) → All (IsTextOf bs) ts → All (IsTextOf (b ∷ bs)) ts
-behind_one b bs ts = all_within (b ∷ bs) bs (dropped 1 (b ∷ bs)) ts
+-- the first word begins the text, and the others stand in it
+record AreWordsOf (text : List ℕ) (words : List WordSaid) : Type 0 where
+  first : WordSaid
+  others : List WordSaid
+  rest : List ℕ
+  split : words ≡ first ∷ others
+  begins : text ≡ first.text ++ rest
+  after : IsTextOf text first.after
+  stand : All (IsWordIn text) others
 
-stand_all : (text : List ℕ) (parts : List (List ℕ)) → ArePartsOf text parts → All (IsTextOf text) parts
-stand_all text parts h =
-    subst (All (IsTextOf text)) (sym h.split)
-    (All-cons (IsTextOf text) h.first h.others (subst (λ t. IsTextOf t h.first) (sym h.begins) (at_front h.first h.after)) h.stand)
+word_within : (line text : List ℕ) → IsTextOf line text → (w : WordSaid) → IsWordIn text w → IsWordIn line w
+word_within line text h w inner = record { text = within line text w.text h inner.text; after = within line text w.after h inner.after }
 
-parts_of : (p : ℕ → Bool) (text : List ℕ) → ArePartsOf text (slice_split p text)
-parts_of p [] = record { first = []; others = []; after = []; split = refl; begins = refl; stand = All-nil (IsTextOf []) }
-parts_of p (b ∷ bs) = by (p b) (parts_of p bs) where
-  by : (t : Bool) → ArePartsOf bs (slice_split p bs) → ArePartsOf (b ∷ bs) (cond t ([] ∷ slice_split p bs) (onto_first b (slice_split p bs)))
-  by true h = record { first = []; others = slice_split p bs; after = b ∷ bs; split = refl; begins = refl; stand = behind_one b bs (slice_split p bs) (stand_all bs (slice_split p bs) h) }
-  by false h = record { first = b ∷ h.first; others = h.others; after = h.after; split = ap (onto_first b) h.split; begins = ap (λ t. b ∷ t) h.begins; stand = behind_one b bs h.others h.stand }
+words_within : (line text : List ℕ) → IsTextOf line text → (ws : List WordSaid) → All (IsWordIn text) ws → All (IsWordIn line) ws
+words_within line text h ws = All-weaker (IsWordIn text) (IsWordIn line) (word_within line text h) ws
 
-pub parts_are : (p : ℕ → Bool) (text : List ℕ) → All (IsTextOf text) (slice_split p text)
-parts_are p text = stand_all text (slice_split p text) (parts_of p text)
+first_word_in : (text : List ℕ) (words : List WordSaid) (h : AreWordsOf text words) → IsWordIn text h.first
+first_word_in text words h = record { text = subst (λ t. IsTextOf t h.first.text) (sym h.begins) (at_front h.first.text h.rest); after = h.after }
+
+all_words : (text : List ℕ) (words : List WordSaid) → AreWordsOf text words → All (IsWordIn text) words
+all_words text words h = subst (All (IsWordIn text)) (sym h.split) (All-cons (IsWordIn text) h.first h.others (first_word_in text words h) h.stand)
+
+words_of : (text : List ℕ) → AreWordsOf text (usage_words text)
+words_of [] = record { first = last_word []; others = []; rest = []; split = refl; begins = refl; after = nothing []; stand = All-nil (IsWordIn []) }
+words_of (b ∷ bs) = by (is_usage_mark b) (words_of bs) where
+  behind : IsTextOf (b ∷ bs) bs
+  behind = dropped 1 (b ∷ bs)
+
+  marked : WordSaid
+  marked = record { text = []; after = b ∷ bs }
+
+  by : (t : Bool) → AreWordsOf bs (usage_words bs) → AreWordsOf (b ∷ bs) (cond t (marked ∷ usage_words bs) (onto_word b (usage_words bs)))
+  by true h = record {
+    first = marked;
+    others = usage_words bs;
+    rest = b ∷ bs;
+    split = refl;
+    begins = refl;
+    after = itself (b ∷ bs);
+    stand = words_within (b ∷ bs) bs behind (usage_words bs) (all_words bs (usage_words bs) h);
+  }
+  by false h = record {
+    first = record { text = b ∷ h.first.text; after = h.first.after };
+    others = h.others;
+    rest = h.rest;
+    split = ap (onto_word b) h.split;
+    begins = ap (λ t. b ∷ t) h.begins;
+    after = within (b ∷ bs) bs h.first.after behind h.after;
+    stand = words_within (b ∷ bs) bs behind h.others h.stand;
+  }
+
+pub usage_words_are : (line : List ℕ) → All (IsWordIn line) (usage_words line)
+usage_words_are line = all_words line (usage_words line) (words_of line)
+
+apart_of : (text : List ℕ) → IsTextOf text (apart text)
+apart_of text = by (is_apart (value_in text) (behind_value text)) where
+  by : (t : Bool) → IsTextOf text (cond t (value_in text) [])
+  by true = taken (len_of_value text) text
+  by false = nothing text
+
+pub value_after_of : (after : List ℕ) → IsTextOf after (value_after after)
+value_after_of after = by (is_joined after) (first after == 32) where
+  by : (j b : Bool) → IsTextOf after (cond j (value_in after) (cond b (apart (drop 1 after)) []))
+  by true b = taken (len_of_value after) after
+  by false true = within after (drop 1 after) (apart (drop 1 after)) (dropped 1 after) (apart_of (drop 1 after))
+  by false false = nothing after

@@ -2,7 +2,7 @@
 use Rattle.std.specs.Prelude.{ℕ, ◌≡◌, List, ◌++◌, All, IfSome}
 use Rattle.help_fronts.specs.Fronts.{CommandSaid, FrontSaid, command_front, option_front}
 use Rattle.help_fronts.specs.Lines.{option_names}
-use Rattle.help_fronts.specs.Usages.{usage_names}
+use Rattle.help_fronts.specs.Usages.{UsedSaid, usage_options}
 
 -- a text of a line: the line is what stands before the text, the text, and what stands after it
 pub record IsTextOf (line text : List ℕ) : Type 0 where
@@ -33,9 +33,14 @@ OptionsStandInTheirLine = (line : List ℕ) → IfSome (option_front line) (IsFr
 abbrev pub CommandsStandInTheirLine : Type 0
 CommandsStandInTheirLine = (line : List ℕ) → IfSome (command_front line) (IsCommandOf line)
 
--- the names of options at the front of a line, and those in a line of a usage
+-- the names of options at the front of a line
 abbrev pub NamesStandInTheirLine : Type 0
 NamesStandInTheirLine = (line : List ℕ) → All (IsTextOf line) (option_names line)
 
-abbrev pub UsageNamesStandInTheirLine : Type 0
-UsageNamesStandInTheirLine = (line : List ℕ) → All (IsTextOf line) (usage_names line)
+-- the name of an option in a usage, and what is said of its value
+pub record IsUsedIn (line : List ℕ) (o : UsedSaid) : Type 0 where
+  pub name : IsTextOf line o.name
+  pub value : IsTextOf line o.value
+
+abbrev pub UsageOptionsStandInTheirLine : Type 0
+UsageOptionsStandInTheirLine = (line : List ℕ) → All (IsUsedIn line) (usage_options line)

@@ -2,7 +2,7 @@ pub mod Bytes
 pub mod Pieces
 pub mod Words
 pub mod Fronts
-pub mod View
 pub mod Usages
+pub mod View
 pub mod Lines
 pub mod Laws

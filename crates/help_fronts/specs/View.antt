@@ -3,7 +3,10 @@ use Rattle.std.specs.Prelude.{map}
 use Rattle.std.specs.Option.{option_map}
 use Rattle.help_fronts.specs.declared.option.OptionFront.{OptionFront}
 use Rattle.help_fronts.specs.declared.command.CommandFront.{CommandFront}
+use Rattle.help_fronts.specs.declared.usage.UsageOption.{UsageOption}
+use Rattle.help_fronts.specs.declared.usage.Word.{Word}
 use Rattle.help_fronts.specs.Fronts.{CommandSaid, FrontSaid}
+use Rattle.help_fronts.specs.Usages.{UsedSaid, WordSaid}
 
 abbrev pub said : {A : Type 0} → OptionFront A → FrontSaid
 said f = record {
@@ -26,3 +29,9 @@ command_said f = record {
   gap = f.gap.now;
   help = f.help.now;
 }
+
+abbrev pub word_said : Word → WordSaid
+word_said w = record { text = w.text.now; after = w.after.now }
+
+abbrev pub used_said : UsageOption → UsedSaid
+used_said o = record { name = o.name.now; joint = o.joint; value = o.value.now }

@@ -1,7 +1,7 @@
 //! Laws of fronts: nothing to call, but statements that the check proves.
 
 ghost use Rattle.help_fronts.specs.Laws.{CommandsStandInTheirLine, OptionsStandInTheirLine};
-ghost use Rattle.help_fronts.specs.Laws.{NamesStandInTheirLine, UsageNamesStandInTheirLine};
+ghost use Rattle.help_fronts.specs.Laws.{NamesStandInTheirLine, UsageOptionsStandInTheirLine};
 
 /// What is read at the front of an option stands in its line: each name, each value, the word for the first, the front,
 /// the gap and the help.
@@ -22,8 +22,7 @@ pub fn names_stand_in_their_line()
     ensures { NamesStandInTheirLine }
 {}
 
-/// And so do those in a line of a usage.
-#[tactic(auto, using(crate::proofs::Stands::usage_names_stand_in_their_line))]
-pub fn usage_names_stand_in_their_line()
-    ensures { UsageNamesStandInTheirLine }
+/// The options in a line of a usage stand in it: each name, and what is said of its value.
+pub fn usage_options_stand_in_their_line()
+    ensures { UsageOptionsStandInTheirLine }
 {}

@@ -9,10 +9,11 @@ mod line;
 mod names;
 mod option;
 mod pieces;
+mod usage;
 mod words;
 
 pub use command::{CommandFront, command_front};
 pub use line::option_names;
-pub use names::usage_names;
 pub use option::{OptionFront, option_front};
-pub use words::{is_command, value_word};
+pub use usage::{UsageOption, usage_options};
+pub use words::{is_command, is_optional, value_word};

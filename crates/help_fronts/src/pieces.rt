@@ -4,8 +4,8 @@ ghost use Rattle.help_fronts.specs.Pieces as spec;
 
 use crate::bytes::{byte_at, is_blank, is_closing, is_divider, is_opening};
 
-// How many brackets are open behind a byte.
-fn deeper(depth: usize, byte: u8) -> usize
+/// How many brackets are open behind a byte.
+pub fn deeper(depth: usize, byte: u8) -> usize
     requires { depth < usize.MAX }
     ensures { result ≡ spec.deeper depth byte }
 {
@@ -18,7 +18,8 @@ fn deeper(depth: usize, byte: u8) -> usize
     }
 }
 
-fn is_cut(depth: usize, before: u8, byte: u8) -> bool
+/// Whether a line is cut before a byte.
+pub fn is_cut(depth: usize, before: u8, byte: u8) -> bool
     ensures { result ≡ spec.is_cut depth before byte }
 {
     depth == 0 && (is_blank(byte) || (byte == b'-' && is_divider(before)))
