@@ -1,15 +1,16 @@
 -- Letters that stand together, one after another.
-use Rattle.std.proofs.Common.{◌≡◌, ℕ, ◌<◌, ◌||◌, ◌&&◌, nat_lt, true, List, [], ◌∷◌, ◌++◌, append_assoc, ap, ◌∙◌, arith, drop, get_or, length, map, take}
+use Rattle.std.proofs.Common.{◌≡◌, ℕ, ◌<◌, ◌||◌, ◌&&◌, ◌==◌, nat_lt, not, true, List, [], ◌∷◌, ◌++◌, append_assoc, ap, ◌∙◌, arith, drop, get_or, length, map, take}
 use Rattle.std.specs.Char.{is_ascii_alphanumeric}
 use Rattle.std.specs.List.{list_all}
 use Rattle.std.specs.Str.{IsCharBoundary, IsUtf8}
 use Rattle.std.proofs.lemmas.Bool.{and_parts}
 use Rattle.std.proofs.lemmas.Bool.Decides.{nat_tests}
 use Rattle.std.proofs.lemmas.Str.{IsCharBoundary-after_ascii}
-use Rattle.drafts.specs.Strays.{StraySaid, are_known, are_rising, has_letters, is_cluster, letter}
+use Rattle.drafts.specs.Strays.{StraySaid, are_known, are_rising, has_letters, is_cluster, letter, letter_of, stand_together}
 use Rattle.drafts.specs.Free.{Has}
 use Rattle.help_fronts.specs.Bytes.{is_dash}
-use Rattle.help_fronts.specs.Usages.{bare}
+use Rattle.help_fronts.specs.Usages.{UsedSaid}
+use Rattle.drafts.specs.Options.{key}
 
 letter_small : (b : ℕ) → is_ascii_alphanumeric b ≡ true → b < 128
 letter_small b h = grind (arith, nat_tests)
@@ -22,13 +23,10 @@ pub letters_rest : (rest back : List ℕ) → list_all is_ascii_alphanumeric res
 letters_rest [] back h size is = absurd (omega arith)
 letters_rest (b ∷ bs) back h size is = ap (list_all is_ascii_alphanumeric) is ∙ (and_parts (is_ascii_alphanumeric b) (list_all is_ascii_alphanumeric bs) h).1
 
-abbrev one : List ℕ → StraySaid
-one text = record { is_letter = true; option = bare text }
-
-pub letters_more : (rest front back : List ℕ) (strays more whole : List StraySaid) → 0 < length rest → front ≡ take 1 rest → back ≡ drop 1 rest → more ≡ strays ++ one front ∷ [] → strays ++ map letter rest ≡ whole → more ++ map letter back ≡ whole
+pub letters_more : (rest front back : List ℕ) (strays more whole : List StraySaid) → 0 < length rest → front ≡ take 1 rest → back ≡ drop 1 rest → more ≡ strays ++ letter_of front ∷ [] → strays ++ map letter rest ≡ whole → more ++ map letter back ≡ whole
 letters_more [] front back strays more whole size f b put so_far = absurd (omega arith)
 letters_more (x ∷ xs) front back strays more whole size f b put so_far =
-    ap (λ ss. ss ++ map letter back) put ∙ ap (λ t. (strays ++ one t ∷ []) ++ map letter back) f ∙ ap (λ ys. (strays ++ letter x ∷ []) ++ map letter ys) b
+    ap (λ ss. ss ++ map letter back) put ∙ ap (λ t. (strays ++ letter_of t ∷ []) ++ map letter back) f ∙ ap (λ ys. (strays ++ letter x ∷ []) ++ map letter ys) b
     ∙ append_assoc strays (letter x ∷ []) (map letter xs) ∙ so_far
 
 dashed_size : (n : List ℕ) → has_letters n ≡ true → 0 < length n
@@ -46,3 +44,7 @@ pub cluster_letters : (has : Has) (n : List ℕ) → is_cluster has n ≡ true �
 cluster_letters has n h =
     let dashed : has_letters n ≡ true = (and_parts (has_letters n) (are_rising (drop 1 n) || are_known has (drop 1 n)) h).0 in
     (and_parts (is_dash (get_or n 0 0) && nat_lt 2 (length n)) (list_all is_ascii_alphanumeric (drop 1 n)) dashed).1
+
+pub together_cluster : (has : Has) (o : UsedSaid) → stand_together has o ≡ true → is_cluster has o.name ≡ true
+together_cluster has o h =
+    (and_parts (is_cluster has o.name) (not (has (key o.name))) (and_parts (o.joint == 32) (is_cluster has o.name && not (has (key o.name))) h).1).0

@@ -39,8 +39,11 @@ pub record StraySaid : Type 0 where
   pub is_letter : Bool
   pub option : UsedSaid
 
+abbrev pub letter_of : (text : List ℕ) → StraySaid
+letter_of text = record { is_letter = true; option = bare text }
+
 abbrev pub letter : ℕ → StraySaid
-letter b = record { is_letter = true; option = bare (b ∷ []) }
+letter b = letter_of (b ∷ [])
 
 abbrev pub whole : UsedSaid → StraySaid
 whole o = record { is_letter = false; option = o }

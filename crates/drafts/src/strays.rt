@@ -98,6 +98,15 @@ fn is_cluster<'a, A: Allocator + Copy>(taken: &Words<'a, A>, name: &'a [u8]) -> 
     has_letters(name) && (are_rising(&name[1..]) || are_known(taken, &name[1..]))
 }
 
+fn letter_of(text: &str) -> Stray<'_>
+    ensures { stray_said result ≡ spec.letter_of text.now }
+{
+    Stray {
+        is_letter: true,
+        option: bare(text),
+    }
+}
+
 fn push_letters<'a, A: Allocator>(
     strays: &mut Vec<Stray<'a>, A>,
     letters: &'a str,
@@ -109,10 +118,7 @@ fn push_letters<'a, A: Allocator>(
     let mut rest = letters;
     while rest.len() > 0 {
         let (letter, others) = rest.split_at(1);
-        strays.push(Stray {
-            is_letter: true,
-            option: bare(letter),
-        })?;
+        strays.push(letter_of(letter))?;
         rest = others;
     }
     Ok(())
@@ -264,7 +270,7 @@ fn take<'a, A: Allocator + Copy>(
     stray: Stray<'a>,
     front: &OptionFront<'a, A>,
 ) -> Result<bool, AllocError>
-    requires { said front.now ≡ spec.good_front (used_said stray.entry.option) }
+    requires { said front.now ≡ spec.good_front (used_said stray.option) }
     ensures free { IfOk result (λ free. free ≡ spec.is_stray (held taken.old) (stray_said stray.entry)) }
     ensures after { IfOk result (λ free. held taken.new
         ≡ spec.with_stray free (spec.stray_key (stray_said stray.entry)) (held taken.old)) }
@@ -289,7 +295,7 @@ fn push_stray_table<A: Allocator, B: Allocator>(
     stray: Stray<'_>,
     front: &OptionFront<'_, B>,
 ) -> Result<(), AllocError>
-    requires { said front.now ≡ spec.good_front (used_said stray.entry.option) }
+    requires { said front.now ≡ spec.good_front (used_said stray.option) }
     ensures { OnOk result (string_bytes out.new ≡ string_bytes out.old ++ spec.stray (stray_said stray.entry)) }
 {
     if stray.is_letter {
@@ -305,7 +311,7 @@ fn push_stray_if<A: Allocator, B: Allocator>(
     stray: Stray<'_>,
     front: &OptionFront<'_, B>,
 ) -> Result<(), AllocError>
-    requires { said front.now ≡ spec.good_front (used_said stray.entry.option) }
+    requires { said front.now ≡ spec.good_front (used_said stray.option) }
     ensures { OnOk result (string_bytes out.new
         ≡ string_bytes out.old ++ spec.stray_if is_free (stray_said stray.entry)) }
 {

@@ -1,13 +1,32 @@
 //! The names that a help text has.
 ghost use Rattle.std.specs.Prelude.{◌≡◌, ◌++◌, map, IfOk, OnOk};
+ghost use Rattle.help_fronts.specs.View.{used_said};
+ghost use Rattle.help_differences.specs.Names.{called};
 ghost use Rattle.help_differences.specs.View.{name_said};
+ghost use Rattle.help_differences.specs.declared.names.Kind.TheVariants as kinds;
 ghost use Rattle.help_differences.specs.Help as spec;
 
 use crate::names::{Kind, Name, push_names};
 use crate::notes::push_notes;
 use help_blocks::{Block, blocks};
-use help_fronts::{command_front, option_names, usage_names};
+use help_fronts::{UsageOption, command_front, option_names, usage_options};
 use std::alloc::{AllocError, Allocator};
+
+fn push_used<'a, A: Allocator>(
+    names: &mut Vec<Name<'a>, A>,
+    options: &[UsageOption<'a>],
+) -> Result<(), AllocError>
+    ensures { OnOk result (map name_said names.new.items
+        ≡ map name_said names.old.items ++ map (called kinds.Option) (map (λ o. o.name) (map used_said options.now))) }
+{
+    for option in options {
+        names.push(Name {
+            kind: Kind::Option,
+            text: option.name,
+        })?;
+    }
+    Ok(())
+}
 
 fn push_usage<'a, A: Allocator + Copy>(
     alloc: A,
@@ -18,8 +37,8 @@ fn push_usage<'a, A: Allocator + Copy>(
         ≡ map name_said names.old.items ++ spec.names_of_usage (map (λ line. line.now) lines.now)) }
 {
     for line in lines {
-        let found = usage_names(alloc, line)?;
-        push_names(names, Kind::Option, &found)?;
+        let found = usage_options(alloc, line)?;
+        push_used(names, &found)?;
     }
     Ok(())
 }
