@@ -3,7 +3,7 @@ use Rattle.std.specs.Prelude.{◌≡◌, ℕ, ◌<◌, List, [], ◌∷◌, ◌+
 use Rattle.help_blocks.specs.declared.shape.Shape.{Shape}
 use Rattle.help_blocks.specs.declared.place.Kind.{Kind}
 use Rattle.help_blocks.specs.declared.cut.Block.{Block}
-use Rattle.help_blocks.specs.Shapes.{shape_of, first_shape}
+use Rattle.help_blocks.specs.Shapes.{first_shape}
 use Rattle.help_blocks.specs.Above.{Line, place_of}
 use Rattle.help_blocks.specs.Rules.{begun}
 
@@ -14,7 +14,7 @@ pub record Pair : Type 0 where
 
 abbrev pub pairs : (lines : List (List ℕ)) → List Pair
 pairs [] = []
-pairs (l ∷ ls) = record { here = shape_of l; next = first_shape ls } ∷ pairs ls
+pairs (l ∷ ls) = record { here = first_shape (l ∷ ls); next = first_shape ls } ∷ pairs ls
 
 abbrev pub with_pair : Pair → (above : List Line) → List Line
 with_pair p above = record { shape = p.here; begun = begun (place_of above) p.here p.next } ∷ above

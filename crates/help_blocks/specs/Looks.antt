@@ -101,6 +101,32 @@ is_option (c ∷ d ∷ e ∷ cs) = c == 45 && (if d == 45 then is_option_letter 
 is_option (c ∷ d ∷ []) = c == 45 && is_option_letter d
 is_option _ = false
 
+-- what stands behind the first `=` of the first word
+abbrev pub behind_equals : (text : List ℕ) → List ℕ
+behind_equals [] = []
+behind_equals (c ∷ cs) = if is_blank c then [] else if c == 61 then cs else behind_equals cs
+
+-- a small letter or a digit
+abbrev pub begins_small : (text : List ℕ) → Bool
+begins_small [] = false
+begins_small (c ∷ cs) = is_small c || is_between 48 57 c
+
+abbrev pub is_divider : ℕ → Bool
+is_divider c = c == 44 || c == 124
+
+-- what stands behind the first blank; nothing, if `,` or `|` is before it
+abbrev pub behind_word : (before : ℕ) → (text : List ℕ) → List ℕ
+behind_word before [] = []
+behind_word before (c ∷ cs) = if is_blank c then (if is_divider before then [] else cs) else behind_word c cs
+
+-- options as they are typed, as `--format=gnu -b20`: the first has a value that is no word for one, and another follows
+abbrev pub is_call : (text : List ℕ) → Bool
+is_call text =
+    (is_option text && not (has_columns text)) && (begins_small (behind_equals text) && is_option (behind_word 32 text))
+
+abbrev pub is_listed_option : (text : List ℕ) → Bool
+is_listed_option text = is_option text && not (is_call text)
+
 abbrev pub ends_word : (rest : List ℕ) → Bool
 ends_word [] = true
 ends_word (c ∷ cs) = is_blank c || (c == 58 || c == 44)
@@ -118,9 +144,9 @@ abbrev pub is_prompt : (text : List ℕ) → Bool
 is_prompt (c ∷ d ∷ cs) = c == 36 && d == 32
 is_prompt _ = false
 
--- `$ ` first, or columns
+-- `$ ` first, columns, or options as they are typed
 abbrev pub is_code : (text : List ℕ) → Bool
-is_code cs = is_prompt cs || has_columns cs
+is_code cs = (is_prompt cs || has_columns cs) || is_call cs
 
 abbrev pub ends_with_dot : (line : List ℕ) → Bool
 ends_with_dot line = last_ink 32 line == 46

@@ -67,6 +67,10 @@ listed_value o = if is_in_list o then Some kind.Value else None
 abbrev pub leads : (here next : Shape) → Bool
 leads here next = nat_lt here.indent next.indent && not next.is_empty
 
+-- an option below, where an empty line may be between, if the line does not begin with a small word as the end of a text does
+abbrev pub is_above_option : (here next : Shape) → Bool
+is_above_option here next = next.is_option && not (next.is_empty && here.is_word)
+
 -- a title without a colon: a line behind an empty one, with an option or columns below it, indented deeper; in capitals with anything below it
 abbrev pub is_plain_title : (is_after_blank : Bool) → (here next : Shape) → Bool
 is_plain_title after here next = (after && leads here next) && ((next.is_option || next.is_code) || here.is_in_capitals)
@@ -104,7 +108,7 @@ kind_of p here next =
     else if here.is_usage then kind.Usage
     else if here.is_option then kind.Option
     else if is_in_choice p.block here || is_further_command p.block here then kind.Command
-    else if here.ends_with_colon && (p.is_after_blank || (leads here next || next.is_option)) then kind.Title
+    else if here.ends_with_colon && (p.is_after_blank || (leads here next || is_above_option here next)) then kind.Title
     else unmarked_kind p here next
 
 abbrev pub is_text : Kind → Bool

@@ -2,7 +2,7 @@
 #![tactic(auto)]
 
 ghost use Rattle.std.specs.Prelude.{◌≡◌, IfOk, drop, length, map};
-ghost use Rattle.help_blocks.specs.Shapes.{first_shape};
+ghost use Rattle.help_blocks.specs.Shapes.{above, begin_with_option, first_shape};
 ghost use Rattle.help_blocks.specs.Blocks.{FollowOn, lines_of, start_of, starts};
 
 mod cut;
@@ -16,7 +16,7 @@ mod subject;
 pub use cut::Block;
 pub use place::Kind;
 use place::Place;
-use shape::Shape;
+use shape::{Shape, is_option_line};
 use std::alloc::{AllocError, Allocator};
 
 /// The blocks of a help text, in order: each line is in exactly one.
@@ -55,12 +55,31 @@ fn below<'a, 'b>(lines: &'a [&'b str]) -> &'a [&'b str]
     }
 }
 
+fn begin_with_option(lines: &[&str]) -> bool
+    ensures { result ≡ begin_with_option (map (λ line. line.now) lines.now) }
+{
+    match lines {
+        [] => false,
+        [line, ..] => is_option_line(line.as_bytes()),
+    }
+}
+
 // What the first of these lines looks like: where there is none, a blank line.
 fn first_shape(lines: &[&str]) -> Shape
     ensures { result ≡ first_shape (map (λ line. line.now) lines.now) }
 {
     match lines {
         [] => Shape::of(b""),
-        [line, ..] => Shape::of(line.as_bytes()),
+        [line, below @ ..] => above(Shape::of(line.as_bytes()), below),
+    }
+}
+
+// An empty line counts as an option, if one is right below it.
+fn above(shape: Shape, below: &[&str]) -> Shape
+    ensures { result ≡ above shape (begin_with_option (map (λ line. line.now) below.now)) }
+{
+    Shape {
+        is_option: shape.is_option || (shape.is_empty && begin_with_option(below)),
+        ..shape
     }
 }

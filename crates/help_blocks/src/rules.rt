@@ -100,6 +100,12 @@ fn leads(here: Shape, next: Shape) -> bool
     here.indent < next.indent && !next.is_empty
 }
 
+fn is_above_option(here: Shape, next: Shape) -> bool
+    ensures { result ≡ rules.is_above_option here next }
+{
+    next.is_option && !(next.is_empty && here.is_word)
+}
+
 fn is_plain_title(is_after_blank: bool, here: Shape, next: Shape) -> bool
     ensures { result ≡ rules.is_plain_title is_after_blank here next }
 {
@@ -156,7 +162,7 @@ fn kind(place: Place, here: Shape, next: Shape) -> Kind
     } else if is_in_choice(place.block, here) || is_further_command(place.block, here) {
         Kind::Command
     } else if here.ends_with_colon
-        && (place.is_after_blank || leads(here, next) || next.is_option)
+        && (place.is_after_blank || leads(here, next) || is_above_option(here, next))
     {
         Kind::Title
     } else {

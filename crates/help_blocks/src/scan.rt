@@ -96,6 +96,45 @@ pub fn behind_name(text: &[u8]) -> &[u8]
     rest
 }
 
+/// What stands behind the first `=` of the first word.
+pub fn behind_equals(text: &[u8]) -> &[u8]
+    ensures { result.now ≡ looks.behind_equals text.now }
+{
+    let mut rest = text;
+    while let [first, more @ ..] = rest {
+        if is_blank(*first) {
+            return &[];
+        }
+        if *first == b'=' {
+            return more;
+        }
+        rest = more;
+    }
+    rest
+}
+
+fn is_divider(byte: u8) -> bool
+    ensures { result ≡ looks.is_divider byte }
+{
+    byte == b',' || byte == b'|'
+}
+
+/// What stands behind the first blank; nothing, if `,` or `|` is before it.
+pub fn behind_word(text: &[u8]) -> &[u8]
+    ensures { result.now ≡ looks.behind_word 32 text.now }
+{
+    let mut before = b' ';
+    let mut rest = text;
+    while let [first, more @ ..] = rest {
+        if is_blank(*first) {
+            return if is_divider(before) { &[] } else { more };
+        }
+        before = *first;
+        rest = more;
+    }
+    rest
+}
+
 // The last that is not a blank, and a blank where there is none.
 fn last_ink(line: &[u8]) -> u8
     ensures { result ≡ looks.last_ink 32 line.now }

@@ -33,7 +33,7 @@ impl Shape {
             indent: scan::indent(line),
             is_empty: text.is_empty(),
             is_usage: is_usage(text),
-            is_option: is_option(text),
+            is_option: is_listed_option(text),
             is_word: is_word(text),
             is_choice: is_choice(text),
             ends_with_colon: scan::ends_with_colon(text),
@@ -42,6 +42,13 @@ impl Shape {
             subject: Subject::of(text),
         }
     }
+}
+
+/// Whether a line begins with an option.
+pub fn is_option_line(line: &[u8]) -> bool
+    ensures { result ≡ looks.is_listed_option (looks.text line.now) }
+{
+    is_listed_option(scan::text(line))
 }
 
 // Whether a name goes on behind five letters.
@@ -77,6 +84,28 @@ fn is_option(text: &[u8]) -> bool
     }
 }
 
+fn begins_small(text: &[u8]) -> bool
+    ensures { result ≡ looks.begins_small text.now }
+{
+    matches!(text, [b'a'..=b'z' | b'0'..=b'9', ..])
+}
+
+// Whether these are options as they are typed.
+fn is_call(text: &[u8]) -> bool
+    ensures { result ≡ looks.is_call text.now }
+{
+    is_option(text)
+        && !scan::has_columns(text)
+        && begins_small(scan::behind_equals(text))
+        && is_option(scan::behind_word(text))
+}
+
+fn is_listed_option(text: &[u8]) -> bool
+    ensures { result ≡ looks.is_listed_option text.now }
+{
+    is_option(text) && !is_call(text)
+}
+
 fn ends_word(rest: &[u8]) -> bool
     ensures { result ≡ looks.ends_word rest.now }
 {
@@ -110,5 +139,5 @@ fn is_prompt(text: &[u8]) -> bool
 fn is_code(text: &[u8]) -> bool
     ensures { result ≡ looks.is_code text.now }
 {
-    is_prompt(text) || scan::has_columns(text)
+    is_prompt(text) || scan::has_columns(text) || is_call(text)
 }
