@@ -16,7 +16,7 @@ use Rattle.help_fronts.proofs.Boundaries.{before_class, behind_class}
 use Rattle.help_fronts.proofs.Stands.{options_stand_in_their_line}
 use Rattle.help_fronts.proofs.Texts.{all_within, dropped, nothing, taken, value_word_of, within}
 use Rattle.drafts.specs.Entries.{ends_front, front_len, value_name}
-use Rattle.drafts.specs.Free.{FreeSaid, Has, free_front, free_fronts, free_name, free_names, front_keys, fronts, fronts_by, is_free, line_fronts, next_text, none_taken, with_key, with_keys, keeps_value, valued, without_value}
+use Rattle.drafts.specs.Free.{FreeSaid, Has, free_front, free_fronts, free_name, free_names, front_keys, fronts, fronts_by, is_doubled, is_free, line_fronts, next_text, none_taken, with_key, with_keys, keeps_value, valued, without_value}
 use Rattle.drafts.specs.Options.{either, is_long, is_short, key, letter_of, long_word, short_letter, word_of}
 use Rattle.drafts.specs.Laws.{IsOptionOf, OptionsStandInTheirLine, ValuesStandInTheirLine}
 use Rattle.drafts.proofs.Lists.{end_passes}
@@ -63,10 +63,11 @@ free_names_stand line has seen (n ∷ ns) all =
       by false = All-nil (IsTextOf line)
 
 valued_stands : (line : List ℕ) (f : FrontSaid) (ns : List (List ℕ)) → IsFrontOf line f → IsFrontOf line (valued f ns)
-valued_stands line f ns front = by (keeps_value f ns) where
-  by : (t : Bool) → IsFrontOf line (cond t f (without_value f))
-  by true = front
-  by false = record { names = front.names; values = All-nil (IsTextOf line); value = tt; written = front.written; gap = front.gap; help = front.help }
+valued_stands line f ns front = by (is_doubled f ns) (keeps_value f ns) where
+  by : (d t : Bool) → IsFrontOf line (cond d (record f { is_optional = true }) (cond t f (without_value f)))
+  by true t = record { names = front.names; values = front.values; value = front.value; written = front.written; gap = front.gap; help = front.help }
+  by false true = front
+  by false false = record { names = front.names; values = All-nil (IsTextOf line); value = tt; written = front.written; gap = front.gap; help = front.help }
 
 freed_stands : (line : List ℕ) (f : FrontSaid) (ns : List (List ℕ)) → All (IsTextOf line) ns → IsFrontOf line f → IsFrontOf line (record (valued f ns) { names = ns })
 freed_stands line f ns names front =

@@ -1,5 +1,6 @@
 -- Which names are taken, and which of a line are free.
-use Rattle.std.specs.Prelude.{ℕ, zero, suc, ◌-◌, ◌==◌, ◌||◌, Bool, false, not, List, [], ◌∷◌, ◌++◌, bytes_eq, codes, get_or, if◌then◌else◌, length, map, nat_lt, Option, None, Some}
+use Rattle.std.specs.Prelude.{ℕ, zero, suc, ◌-◌, ◌==◌, ◌||◌, ◌&&◌, Bool, true, false, not, List, [], ◌∷◌, ◌++◌, bytes_eq, codes, get_or, if◌then◌else◌, length, map, nat_lt, take, Option, None, Some}
+use Rattle.std.specs.List.{list_any}
 use Rattle.help_fronts.specs.Fronts.{FrontSaid, option_front}
 use Rattle.drafts.specs.Options.{key}
 
@@ -65,11 +66,25 @@ keeps_value f names = f.joint == 32 || bytes_eq (last_name names) (last_name f.n
 abbrev pub without_value : FrontSaid → FrontSaid
 without_value f = record f { values = []; joint = 32; value = None; is_optional = false }
 
+-- whether the last name stands before, too
+abbrev pub is_repeated : (names : List (List ℕ)) → Bool
+is_repeated names = list_any (bytes_eq (last_name names)) (take (length names - 1) names)
+
+-- a name without a value and with one, as in `--color, --color=WHEN`, and all others are free
+abbrev pub is_doubled : FrontSaid → (names : List (List ℕ)) → Bool
+is_doubled f names = f.joint == 61 && (length f.names - length names == 1 && is_repeated f.names)
+
 abbrev pub valued : FrontSaid → (names : List (List ℕ)) → FrontSaid
-valued f names = if keeps_value f names then f else without_value f
+valued f names =
+    if is_doubled f names then record f { is_optional = true }
+    else if keeps_value f names then f
+    else without_value f
 
 abbrev pub freed : FrontSaid → (names : List (List ℕ)) → FreeSaid
-freed f names = record { front = record (valued f names) { names = names }; is_whole = length names == length f.names }
+freed f names = record {
+  front = record (valued f names) { names = names };
+  is_whole = length names == length f.names || is_doubled f names;
+}
 
 abbrev pub free_front : (has seen : Has) → FrontSaid → FreeSaid
 free_front has seen f = freed f (free_names has seen f.names)

@@ -1,8 +1,8 @@
 -- How an option is written: by `short`, `long` and `value`, or else by `syntax`.
-use Rattle.std.specs.Prelude.{ℕ, ◌+◌, ◌==◌, ◌||◌, ◌&&◌, Bool, true, not, List, [], ◌∷◌, ◌++◌, bytes_eq, codes, drop, flat_map, fold, if◌then◌else◌, length, nat_le, nat_lt, take, Option, None, Some}
+use Rattle.std.specs.Prelude.{ℕ, ◌+◌, ◌==◌, ◌||◌, ◌&&◌, Bool, true, false, not, List, [], ◌∷◌, ◌++◌, bytes_eq, codes, drop, flat_map, fold, if◌then◌else◌, length, nat_le, nat_lt, take, Option, None, Some}
 use Rattle.std.specs.List.{list_all, list_any, slice_index}
 use Rattle.help_fronts.specs.Bytes.{is_bracket, is_dash, is_opening}
-use Rattle.help_fronts.specs.Fronts.{FrontSaid}
+use Rattle.help_fronts.specs.Fronts.{FrontSaid, first_value, is_value_optional}
 use Rattle.toml_pieces.specs.Toml.{escaped, optional_at}
 use Rattle.drafts.specs.Seen.{is_name, is_word, last}
 
@@ -95,6 +95,17 @@ abbrev pub values_syntax : (joint : ℕ) → (values : List (List ℕ)) → List
 values_syntax j [] = []
 values_syntax j (v ∷ vs) = joint_text j ++ (shown_value v ++ flat_map further_value vs)
 
+-- an optional value that has no brackets gets them
+abbrev pub lacks_brackets : FrontSaid → Bool
+lacks_brackets f = f.is_optional && not (is_value_optional (first_value f.values))
+
+abbrev pub in_brackets_if : Bool → (text : List ℕ) → List ℕ
+in_brackets_if false text = text
+in_brackets_if true text = codes "[" ++ (text ++ codes "]")
+
+abbrev pub shown_values : FrontSaid → List ℕ
+shown_values f = in_brackets_if (lacks_brackets f) (values_syntax f.joint f.values)
+
 abbrev pub further_name : (name : List ℕ) → List ℕ
 further_name n = codes ", " ++ escaped n
 
@@ -112,7 +123,7 @@ plain_spelling names value =
 abbrev pub syntax_spelling : FrontSaid → List ℕ
 syntax_spelling f =
     codes "syntax = \""
-    ++ (names_syntax f.names ++ (values_syntax f.joint f.values ++ codes "\"\n"))
+    ++ (names_syntax f.names ++ (shown_values f ++ codes "\"\n"))
 
 abbrev pub spelling : FrontSaid → List ℕ
 spelling f = if is_plain f then plain_spelling f.names f.value else syntax_spelling f

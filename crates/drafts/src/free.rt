@@ -1,5 +1,5 @@
 //! Names that are taken, and those of a line that are free.
-ghost use Rattle.std.specs.Prelude.{◌≡◌, IfOk, OnOk, flat_map, map};
+ghost use Rattle.std.specs.Prelude.{◌≡◌, IfOk, OnOk, bytes_eq, flat_map, map};
 ghost use Rattle.std.specs.List.{list_all, list_any};
 ghost use Rattle.help_fronts.specs.View.{said};
 ghost use Rattle.drafts.specs.Options as options;
@@ -112,6 +112,34 @@ fn keeps_value<A: Allocator>(front: &OptionFront<'_, A>, names: &[&str]) -> bool
     front.joint == b' ' || last_name(names) == last_name(&front.names)
 }
 
+fn is_one_of(name: &str, others: &[&str]) -> bool
+    ensures { result ≡ list_any (bytes_eq name.now) (map (λ n. n.now) others.now) }
+{
+    for other in others {
+        if name == *other {
+            return true;
+        }
+    }
+    false
+}
+
+// Whether the last name stands before, too.
+fn is_repeated(names: &[&str]) -> bool
+    ensures { result ≡ spec.is_repeated (map (λ n. n.now) names.now) }
+{
+    let (others, _) = names.split_at(names.len().saturating_sub(1));
+    is_one_of(last_name(names), others)
+}
+
+// Whether a name stands without a value and with one, and all others are free.
+fn is_doubled<A: Allocator>(front: &OptionFront<'_, A>, names: &[&str]) -> bool
+    ensures { result ≡ spec.is_doubled (said front.now) (map (λ n. n.now) names.now) }
+{
+    front.joint == b'='
+        && front.names.len().saturating_sub(names.len()) == 1
+        && is_repeated(&front.names)
+}
+
 fn valued<'a, A: Allocator + Copy>(
     alloc: A,
     front: OptionFront<'a, A>,
@@ -119,6 +147,12 @@ fn valued<'a, A: Allocator + Copy>(
 ) -> OptionFront<'a, A>
     ensures { said result ≡ spec.valued (said front.entry) (map (λ n. n.now) names.now) }
 {
+    if is_doubled(&front, names) {
+        return OptionFront {
+            is_optional: true,
+            ..front
+        };
+    }
     if keeps_value(&front, names) {
         return front;
     }
@@ -143,7 +177,7 @@ fn free_front<'a, A: Allocator + Copy>(
         ≡ spec.with_keys (held seen.old) (spec.front_keys (said front.entry))) }
 {
     let names = free_names(alloc, taken, seen, &front.names)?;
-    let is_whole = names.len() == front.names.len();
+    let is_whole = names.len() == front.names.len() || is_doubled(&front, &names);
     let front = valued(alloc, front, &names);
     let front = OptionFront { names, ..front };
     Ok(FreeFront { front, is_whole })

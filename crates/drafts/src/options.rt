@@ -8,7 +8,7 @@ ghost use Rattle.drafts.specs.Seen as seen;
 ghost use Rattle.drafts.specs.Options as spec;
 
 use crate::seen::{are_names, are_words, last_byte};
-use help_fronts::OptionFront;
+use help_fronts::{OptionFront, is_optional};
 use std::alloc::{AllocError, Allocator};
 use toml_pieces::{push_escaped, push_optional};
 
@@ -238,6 +238,31 @@ fn push_values_syntax<A: Allocator>(
     }
 }
 
+fn lacks_brackets<A: Allocator>(front: &OptionFront<'_, A>) -> bool
+    ensures { result ≡ spec.lacks_brackets (said front.now) }
+{
+    match front.values.as_slice() {
+        [] => front.is_optional,
+        [first, ..] => front.is_optional && !is_optional(first),
+    }
+}
+
+// An optional value that has no brackets gets them.
+fn push_shown_values<A: Allocator, B: Allocator>(
+    out: &mut String<A>,
+    front: &OptionFront<'_, B>,
+) -> Result<(), AllocError>
+    ensures { OnOk result (string_bytes out.new ≡ string_bytes out.old ++ spec.shown_values (said front.now)) }
+{
+    if lacks_brackets(front) {
+        out.push_str("[")?;
+        push_values_syntax(out, front.joint, &front.values)?;
+        out.push_str("]")
+    } else {
+        push_values_syntax(out, front.joint, &front.values)
+    }
+}
+
 fn push_further_names<A: Allocator>(out: &mut String<A>, names: &[&str]) -> Result<(), AllocError>
     ensures { OnOk result (string_bytes out.new
         ≡ string_bytes out.old ++ flat_map spec.further_name (map (λ n. n.now) names.now)) }
@@ -283,7 +308,7 @@ fn push_syntax<A: Allocator, B: Allocator>(
 {
     out.push_str("syntax = \"")?;
     push_names(out, &front.names)?;
-    push_values_syntax(out, front.joint, &front.values)?;
+    push_shown_values(out, front)?;
     out.push_str("\"\n")
 }
 
