@@ -5,6 +5,7 @@ use Rattle.help_fronts.specs.Bytes.{is_bracket, is_dash, is_opening}
 use Rattle.help_fronts.specs.Fronts.{FrontSaid, first_value, is_value_optional}
 use Rattle.toml_pieces.specs.Toml.{escaped, optional_at}
 use Rattle.drafts.specs.Seen.{is_name, is_word, last}
+use Rattle.drafts.specs.Notes.{behind}
 
 -- ---- names
 
@@ -113,6 +114,26 @@ abbrev pub names_syntax : (names : List (List ℕ)) → List ℕ
 names_syntax [] = []
 names_syntax (n ∷ ns) = escaped n ++ flat_map further_name ns
 
+abbrev pub behind_in : (beginning : List ℕ) → Option (List ℕ) → Option (List ℕ)
+behind_in beginning None = None
+behind_in beginning (Some text) = behind beginning text
+
+abbrev pub is_text : (text : List ℕ) → Option (List ℕ) → Bool
+is_text text None = false
+is_text text (Some found) = bytes_eq found text
+
+-- from one name to another, as `-0 ... -9`
+abbrev pub is_range_of : (first last written : List ℕ) → Bool
+is_range_of a b w = is_text b (behind_in (codes " ... ") (behind a w))
+
+abbrev pub is_range : (names : List (List ℕ)) → (written : List ℕ) → Bool
+is_range (a ∷ b ∷ []) w = is_range_of a b w
+is_range _ w = false
+
+-- a range as it stands
+abbrev pub shown_names : FrontSaid → List ℕ
+shown_names f = if is_range f.names f.written then escaped f.written else names_syntax f.names
+
 -- ---- the keys of an option
 
 abbrev pub plain_spelling : (names : List (List ℕ)) → (value : Option (List ℕ)) → List ℕ
@@ -123,7 +144,7 @@ plain_spelling names value =
 abbrev pub syntax_spelling : FrontSaid → List ℕ
 syntax_spelling f =
     codes "syntax = \""
-    ++ (names_syntax f.names ++ (shown_values f ++ codes "\"\n"))
+    ++ (shown_names f ++ (shown_values f ++ codes "\"\n"))
 
 abbrev pub spelling : FrontSaid → List ℕ
 spelling f = if is_plain f then plain_spelling f.names f.value else syntax_spelling f

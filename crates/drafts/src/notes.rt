@@ -102,7 +102,8 @@ fn note_of(kind: NoteKind, text: &str) -> Note<'_>
     }
 }
 
-fn behind<'a>(beginning: &str, text: &'a str) -> Option<&'a str>
+/// What stands behind a beginning, if a text has it.
+pub fn behind<'a>(beginning: &str, text: &'a str) -> Option<&'a str>
     ensures { text_of result ≡ spec.behind beginning.now text.now }
 {
     text.strip_prefix(beginning)

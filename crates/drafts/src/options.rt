@@ -8,6 +8,7 @@ ghost use Rattle.drafts.specs.Seen as seen;
 ghost use Rattle.drafts.specs.Options as spec;
 
 use crate::seen::{are_names, are_words, last_byte};
+use crate::notes::behind;
 use help_fronts::{OptionFront, is_optional};
 use std::alloc::{AllocError, Allocator};
 use toml_pieces::{push_escaped, push_optional};
@@ -287,6 +288,53 @@ fn push_names<A: Allocator>(out: &mut String<A>, names: &[&str]) -> Result<(), A
     }
 }
 
+fn behind_in<'a>(beginning: &str, text: Option<&'a str>) -> Option<&'a str>
+    ensures { text_of result ≡ spec.behind_in beginning.now (text_of text.entry) }
+{
+    match text {
+        None => None,
+        Some(text) => behind(beginning, text),
+    }
+}
+
+fn is_text(text: &str, found: Option<&str>) -> bool
+    ensures { result ≡ spec.is_text text.now (text_of found.entry) }
+{
+    match found {
+        None => false,
+        Some(found) => found == text,
+    }
+}
+
+// Whether the names are from one to another, as `-0 ... -9`.
+fn is_range_of(first: &str, last: &str, written: &str) -> bool
+    ensures { result ≡ spec.is_range_of first.now last.now written.now }
+{
+    is_text(last, behind_in(" ... ", behind(first, written)))
+}
+
+fn is_range(names: &[&str], written: &str) -> bool
+    ensures { result ≡ spec.is_range (map (λ n. n.now) names.now) written.now }
+{
+    match names {
+        [first, last] => is_range_of(first, last, written),
+        _ => false,
+    }
+}
+
+fn push_shown_names<A: Allocator, B: Allocator>(
+    out: &mut String<A>,
+    front: &OptionFront<'_, B>,
+) -> Result<(), AllocError>
+    ensures { OnOk result (string_bytes out.new ≡ string_bytes out.old ++ spec.shown_names (said front.now)) }
+{
+    if is_range(&front.names, front.written) {
+        push_escaped(out, front.written)
+    } else {
+        push_names(out, &front.names)
+    }
+}
+
 fn push_plain<A: Allocator>(
     out: &mut String<A>,
     names: &[&str],
@@ -307,7 +355,7 @@ fn push_syntax<A: Allocator, B: Allocator>(
     ensures { OnOk result (string_bytes out.new ≡ string_bytes out.old ++ spec.syntax_spelling (said front.now)) }
 {
     out.push_str("syntax = \"")?;
-    push_names(out, &front.names)?;
+    push_shown_names(out, front)?;
     push_shown_values(out, front)?;
     out.push_str("\"\n")
 }
