@@ -4,7 +4,7 @@ use help_blocks::{Block, Kind, blocks};
 use std::alloc::Global;
 use std::process::Abort;
 
-const ROWS: [(&[&str], &[(Kind, usize)]); 16] = [
+const ROWS: [(&[&str], &[(Kind, usize)]); 19] = [
     (&[], &[]),
     // arguments of an option are not those of the program
     (
@@ -150,6 +150,32 @@ const ROWS: [(&[&str], &[(Kind, usize)]); 16] = [
     (
         &["one", "", "two", "USAGE: three"],
         &[(Kind::Text, 2), (Kind::Text, 3), (Kind::Usage, 4)],
+    ),
+    // an empty line between a title and its options, and the end of a text
+    (
+        &["All is.", "Ordering options:", "", "  -b"],
+        &[(Kind::Text, 1), (Kind::Title, 3), (Kind::Option, 4)],
+    ),
+    (
+        &["All is,", "and so on:", "", "  -c"],
+        &[(Kind::Text, 3), (Kind::Option, 4)],
+    ),
+    // options as they are typed, and two names of one
+    (
+        &[
+            "It is:",
+            "--format=gnu -f- -b20",
+            "  -a",
+            "--size=n, -s n",
+            "--as=n -s n  help",
+        ],
+        &[
+            (Kind::Title, 1),
+            (Kind::Code, 2),
+            (Kind::Option, 3),
+            (Kind::Option, 4),
+            (Kind::Option, 5),
+        ],
     ),
     // tabulators
     (

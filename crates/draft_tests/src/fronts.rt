@@ -1,6 +1,8 @@
 //! What the front of a line says: each row is a line, and what is read of it.
 use bumpalo::Bump;
-use help_fronts::{CommandFront, OptionFront, command_front, option_front, usage_names};
+use help_fronts::{
+    CommandFront, OptionFront, UsageOption, command_front, option_front, usage_options,
+};
 use std::alloc::{AllocError, Allocator, Global};
 use std::process::Abort;
 
@@ -304,28 +306,100 @@ fn other_lines_have_no_commands(rt: HostRuntime) {
     }
 }
 
-// A line of a usage, and its names with a blank after each.
-const USAGES: [(&str, &str); 5] = [
-    ("usage: ssh [-46Aa] [-B bind_interface]", "-46Aa -B "),
+// A line of a usage, and each option in it: its name, the byte before its value, and that value.
+const USAGES: [(&str, &[(&str, u8, &str)]); 9] = [
     (
-        "git [-v | --version] [-C <path>] [--exec-path[=<path>]]",
-        "-v --version -C --exec-path ",
+        "usage: ssh [-46Aa] [-B bind_interface] [-D [address:]port]",
+        &[
+            ("-46Aa", b' ', ""),
+            ("-B", b' ', "bind_interface"),
+            ("-D", b' ', "[address:]port"),
+        ],
     ),
-    ("prog [-h] [--foo FOO] file [file ...]", "-h --foo "),
+    (
+        "git [-v | --version] [-C <path>] [-c <name>=<value>] [--exec-path[=<path>]] [--git-dir=<path>]",
+        &[
+            ("-v", b' ', ""),
+            ("--version", b' ', ""),
+            ("-C", b' ', "<path>"),
+            ("-c", b' ', "<name>=<value>"),
+            ("--exec-path", b'[', "[=<path>]"),
+            ("--git-dir", b'=', "<path>"),
+        ],
+    ),
+    (
+        "prog [-h] [--foo FOO] file [file ...]",
+        &[("-h", b' ', ""), ("--foo", b' ', "FOO")],
+    ),
     (
         "[-p|--paginate|-P] '-x' {-a,-b}",
-        "-p --paginate -P -x -a -b ",
+        &[
+            ("-p", b' ', ""),
+            ("--paginate", b' ', ""),
+            ("-P", b' ', ""),
+            ("-x", b' ', ""),
+            ("-a", b' ', ""),
+            ("-b", b' ', ""),
+        ],
     ),
-    ("prog a-b --", ""),
+    ("prog a-b --", &[]),
+    // a word in small letters is a value only where brackets or `|` end it
+    (
+        "a -o FILE -x file [-c cmd | -m mod] [-n one two] [--as=k|--by=<b>] -I<dir>",
+        &[
+            ("-o", b' ', "FILE"),
+            ("-x", b' ', ""),
+            ("-c", b' ', "cmd"),
+            ("-m", b' ', "mod"),
+            ("-n", b' ', ""),
+            ("--as", b'=', "k"),
+            ("--by", b'=', "<b>"),
+            ("-I", b'<', "<dir>"),
+        ],
+    ),
+    // an option is no value, also in brackets, and neither is what follows two blanks
+    (
+        "a [-b [-c]] -d  FILE [-e -f] -g",
+        &[
+            ("-b", b' ', ""),
+            ("-c", b' ', ""),
+            ("-d", b' ', ""),
+            ("-e", b' ', ""),
+            ("-f", b' ', ""),
+            ("-g", b' ', ""),
+        ],
+    ),
+    // an option of the program that runs a module
+    (
+        "usage: /bin/python3 -m pip [-m N] -m",
+        &[("-m", b' ', "N"), ("-m", b' ', "")],
+    ),
+    // more bytes than a value may have, the last two of one character
+    (
+        "-a XXXXXXXXXXXXXXXXXXXXXXXXXXXXXXXXXXXXXXXXXXXXXXXXXXXXXXXXXXXXXXXXXXXXXXXXXXXXXXXXXXXXXXXXXXXXXXXXXXXXXXXXXXXXXXXXXXXXXXXXXXXXXXXXXXXXXXXXXXXXXXXXXXXXXXXXXXXXXXXXXXXXXXXXXXXXXXXXXXXXXXXXXXXXXXXXXXXXXXXXÄ -b",
+        &[("-a", b' ', ""), ("-b", b' ', "")],
+    ),
 ];
 
-fn is_usage(rt: &impl Abort, out: Global, row: (&str, &str)) -> bool {
-    let (line, names) = row;
-    are_behind(&usage_names(out, line).expect(rt, "names"), names)
+fn are_used(found: &[UsageOption<'_>], wanted: &[(&str, u8, &str)]) -> bool {
+    if found.len() != wanted.len() {
+        return false;
+    }
+    for (option, row) in found.iter().zip(wanted) {
+        if option.name != row.0 || option.joint != row.1 || option.value != row.2 {
+            return false;
+        }
+    }
+    true
+}
+
+fn is_usage(rt: &impl Abort, out: Global, row: (&str, &[(&str, u8, &str)])) -> bool {
+    let (line, options) = row;
+    are_used(&usage_options(out, line).expect(rt, "options"), options)
 }
 
 #[test]
-fn names_of_usages_are_read(rt: HostRuntime) {
+fn options_of_usages_are_read(rt: HostRuntime) {
     for row in USAGES {
         assert!(rt; is_usage(&rt, rt.alloc(), row));
     }
@@ -347,7 +421,7 @@ impl Call {
         match self {
             Call::Option => Ok(has_option(option_front(alloc, "-a, -b, -c, -d, -e, -f X  help")?)),
             Call::Command => Ok(has_command(command_front(alloc, "a, b, c, d, e, f  help")?)),
-            Call::Usage => Ok(usage_names(alloc, "[-a] [-b] [-c] [-d] [-e] [-f]")?.len() == 6),
+            Call::Usage => Ok(usage_options(alloc, "[-a] [-b] [-c] [-d] [-e] [-f]")?.len() == 6),
         }
     }
 }

@@ -7,7 +7,7 @@ use help_differences::{
 use std::alloc::{AllocError, Allocator, Global};
 use std::process::Abort;
 
-const HELP: [&str; 16] = [
+const HELP: [&str; 19] = [
     "usage: prog [-h] [--foo FOO]",
     "            [--far]",
     "",
@@ -24,6 +24,9 @@ const HELP: [&str; 16] = [
     "  -h, --help  -x is none",
     "  -amin N -anewer FILE",
     "              help",
+    "",
+    "It is:",
+    "--format=gnu -b20",
 ];
 
 const NAMES: [(Kind, &str); 16] = [

@@ -37,7 +37,7 @@ const ROWS: &[(&str, &str)] = &[
     ),
     (
         "usage: a [-b] [--far <x>] [-b]\n\nText.\n",
-        "name = \"a\"\nabout = \"Text.\"\nusage = \"a [-b] [--far <x>] [-b]\"\n\n[[option]]\nshort = \"b\"\n\n[[option]]\nlong = \"far\"\n",
+        "name = \"a\"\nabout = \"Text.\"\nusage = \"a [-b] [--far <x>] [-b]\"\n\n[[option]]\nshort = \"b\"\n\n[[option]]\nlong = \"far\"\nvalue = \"x\"\n",
     ),
     // values as they stand
     (
@@ -108,6 +108,21 @@ const ROWS: &[(&str, &str)] = &[
     (
         "usage: a\n  --at N  where\n  -p, --at=there  place\n  --[dis]able  more\n  --able  less\n",
         "name = \"a\"\nusage = \"a\"\n\n[[option]]\nlong = \"at\"\nvalue = \"N\"\nhelp = \"where\"\n\n[[option]]\n# left out: -p, --at=there\nshort = \"p\"\nhelp = \"place\"\n\n[[option]]\nsyntax = \"--[dis]able\"\nhelp = \"more\"\n\n[[option]]\nlong = \"able\"\nhelp = \"less\"\n",
+    ),
+    // values in a usage, one of them unseen
+    (
+        "usage: a [-C <path>] [--color[=WHEN]] [-x | -y to] [-z \u{200b}] -ab N\n",
+        "name = \"a\"\nusage = \"a [-C <path>] [--color[=WHEN]] [-x | -y to] [-z \u{200b}] -ab N\"\n\n[[option]]\nshort = \"C\"\nvalue = \"path\"\n\n[[option]]\nsyntax = \"--color[=WHEN]\"\n\n[[option]]\nshort = \"x\"\n\n[[option]]\nshort = \"y\"\nvalue = \"to\"\n\n[[option]]\nshort = \"z\"\n\n[[option]]\nshort = \"a\"\n\n[[option]]\nshort = \"b\"\n",
+    ),
+    // a module of Python, a name with and without a value, and a range
+    (
+        "usage: python3 -m a [-x N]\n  --color, --color=WHEN  when\n  -0 ... -9  level\n",
+        "name = \"python3\"\nusage = \"python3 -m a [-x N]\"\n\n[[option]]\nsyntax = \"--color[=WHEN]\"\nhelp = \"when\"\n\n[[option]]\nsyntax = \"-0 ... -9\"\nhelp = \"level\"\n\n[[option]]\nshort = \"x\"\nvalue = \"N\"\n",
+    ),
+    // a title with an empty line above its options, and options as they are typed
+    (
+        "usage: a\nText.\nOrder options:\n\n  -x  more\n\nIt is:\n--format=gnu -b20\n",
+        "name = \"a\"\nabout = \"Text.\"\nusage = \"a\"\n\n[[group]]\ntitle = \"Order options\"\n\n[[group.option]]\nshort = \"x\"\nhelp = \"more\"\n\n[[topic]]\ntitle = \"It is\"\ntext = \"\"\"\n    --format=gnu -b20\"\"\"\n",
     ),
 ];
 
