@@ -17,6 +17,7 @@ mod Puts
 mod Roles
 mod Sections
 mod Standing
+mod Names
 mod Titles
 mod Trims
 mod Whole

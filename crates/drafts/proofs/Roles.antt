@@ -22,18 +22,19 @@ use Rattle.drafts.proofs.Trims.{is_nothing}
 abbrev pub IsTitle : PassageSaid → Type 0
 IsTitle p = (is_title p.kind ≡ true) × (is_empty p.lines ≡ false)
 
-abbrev Needs : PassageSaid → (own above : Part) → Role → Type 0
-Needs p own above role.Nothing = p.lines ≡ []
-Needs p own above role.InTopic = (is_title p.kind ≡ false) × (own ≡ part.Topic)
-Needs p own above role.Member = above ≡ part.Group
-Needs p own above role.Topic = IsTitle p
-Needs p own above role.Group = IsTitle p
-Needs p own above role.Usual = IsTitle p
-Needs p own above _ = Unit {0}
+abbrev Needs : MarkedSaid → (own above : Part) → Role → Type 0
+Needs m own above role.Nothing = m.passage.lines ≡ []
+Needs m own above role.InTopic = (is_title m.passage.kind ≡ false) × (own ≡ part.Topic)
+Needs m own above role.Entry = m.is_written ≡ true
+Needs m own above role.Member = (above ≡ part.Group) × (m.is_written ≡ true)
+Needs m own above role.Topic = IsTitle m.passage
+Needs m own above role.Group = IsTitle m.passage
+Needs m own above role.Usual = IsTitle m.passage
+Needs m own above _ = Unit {0}
 
 module _ (own : Part) (m : MarkedSaid) (a : Above) where
   abbrev Has : Role → Type 0
-  Has r = Needs m.passage own a.part r
+  Has r = Needs m own a.part r
 
   around : Has (around_lists a)
   around = by a.has_entry where
@@ -41,13 +42,13 @@ module _ (own : Part) (m : MarkedSaid) (a : Above) where
     by true = tt
     by false = tt
 
-  of_entry : (p : Part) (written : Bool) → a.part ≡ p → Has (entry_role p written)
-  of_entry p false e = tt
-  of_entry part.First true e = tt
-  of_entry part.Group true e = e
-  of_entry part.List true e = tt
-  of_entry part.Topic true e = tt
-  of_entry part.Loose true e = tt
+  of_entry : (p : Part) (written : Bool) → a.part ≡ p → m.is_written ≡ written → Has (entry_role p written)
+  of_entry p false e w = tt
+  of_entry part.First true e w = w
+  of_entry part.Group true e w = (e, w)
+  of_entry part.List true e w = w
+  of_entry part.Topic true e w = w
+  of_entry part.Loose true e w = w
 
   of_list_title : (usual heading : Bool) → IsTitle m.passage → Has (cond usual role.Usual (cond heading role.LeftOut (around_lists a)))
   of_list_title true heading t = t
@@ -75,9 +76,9 @@ module _ (own : Part) (m : MarkedSaid) (a : Above) where
   of_kind : (k : Kind) → m.passage.kind ≡ k → is_empty m.passage.lines ≡ false → Has (kind_role k own m a)
   of_kind kind.Usage e some = tt
   of_kind kind.Title e some = of_title own _ (ap is_title e, some)
-  of_kind kind.Option e some = of_entry a.part m.is_written refl
-  of_kind kind.Command e some = of_entry a.part m.is_written refl
-  of_kind kind.Value e some = of_entry a.part m.is_written refl
+  of_kind kind.Option e some = of_entry a.part m.is_written refl refl
+  of_kind kind.Command e some = of_entry a.part m.is_written refl refl
+  of_kind kind.Value e some = of_entry a.part m.is_written refl refl
   of_kind kind.Text e some = of_text own _ refl (ap is_title e)
   of_kind kind.Code e some = of_text own _ refl (ap is_title e)
 
@@ -87,6 +88,13 @@ module _ (own : Part) (m : MarkedSaid) (a : Above) where
     by true permitted e = nil_from_length m.passage.lines (is_nothing (length m.passage.lines) e)
     by false true e = of_kind m.passage.kind refl e
     by false false e = tt
+
+-- an entry is written
+pub written_entry : (m : MarkedSaid) (own : Part) (a : Above) → role_in own m a ≡ role.Entry → m.is_written ≡ true
+written_entry m own a e = subst (Needs m own a.part) e (has_needed own m a)
+
+pub written_member : (m : MarkedSaid) (own : Part) (a : Above) → role_in own m a ≡ role.Member → m.is_written ≡ true
+written_member m own a e = (subst (Needs m own a.part) e (has_needed own m a)).1
 
 -- ---- what a title begins
 
@@ -167,11 +175,11 @@ AllFit t (p ∷ ps) = Fits t p × AllFit (title_after t p) ps
 one_fits : (t : Role) (a : Above) (m : MarkedSaid) (ms : List MarkedSaid) → Begins t a.part → Fits t (placed_here m ms a)
 one_fits t a m ms begins =
     let own = own_part m ms a in
-    let Has' : Role → Type 0 = Needs m.passage own a.part in
+    let Has' : Role → Type 0 = Needs m own a.part in
     let has = has_needed own m a in record {
       nothing = λ e. subst Has' e has;
       in_topic = λ e. let n = subst Has' e has in (begins.0 (still (ends_topic m.passage a) a.part (sym (ap (λ b. own_by b m ms a) n.0) ∙ n.1)), n.0);
-      member = λ e. begins.1 (subst Has' e has);
+      member = λ e. begins.1 (subst Has' e has).0;
       topic = λ e. subst Has' e has;
       group = λ e. subst Has' e has;
       usual = λ e. subst Has' e has;

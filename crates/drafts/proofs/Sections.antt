@@ -1,5 +1,5 @@
 -- The sections of a draft: they are the draft, and each line is in one of them.
-use Rattle.std.proofs.Common.{◌≡◌, ℕ, ◌+◌, Bool, true, false, cond, List, [], ◌∷◌, ◌++◌, append_assoc, append-nil, codes, count_by, filter, flat_map, refl, subst, sym, ap, ◌∙◌, arith, true≢false}
+use Rattle.std.proofs.Common.{◌≡◌, ℕ, ◌+◌, Bool, true, false, cond, List, [], ◌∷◌, ◌++◌, append_assoc, codes, count_by, filter, flat_map, refl, subst, sym, ap, ◌∙◌, arith, true≢false}
 use Rattle.std.proofs.lemmas.List.Elements.{filter-append}
 use Rattle.std.proofs.lemmas.List.Sums.{sum_by-append}
 use Rattle.toml_pieces.specs.Toml.{text_at, word_at}
@@ -50,38 +50,35 @@ text_sections ps =
     section (lines_for text.About ps) (text_at (codes "about") (gathered text.About ps)) ∷ section (usage_lines ps) (text_at (codes "usage") (usage_pieces (forms ps)))
     ∷ section (lines_for text.Header ps) (text_at (codes "header") (gathered text.Header ps)) ∷ section (lines_for text.Footer ps) (text_at (codes "footer") (gathered text.Footer ps)) ∷ []
 
-abbrev pub sections : List PlacedSaid → (name : List ℕ) → List Section
-sections ps name =
-    section [] (word_at (codes "name") name) ∷ (text_sections ps ++ (table_sections none_taken ps ++ section [] (last_tables (taken_from none_taken ps) ps) ∷ []))
+abbrev pub sections : List PlacedSaid → List Section
+sections ps = text_sections ps ++ table_sections none_taken ps
 
 -- ---- they are the draft
 
 abbrev pub lines_in : List Section → List (List ℕ)
 lines_in = flat_map (λ s. s.lines)
 
-abbrev text_of : List Section → List ℕ
+abbrev pub text_of : List Section → List ℕ
 text_of = flat_map (λ s. s.text)
 
-then_last : (has : Has) (ps : List PlacedSaid) (last : List ℕ) → text_of (table_sections has ps ++ section [] last ∷ []) ≡ tables has ps ++ last
-then_last has [] last = append-nil last
-then_last has (p ∷ ps) last =
-    let here = placed_text has p.role p.passage ps in
-    let after = after_role has p.role p.passage in
-    ap (λ t. here ++ t) (then_last after ps last) ∙ sym (append_assoc here (tables after ps) last)
+all_tables : (has : Has) (ps : List PlacedSaid) → text_of (table_sections has ps) ≡ tables has ps
+all_tables has [] = refl
+all_tables has (p ∷ ps) = ap (λ t. placed_text has p.role p.passage ps ++ t) (all_tables (after_role has p.role p.passage) ps)
 
-four_parts : (a b c d rest : List ℕ) → a ++ (b ++ (c ++ (d ++ rest))) ≡ (a ++ (b ++ (c ++ d))) ++ rest
-four_parts a b c d rest =
-    ap (λ t. a ++ (b ++ t)) (sym (append_assoc c d rest)) ∙ ap (λ t. a ++ t) (sym (append_assoc b (c ++ d) rest)) ∙ sym (append_assoc a (b ++ (c ++ d)) rest)
+five_parts : (a b c d rest last : List ℕ) → (a ++ (b ++ (c ++ d))) ++ (rest ++ last) ≡ (a ++ (b ++ (c ++ (d ++ rest)))) ++ last
+five_parts a b c d rest last =
+    sym (append_assoc (a ++ (b ++ (c ++ d))) rest last)
+    ∙ ap (λ t. t ++ last) (append_assoc a (b ++ (c ++ d)) rest ∙ ap (λ t. a ++ t) (append_assoc b (c ++ d) rest ∙ ap (λ t. b ++ t) (append_assoc c d rest)))
 
-pub sections_are_draft : (ps : List PlacedSaid) (name : List ℕ) → draft_of ps name ≡ text_of (sections ps name)
+pub sections_are_draft : (ps : List PlacedSaid) (name : List ℕ) → draft_of ps name ≡ word_at (codes "name") name ++ (text_of (sections ps) ++ last_tables (taken_from none_taken ps) ps)
 sections_are_draft ps name =
-    let rest : List ℕ = tables none_taken ps ++ last_tables (taken_from none_taken ps) ps in
     let about = text_at (codes "about") (gathered text.About ps) in
     let usage = text_at (codes "usage") (usage_pieces (forms ps)) in
     let header = text_at (codes "header") (gathered text.Header ps) in
     let footer = text_at (codes "footer") (gathered text.Footer ps) in
+    let last = last_tables (taken_from none_taken ps) ps in
     ap (λ t. word_at (codes "name") name ++ t)
-    (sym (four_parts about usage header footer rest) ∙ ap (λ t. about ++ (usage ++ (header ++ (footer ++ t)))) (sym (then_last none_taken ps (last_tables (taken_from none_taken ps) ps))))
+    (five_parts about usage header footer (tables none_taken ps) last ∙ ap (λ t. (about ++ (usage ++ (header ++ (footer ++ t)))) ++ last) (sym (all_tables none_taken ps)))
 
 -- ---- each line is in one of them
 

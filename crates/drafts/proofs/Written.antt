@@ -1,23 +1,24 @@
 -- Each line of a help text is in one section of its draft, and written there.
-use Rattle.std.proofs.Common.{◌≡◌, ℕ, Bool, true, false, cond, List, [], ◌∷◌, ◌++◌, All, IsUtf8, append-nil, codes, count_by, drop, filter, flat_map, map, refl, subst, sym, ap, ◌∙◌, arith}
+use Rattle.std.proofs.Common.{Contains, ◌≡◌, ℕ, Bool, true, false, cond, List, [], ◌∷◌, ◌++◌, All, IsUtf8, codes, count_by, drop, filter, flat_map, map, refl, subst, sym, ap, ◌∙◌, arith}
 use Rattle.std.specs.Char.{is_not_whitespace}
 use Rattle.std.specs.Str.{trim}
 use Rattle.std.proofs.lemmas.Grind.{flat_map-append}
-use Rattle.std.proofs.lemmas.List.Elements.{All-append, All-cons, All-filter, All-head, All-map, All-nil, All-tail, All-weaker, Contains-append_left, Contains-append_right}
+use Rattle.std.proofs.lemmas.List.Elements.{All-append, All-cons, All-filter, All-head, All-nil, All-tail, All-weaker, Contains-append_left, Contains-append_right}
 use Rattle.std.proofs.lemmas.Str.{chars-IsAscii}
 use Rattle.std.proofs.lemmas.Str.Ascii.{IsAscii-nil}
 use Rattle.help_blocks.specs.Laws.{EachLineIsInABlock}
-use Rattle.toml_pieces.specs.Toml.{text_at, word_at}
+use Rattle.toml_pieces.specs.Toml.{text_at}
 use Rattle.shown_letters.specs.Terminal.{shown_letters}
-use Rattle.drafts.specs.Drafts.{after_role, below_title, draft_of, gathered, is_in, last_tables, placed_text, spaced, taken_from}
+use Rattle.drafts.specs.Drafts.{after_role, below_title, draft_of, gathered, is_in, placed_text, spaced, taken_from}
+use Rattle.drafts.specs.Entries.{entry_table}
 use Rattle.drafts.specs.Free.{Has, none_taken}
 use Rattle.drafts.specs.Laws.{letters, piece_letters, title_after}
 use Rattle.drafts.specs.Passages.{PassageSaid, first_line, lines_in as lines_of, passages}
-use Rattle.drafts.specs.Places.{PlacedSaid, is_title, is_usage_role, placed}
-use Rattle.drafts.specs.Sections.{HaveLetters, IsDraftOf, IsWrittenAs, Section, StandsIn, title_at}
+use Rattle.drafts.specs.Places.{PlacedSaid, TakenSaid, is_title, is_usage_role, nothing_above, nothing_taken, placed, taken_after}
+use Rattle.drafts.specs.Sections.{HaveLetters, IsDraftOf, IsWrittenAs, Section, StandsIn, forms_of, text_keys, title_at}
 use Rattle.drafts.specs.Sections as written
 use Rattle.drafts.specs.Texts.{empty_piece, passage_pieces}
-use Rattle.drafts.specs.Usages.{FormSaid, first_form, form_piece, forms, further_form, is_inked as has_letters, line_forms, mark, usage_pieces}
+use Rattle.drafts.specs.Usages.{placed_forms, FormSaid, first_form, forms, further_form, is_inked as has_letters, line_forms, placed_forms, usage_pieces}
 use Rattle.drafts.specs.declared.drafted.Text.{Text}
 use Rattle.drafts.specs.declared.drafted.Text.TheVariants as text
 use Rattle.drafts.specs.declared.places.Role.{Role}
@@ -28,6 +29,7 @@ use Rattle.drafts.proofs.Lines.{lines_are_utf8}
 use Rattle.drafts.proofs.Placing.{each_is_placed}
 use Rattle.drafts.proofs.Roles.{AllFit, IsTitle, all_fit}
 use Rattle.drafts.proofs.Sections.{N, both, counted, lines_for, lines_in, no_topic, own_lines, section, sections, sections_are_draft, table_sections, topic_lines, usage_lines}
+use Rattle.drafts.proofs.Names.{AllTaken, IsTaken, all_taken}
 use Rattle.drafts.proofs.Titles.{OneLine, TitlesAreLines, titles_are_lines}
 use Rattle.drafts.proofs.Whole.{FollowIn, each_line_is_placed, passages_follow}
 
@@ -83,8 +85,8 @@ spaced_letters t (p ∷ ps) h = by (is_in t p.role) (spaced_letters t ps h.2) wh
 gathered_letters : (t : Text) (ps : List PlacedSaid) → AreFine ps → HaveLetters (lines_for t ps) (gathered t ps)
 gathered_letters t ps h = without_first t ps ∙ spaced_letters t ps h
 
-in_key : (key : List ℕ) (t : Text) (ps : List PlacedSaid) → AreFine ps → IsWrittenAs (lines_for t ps) (text_at key (gathered t ps))
-in_key key t ps h = written.value_of key (gathered t ps) refl (gathered_letters t ps h)
+in_key : (key : List ℕ) (t : Text) (ps : List PlacedSaid) → Contains text_keys key → AreFine ps → IsWrittenAs (lines_for t ps) (text_at key (gathered t ps))
+in_key key t ps one h = written.value_of key (gathered t ps) one refl (gathered_letters t ps h)
 
 -- ---- the usage
 
@@ -109,98 +111,118 @@ forms_in (l ∷ ls) utf8 =
     All-cons (FormIn (l ∷ ls)) (first_form l) (map further_form ls) (l, (0, omega arith, refl), (forms_stand_in_their_line l (All-head IsUtf8 l ls utf8)).0.text)
     (All-weaker (FormIn ls) (FormIn (l ∷ ls)) (λ f. in_rest (l ∷ []) ls f.text) (map further_form ls) (further_in ls (All-tail IsUtf8 l ls utf8)))
 
-all_forms_in : (ps : List PlacedSaid) → AreFine ps → All (FormIn (usage_lines ps)) (forms ps)
-all_forms_in [] h = All-nil (FormIn [])
-all_forms_in (p ∷ ps) h = by (is_usage_role p.role) (all_forms_in ps h.2) where
-  by : (b : Bool) → All (FormIn (usage_lines ps)) (forms ps) → All (FormIn (cond b p.passage.lines [] ++ usage_lines ps)) (cond b (filter has_letters (line_forms p.passage.lines)) [] ++ forms ps)
-  by true more =
-      let own = p.passage.lines in
-      let all = own ++ usage_lines ps in
-      All-append (FormIn all) (filter has_letters (line_forms own)) (forms ps)
-      (All-filter has_letters (FormIn all) (line_forms own) (All-weaker (FormIn own) (FormIn all) (λ f. in_front own (usage_lines ps) f.text) (line_forms own) (forms_in own h.1)))
-      (All-weaker (FormIn (usage_lines ps)) (FormIn all) (λ f. in_rest own (usage_lines ps) f.text) (forms ps) more)
+-- those of all usages stand in the lines of the text
+all_forms_in : (lines : List (List ℕ)) (ps : List PlacedSaid) → FollowIn lines (map (λ p. p.passage) ps) → AreFine ps → All (FormIn lines) (forms ps)
+all_forms_in lines [] follow h = All-nil (FormIn lines)
+all_forms_in lines (p ∷ ps) follow h =
+    let own = p.passage.lines in
+    let rest = follow.0 ++ follow.1 in
+    let later : All (FormIn (own ++ rest)) (forms ps) =
+    All-weaker (FormIn follow.1) (FormIn (own ++ rest)) (λ f g. in_rest own rest f.text (in_rest follow.0 follow.1 f.text g)) (forms ps) (all_forms_in follow.1 ps follow.4 h.2) in
+    subst (λ ls. All (FormIn ls) (forms (p ∷ ps))) (sym follow.2) (All-append (FormIn (own ++ rest)) (placed_forms p) (forms ps) (by (is_usage_role p.role)) later) where
+      by : (b : Bool) → All (FormIn (p.passage.lines ++ (follow.0 ++ follow.1))) (cond b (filter has_letters (line_forms p.passage.lines)) [])
+      by true =
+          let own = p.passage.lines in
+          let all = own ++ (follow.0 ++ follow.1) in
+          All-filter has_letters (FormIn all) (line_forms own) (All-weaker (FormIn own) (FormIn all) (λ f. in_front own (follow.0 ++ follow.1) f.text) (line_forms own) (forms_in own h.1))
+      by false = All-nil (FormIn (p.passage.lines ++ (follow.0 ++ follow.1)))
+
+-- the lines of each usage
+abbrev each_usage : List PlacedSaid → List (List (List ℕ))
+each_usage [] = []
+each_usage (p ∷ ps) = cond (is_usage_role p.role) (p.passage.lines ∷ []) [] ++ each_usage ps
+
+usage_lines_are : (ps : List PlacedSaid) → usage_lines ps ≡ flat_map (λ own. own) (each_usage ps)
+usage_lines_are [] = refl
+usage_lines_are (p ∷ ps) = by (is_usage_role p.role) (usage_lines_are ps) where
+  by : (b : Bool) → usage_lines ps ≡ flat_map (λ own. own) (each_usage ps) → cond b p.passage.lines [] ++ usage_lines ps ≡ flat_map (λ own. own) (cond b (p.passage.lines ∷ []) [] ++ each_usage ps)
+  by true more = ap (λ ls. p.passage.lines ++ ls) more
   by false more = more
 
-in_usage : (ps : List PlacedSaid) → AreFine ps → IsWrittenAs (usage_lines ps) (text_at (codes "usage") (usage_pieces (forms ps)))
-in_usage ps h =
-    written.usage (usage_pieces (forms ps)) refl (All-map (λ piece. StandsIn (usage_lines ps) piece.text) (form_piece (mark (forms ps))) (forms ps) (all_forms_in ps h))
+forms_are : (ps : List PlacedSaid) → forms ps ≡ flat_map forms_of (each_usage ps)
+forms_are [] = refl
+forms_are (p ∷ ps) = by (is_usage_role p.role) (forms_are ps) where
+  by : (b : Bool) → forms ps ≡ flat_map forms_of (each_usage ps) → cond b (filter has_letters (line_forms p.passage.lines)) [] ++ forms ps ≡ flat_map forms_of (cond b (p.passage.lines ∷ []) [] ++ each_usage ps)
+  by true more = ap (λ fs. forms_of p.passage.lines ++ fs) more
+  by false more = more
+
+in_usage : (ps : List PlacedSaid) → IsWrittenAs (usage_lines ps) (text_at (codes "usage") (usage_pieces (forms ps)))
+in_usage ps = written.usages (each_usage ps) (usage_lines_are ps) (ap (λ fs. text_at (codes "usage") (usage_pieces fs)) (forms_are ps))
 
 -- ---- tables and comments
 
 title_line : (p : PlacedSaid) → (is_title p.passage.kind ≡ true → OneLine p.passage.lines) → IsTitle p.passage → (line : List ℕ) × (p.passage.lines ≡ line ∷ [])
 title_line p one title = one title.0 title.1
 
-table_written : (t : Role) (has : Has) (p : PlacedSaid) (ps : List PlacedSaid) → AllFit t (p ∷ ps) → AreFine (p ∷ ps) → IsWrittenAs (own_lines p.role p.passage ps) (placed_text has p.role p.passage ps)
-table_written t has p ps fit h = by p.role refl where
+table_written : (title : Role) (t : TakenSaid) (has : Has) (p : PlacedSaid) (ps : List PlacedSaid) → AllFit title (p ∷ ps) → IsTaken t has p → AreFine (p ∷ ps) → IsWrittenAs (own_lines p.role p.passage ps) (placed_text has p.role p.passage ps)
+table_written title t has p ps fit taken h = by p.role refl where
   by : (r : Role) → p.role ≡ r → IsWrittenAs (own_lines r p.passage ps) (placed_text has r p.passage ps)
-  by role.Nothing e = written.of_none refl
-  by role.Usage e = written.of_none refl
-  by role.About e = written.of_none refl
-  by role.Header e = written.of_none refl
-  by role.Footer e = written.of_none refl
-  by role.InTopic e = written.of_none refl
+  by role.Nothing e = written.nothing refl refl
+  by role.Usage e = written.nothing refl refl
+  by role.About e = written.nothing refl refl
+  by role.Header e = written.nothing refl refl
+  by role.Footer e = written.nothing refl refl
+  by role.InTopic e = written.nothing refl refl
   by role.Topic e =
       let one = title_line p h.0 (fit.0.topic e) in
       written.topic one.0 (topic_lines ps) (gathered text.Topic (below_title ps)) (ap (λ ls. ls ++ topic_lines ps) one.1)
       (ap (λ ls. title_at (codes "topic") (first_line ls) ++ text_at (codes "text") (gathered text.Topic (below_title ps))) one.1) (gathered_letters text.Topic (below_title ps) (fine_below ps h.2))
   by role.Group e = let one = title_line p h.0 (fit.0.group e) in written.group one.0 one.1 (ap (λ ls. title_at (codes "group") (first_line ls)) one.1)
   by role.Usual e = let one = title_line p h.0 (fit.0.usual e) in written.usual_title one.0 one.1 (ap (λ ls. codes "\n# " ++ (trim (first_line ls) ++ codes "\n")) one.1)
-  by role.Entry e = written.entry has false p.passage refl refl
-  by role.Member e = written.entry has true p.passage refl refl
+  by role.Entry e = written.entry t false p.passage refl (taken.entry e) (ap (λ h. entry_table h false p.passage) taken.same)
+  by role.Member e = written.entry t true p.passage refl (taken.member e) (ap (λ h. entry_table h true p.passage) taken.same)
   by role.LeftOut e = written.left_out_lines refl
 
 abbrev Written : Section → Type 0
 Written s = IsWrittenAs s.lines s.text
 
-tables_written : (t : Role) (has : Has) (ps : List PlacedSaid) → AllFit t ps → AreFine ps → All Written (table_sections has ps)
-tables_written t has [] fit h = All-nil Written
-tables_written t has (p ∷ ps) fit h =
+tables_written : (title : Role) (t : TakenSaid) (has : Has) (ps : List PlacedSaid) → AllFit title ps → AllTaken t has ps → AreFine ps → All Written (table_sections has ps)
+tables_written title t has [] fit taken h = All-nil Written
+tables_written title t has (p ∷ ps) fit taken h =
     let after = after_role has p.role p.passage in
-    All-cons Written (section (own_lines p.role p.passage ps) (placed_text has p.role p.passage ps)) (table_sections after ps) (table_written t has p ps fit h)
-    (tables_written (title_after t p) after ps fit.1 h.2)
+    All-cons Written (section (own_lines p.role p.passage ps) (placed_text has p.role p.passage ps)) (table_sections after ps) (table_written title t has p ps fit taken.0 h)
+    (tables_written (title_after title p) (taken_after t p.passage) after ps fit.1 taken.1 h.2)
 
 -- ---- the whole
 
-all_written : (t : Role) (ps : List PlacedSaid) (name : List ℕ) → AllFit t ps → AreFine ps → All Written (sections ps name)
-all_written t ps name fit h =
-    let tables = table_sections none_taken ps in
-    let last = section [] (last_tables (taken_from none_taken ps) ps) in
+all_written : (title : Role) (t : TakenSaid) (ps : List PlacedSaid) → AllFit title ps → AllTaken t none_taken ps → AreFine ps → All Written (sections ps)
+all_written title t ps fit taken h =
     let about = section (lines_for text.About ps) (text_at (codes "about") (gathered text.About ps)) in
     let usage = section (usage_lines ps) (text_at (codes "usage") (usage_pieces (forms ps))) in
     let header = section (lines_for text.Header ps) (text_at (codes "header") (gathered text.Header ps)) in
     let footer = section (lines_for text.Footer ps) (text_at (codes "footer") (gathered text.Footer ps)) in
-    let rest = tables ++ last ∷ [] in
-    All-cons Written (section [] (word_at (codes "name") name)) (about ∷ usage ∷ header ∷ footer ∷ rest) (written.of_none refl)
-    (All-cons Written about (usage ∷ header ∷ footer ∷ rest) (in_key (codes "about") text.About ps h)
-    (All-cons Written usage (header ∷ footer ∷ rest) (in_usage ps h)
-    (All-cons Written header (footer ∷ rest) (in_key (codes "header") text.Header ps h)
-    (All-cons Written footer rest (in_key (codes "footer") text.Footer ps h)
-    (All-append Written tables (last ∷ []) (tables_written t none_taken ps fit h) (All-cons Written last [] (written.of_none refl) (All-nil Written)))))))
+    let tables = table_sections none_taken ps in
+    All-cons Written about (usage ∷ header ∷ footer ∷ tables) (in_key (codes "about") text.About ps (0, omega arith, refl) h)
+    (All-cons Written usage (header ∷ footer ∷ tables) (in_usage ps)
+    (All-cons Written header (footer ∷ tables) (in_key (codes "header") text.Header ps (1, omega arith, refl) h)
+    (All-cons Written footer tables (in_key (codes "footer") text.Footer ps (2, omega arith, refl) h) (tables_written title t none_taken ps fit taken h))))
 
-same_number : (test : List ℕ → Bool) (t : Role) (ps : List PlacedSaid) (name : List ℕ) → (t ≡ role.Topic → ⊥) → AllFit t ps → N test (lines_in (sections ps name)) ≡ N test (flat_map (λ p. p.passage.lines) ps)
-same_number test t ps name none fit =
+same_number : (test : List ℕ → Bool) (t : Role) (ps : List PlacedSaid) → (t ≡ role.Topic → ⊥) → AllFit t ps → N test (lines_in (sections ps)) ≡ N test (flat_map (λ p. p.passage.lines) ps)
+same_number test t ps none fit =
     let about = lines_for text.About ps in
     let usage = usage_lines ps in
     let header = lines_for text.Header ps in
     let footer = lines_for text.Footer ps in
-    let tables = table_sections none_taken ps in
-    let last = section [] (last_tables (taken_from none_taken ps) ps) ∷ [] in
-    let rest = lines_in (tables ++ last) in
-    let own : N test rest ≡ N test (lines_in tables) = ap (N test) (flat_map-append (λ s. s.lines) tables last ∙ append-nil (lines_in tables)) in
+    let rest = lines_in (table_sections none_taken ps) in
     let above : N test (topic_lines ps) ≡ 0 = ap (N test) (no_topic t ps none fit) in
-    omega (arith, both test about (usage ++ (header ++ (footer ++ rest))), both test usage (header ++ (footer ++ rest)), both test header (footer ++ rest), both test footer rest, own, above, counted test t none_taken ps fit)
+    omega (arith, both test about (usage ++ (header ++ (footer ++ rest))), both test usage (header ++ (footer ++ rest)), both test header (footer ++ rest), both test footer rest, above, counted test t none_taken ps fit)
 
 pub is_draft : EachLineIsInABlock → (lines : List (List ℕ)) (name : List ℕ) → All IsUtf8 lines → IsDraftOf lines (draft_of (placed (passages lines)) name)
 is_draft in_blocks lines name utf8 =
     let ps = placed (passages lines) in
     let same : passages lines ≡ map (λ p. p.passage) ps = sym (each_is_placed (passages lines)) in
     let fit = all_fit (passages lines) in
-    let are_fine = fine lines ps (subst (FollowIn lines) same (passages_follow in_blocks lines)) (subst TitlesAreLines same (titles_are_lines in_blocks lines)) utf8 in
+    let follow = subst (FollowIn lines) same (passages_follow in_blocks lines) in
+    let are_fine = fine lines ps follow (subst TitlesAreLines same (titles_are_lines in_blocks lines)) utf8 in
     record {
-      sections = sections ps name;
+      name = name;
+      sections = sections ps;
+      has = taken_from none_taken ps;
+      forms = forms ps;
       whole = sections_are_draft ps name;
-      once = λ test. same_number test role.Nothing ps name (λ e. cc) fit ∙ ap (count_by test) (each_line_is_placed in_blocks lines);
-      written = all_written role.Nothing ps name fit are_fine;
+      once = λ test. same_number test role.Nothing ps (λ e. cc) fit ∙ ap (count_by test) (each_line_is_placed in_blocks lines);
+      written = all_written role.Nothing nothing_taken ps fit (all_taken nothing_taken none_taken nothing_above (passages lines) refl) are_fine;
+      stand = all_forms_in lines ps follow are_fine;
     }
 
 -- step by step

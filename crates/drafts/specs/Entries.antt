@@ -78,13 +78,13 @@ option_table in_group below is_last f =
     table (table_name in_group (codes "option")) ++ (left_out_if (not f.is_whole) f.front.written
     ++ (spelling f.front ++ help_if is_last below f.front))
 
-abbrev pub is_none : List FreeSaid → Bool
-is_none [] = true
-is_none (f ∷ fs) = false
+abbrev pub has_none : List FreeSaid → Bool
+has_none [] = true
+has_none (f ∷ fs) = false
 
 abbrev pub option_tables : (in_group : Bool) → (below : List (List ℕ)) → List FreeSaid → List ℕ
 option_tables in_group below [] = []
-option_tables in_group below (f ∷ fs) = option_table in_group below (is_none fs) f ++ option_tables in_group below fs
+option_tables in_group below (f ∷ fs) = option_table in_group below (has_none fs) f ++ option_tables in_group below fs
 
 abbrev pub command_table : (in_group : Bool) → (below : List (List ℕ)) → Option CommandSaid → List ℕ
 command_table in_group below None = []
@@ -130,7 +130,7 @@ abbrev pub is_writable : FreeSaid → Bool
 is_writable f = is_good f.front && has_name f
 
 abbrev pub option_keys : List FreeSaid → Option (List (List ℕ))
-option_keys fs = if list_all is_writable fs then Some (flat_map free_keys fs) else None
+option_keys fs = if not (has_none fs) && list_all is_writable fs then Some (flat_map free_keys fs) else None
 
 -- no name stands twice
 abbrev pub are_distinct : Has → (keys : List (List ℕ)) → Bool

@@ -188,9 +188,8 @@ fn push_option<A: Allocator + Copy, B: Allocator>(
     push_help_if(alloc, out, is_last, &free.front, below)
 }
 
-// Whether none is left.
-fn is_none<A: Allocator>(fronts: &[FreeFront<'_, A>]) -> bool
-    ensures { result ≡ spec.is_none (map free_said fronts.now) }
+fn has_none<A: Allocator>(fronts: &[FreeFront<'_, A>]) -> bool
+    ensures { result ≡ spec.has_none (map free_said fronts.now) }
 {
     match fronts {
         [] => true,
@@ -210,7 +209,7 @@ fn push_fronts<A: Allocator + Copy, B: Allocator>(
 {
     let mut rest = fronts;
     while let [first, others @ ..] = rest {
-        push_option(alloc, out, in_group, is_none(others), first, below)?;
+        push_option(alloc, out, in_group, has_none(others), first, below)?;
         rest = others;
     }
     Ok(())
@@ -407,7 +406,7 @@ fn option_keys<'a, A: Allocator + Copy>(
 ) -> Result<Option<Keys<'a, A>>, AllocError>
     ensures { IfOk result (λ keys. keys_said keys ≡ spec.option_keys (map free_said fronts.now)) }
 {
-    if !are_writable(alloc, fronts)? {
+    if has_none(fronts) || !are_writable(alloc, fronts)? {
         return Ok(None);
     }
     let mut words = Vec::new(alloc);

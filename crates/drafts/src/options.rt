@@ -7,8 +7,8 @@ ghost use Rattle.toml_pieces.specs.View.{text_of};
 ghost use Rattle.drafts.specs.Seen as seen;
 ghost use Rattle.drafts.specs.Options as spec;
 
-use crate::seen::{are_names, are_words, last_byte};
 use crate::notes::behind;
+use crate::seen::{are_names, are_words, last_byte};
 use help_fronts::{OptionFront, is_optional};
 use std::alloc::{AllocError, Allocator};
 use toml_pieces::{push_escaped, push_optional};
