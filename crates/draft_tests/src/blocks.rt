@@ -165,16 +165,18 @@ const ROWS: [(&[&str], &[(Kind, usize)]); 19] = [
         &[
             "It is:",
             "--format=gnu -f- -b20",
+            "--far=/a",
+            "",
             "  -a",
             "--size=n, -s n",
             "--as=n -s n  help",
         ],
         &[
             (Kind::Title, 1),
-            (Kind::Code, 2),
-            (Kind::Option, 3),
-            (Kind::Option, 4),
+            (Kind::Code, 4),
             (Kind::Option, 5),
+            (Kind::Option, 6),
+            (Kind::Option, 7),
         ],
     ),
     // tabulators

@@ -7,7 +7,7 @@ use help_differences::{
 use std::alloc::{AllocError, Allocator, Global};
 use std::process::Abort;
 
-const HELP: [&str; 19] = [
+const HELP: [&str; 20] = [
     "usage: prog [-h] [--foo FOO]",
     "            [--far]",
     "",
@@ -27,6 +27,7 @@ const HELP: [&str; 19] = [
     "",
     "It is:",
     "--format=gnu -b20",
+    "--far=/a",
 ];
 
 const NAMES: [(Kind, &str); 16] = [

@@ -116,8 +116,8 @@ const ROWS: &[(&str, &str)] = &[
     ),
     // a module of Python, a name with and without a value, and a range
     (
-        "usage: python3 -m a [-x N]\n  --color, --color=WHEN  when\n  -0 ... -9  level\n",
-        "name = \"python3\"\nusage = \"python3 -m a [-x N]\"\n\n[[option]]\nsyntax = \"--color[=WHEN]\"\nhelp = \"when\"\n\n[[option]]\nsyntax = \"-0 ... -9\"\nhelp = \"level\"\n\n[[option]]\nshort = \"x\"\nvalue = \"N\"\n",
+        "usage: python3 -m a [-x N]\n  --color, --color=WHEN  when\n  --pre <p>,--pre=<p>\n  -0 ... -9  level\n",
+        "name = \"python3\"\nusage = \"python3 -m a [-x N]\"\n\n[[option]]\nsyntax = \"--color[=WHEN]\"\nhelp = \"when\"\n\n[[option]]\n# left out: --pre <p>,--pre=<p>\nlong = \"pre\"\nvalue = \"p\"\n\n[[option]]\nsyntax = \"-0 ... -9\"\nhelp = \"level\"\n\n[[option]]\nshort = \"x\"\nvalue = \"N\"\n",
     ),
     // a title with an empty line above its options, and options as they are typed
     (

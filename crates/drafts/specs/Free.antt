@@ -1,8 +1,8 @@
 -- Which names are taken, and which of a line are free.
-use Rattle.std.specs.Prelude.{ℕ, zero, suc, ◌-◌, ◌==◌, ◌||◌, ◌&&◌, Bool, true, false, not, List, [], ◌∷◌, ◌++◌, bytes_eq, codes, get_or, if◌then◌else◌, length, map, nat_lt, take, Option, None, Some}
-use Rattle.std.specs.List.{list_any}
+use Rattle.std.specs.Prelude.{ℕ, zero, suc, ◌-◌, ◌==◌, ◌||◌, ◌&&◌, Bool, true, false, not, List, [], ◌∷◌, ◌++◌, bytes_eq, codes, get_or, if◌then◌else◌, length, map, nat_lt, Option, None, Some}
 use Rattle.help_fronts.specs.Fronts.{FrontSaid, option_front}
-use Rattle.drafts.specs.Options.{key}
+use Rattle.drafts.specs.Notes.{behind, is_none}
+use Rattle.drafts.specs.Options.{behind_in, key}
 
 -- whether a word is taken
 abbrev pub Has : Type 0
@@ -66,13 +66,14 @@ keeps_value f names = f.joint == 32 || bytes_eq (last_name names) (last_name f.n
 abbrev pub without_value : FrontSaid → FrontSaid
 without_value f = record f { values = []; joint = 32; value = None; is_optional = false }
 
--- whether the last name stands before, too
-abbrev pub is_repeated : (names : List (List ℕ)) → Bool
-is_repeated names = list_any (bytes_eq (last_name names)) (take (length names - 1) names)
+-- a name without a value, and then with one, as in `--color, --color=WHEN`
+abbrev pub stands_twice : (name written : List ℕ) → Bool
+stands_twice n w = not (is_none (behind_in (codes "=") (behind_in n (behind_in (codes ", ") (behind n w)))))
 
--- a name without a value and with one, as in `--color, --color=WHEN`, and all others are free
+-- so stands the one name that is left
 abbrev pub is_doubled : FrontSaid → (names : List (List ℕ)) → Bool
-is_doubled f names = f.joint == 61 && (length f.names - length names == 1 && is_repeated f.names)
+is_doubled f (n ∷ []) = f.joint == 61 && (length f.names == 2 && stands_twice n f.written)
+is_doubled f _ = false
 
 abbrev pub valued : FrontSaid → (names : List (List ℕ)) → FrontSaid
 valued f names =

@@ -1,12 +1,13 @@
 //! Names that are taken, and those of a line that are free.
-ghost use Rattle.std.specs.Prelude.{◌≡◌, IfOk, OnOk, bytes_eq, flat_map, map};
+ghost use Rattle.std.specs.Prelude.{◌≡◌, IfOk, OnOk, flat_map, map};
 ghost use Rattle.std.specs.List.{list_all, list_any};
 ghost use Rattle.help_fronts.specs.View.{said};
 ghost use Rattle.drafts.specs.Options as options;
 ghost use Rattle.drafts.specs.Free as spec;
 ghost use Rattle.drafts.specs.View.{free_said, held};
 
-use crate::options::key;
+use crate::notes::behind;
+use crate::options::{behind_in, key};
 use help_fronts::{OptionFront, option_front};
 use std::alloc::{AllocError, Allocator};
 use std::collections::BTreeSet;
@@ -112,32 +113,24 @@ fn keeps_value<A: Allocator>(front: &OptionFront<'_, A>, names: &[&str]) -> bool
     front.joint == b' ' || last_name(names) == last_name(&front.names)
 }
 
-fn is_one_of(name: &str, others: &[&str]) -> bool
-    ensures { result ≡ list_any (bytes_eq name.now) (map (λ n. n.now) others.now) }
+// Whether a name stands without a value, and then with one.
+fn stands_twice(name: &str, written: &str) -> bool
+    ensures { result ≡ spec.stands_twice name.now written.now }
 {
-    for other in others {
-        if name == *other {
-            return true;
-        }
-    }
-    false
+    let further = behind_in(name, behind_in(", ", behind(name, written)));
+    behind_in("=", further).is_some()
 }
 
-// Whether the last name stands before, too.
-fn is_repeated(names: &[&str]) -> bool
-    ensures { result ≡ spec.is_repeated (map (λ n. n.now) names.now) }
-{
-    let (others, _) = names.split_at(names.len().saturating_sub(1));
-    is_one_of(last_name(names), others)
-}
-
-// Whether a name stands without a value and with one, and all others are free.
+// Whether the one name that is left stands so.
 fn is_doubled<A: Allocator>(front: &OptionFront<'_, A>, names: &[&str]) -> bool
     ensures { result ≡ spec.is_doubled (said front.now) (map (λ n. n.now) names.now) }
 {
-    front.joint == b'='
-        && front.names.len().saturating_sub(names.len()) == 1
-        && is_repeated(&front.names)
+    match names {
+        [name] => {
+            front.joint == b'=' && front.names.len() == 2 && stands_twice(name, front.written)
+        }
+        _ => false,
+    }
 }
 
 fn valued<'a, A: Allocator + Copy>(

@@ -288,7 +288,8 @@ fn push_names<A: Allocator>(out: &mut String<A>, names: &[&str]) -> Result<(), A
     }
 }
 
-fn behind_in<'a>(beginning: &str, text: Option<&'a str>) -> Option<&'a str>
+/// What stands behind a beginning, if there is a text that has it.
+pub fn behind_in<'a>(beginning: &str, text: Option<&'a str>) -> Option<&'a str>
     ensures { text_of result ≡ spec.behind_in beginning.now (text_of text.entry) }
 {
     match text {

@@ -17,7 +17,7 @@ is_value kind.Value = true
 is_value _ = false
 
 abbrev pub opened : Kind → Shape → Open
-opened k s = record { kind = k; indent = s.indent; is_choice = is_value k && s.is_choice }
+opened k s = record { kind = k; indent = s.indent; is_choice = is_value k && s.is_choice; is_typed = s.is_typed }
 
 abbrev pub opened_by : Option Kind → Shape → (otherwise : Option Open) → Option Open
 opened_by (Some k) s o = Some (opened k s)

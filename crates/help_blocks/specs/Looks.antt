@@ -120,12 +120,12 @@ behind_word before [] = []
 behind_word before (c ∷ cs) = if is_blank c then (if is_divider before then [] else cs) else behind_word c cs
 
 -- options as they are typed, as `--format=gnu -b20`: the first has a value that is no word for one, and another follows
-abbrev pub is_call : (text : List ℕ) → Bool
-is_call text =
+abbrev pub is_typed : (text : List ℕ) → Bool
+is_typed text =
     (is_option text && not (has_columns text)) && (begins_small (behind_equals text) && is_option (behind_word 32 text))
 
 abbrev pub is_listed_option : (text : List ℕ) → Bool
-is_listed_option text = is_option text && not (is_call text)
+is_listed_option text = is_option text && not (is_typed text)
 
 abbrev pub ends_word : (rest : List ℕ) → Bool
 ends_word [] = true
@@ -146,7 +146,7 @@ is_prompt _ = false
 
 -- `$ ` first, columns, or options as they are typed
 abbrev pub is_code : (text : List ℕ) → Bool
-is_code cs = (is_prompt cs || has_columns cs) || is_call cs
+is_code cs = (is_prompt cs || has_columns cs) || is_typed cs
 
 abbrev pub ends_with_dot : (line : List ℕ) → Bool
 ends_with_dot line = last_ink 32 line == 46

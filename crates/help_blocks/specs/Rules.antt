@@ -119,10 +119,11 @@ abbrev pub is_code : Kind → Bool
 is_code kind.Code = true
 is_code _ = false
 
+-- options right below others that are typed are, too
 abbrev pub goes_on_by : (open_kind here_kind : Kind) → Open → (here : Shape) → Bool
 goes_on_by kind.Usage k o here = is_usage_still o here
 goes_on_by kind.Text k o here = is_text k
-goes_on_by kind.Code k o here = is_code k
+goes_on_by kind.Code k o here = is_code k || (o.is_typed && here.is_option)
 goes_on_by _ k o here = false
 
 abbrev pub goes_on_directly : Open → Place → (here next : Shape) → Bool

@@ -1,7 +1,7 @@
 -- What a line of a help text looks like, by itself.
 use Rattle.std.specs.Prelude.{ℕ, ◌||◌, ◌&&◌, Bool, false, List, [], ◌∷◌}
 use Rattle.help_blocks.specs.declared.shape.Shape.{Shape}
-use Rattle.help_blocks.specs.Looks.{text, indent, is_empty, is_usage, is_listed_option, is_word, is_choice, ends_with_colon, is_in_capitals, is_code, subject_of}
+use Rattle.help_blocks.specs.Looks.{text, indent, is_empty, is_usage, is_listed_option, is_word, is_choice, ends_with_colon, is_in_capitals, is_code, is_typed, subject_of}
 
 unfoldable pub shape_of : (line : List ℕ) → Shape
 shape_of line = record {
@@ -14,6 +14,7 @@ shape_of line = record {
   ends_with_colon = ends_with_colon (text line);
   is_in_capitals = is_in_capitals (text line);
   is_code = is_code (text line);
+  is_typed = is_typed (text line);
   subject = subject_of (text line);
 }
 

@@ -26,12 +26,14 @@ pub enum Kind {
     Code,
 }
 
-/// The block that a line would go on with: its kind, and of its first line the indent and whether it is a list of commands in braces.
+/// The block that a line would go on with: its kind, and of its first line the indent, whether it is a list of
+/// commands in braces, and whether it has options as they are typed.
 #[derive(Clone, Copy)]
 pub struct Open {
     pub kind: Kind,
     pub indent: usize,
     pub is_choice: bool,
+    pub is_typed: bool,
 }
 
 /// What is known of the lines above.
@@ -51,6 +53,7 @@ fn opened(kind: Kind, shape: Shape) -> Open
         kind,
         indent: shape.indent,
         is_choice: matches!(kind, Kind::Value) && shape.is_choice,
+        is_typed: shape.is_typed,
     }
 }
 

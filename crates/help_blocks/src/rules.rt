@@ -176,7 +176,9 @@ fn goes_on_directly(block: Open, place: Place, here: Shape, next: Shape) -> bool
     match block.kind {
         Kind::Usage => is_usage_still(block, here),
         Kind::Text => matches!(kind(place, here, next), Kind::Text),
-        Kind::Code => matches!(kind(place, here, next), Kind::Code),
+        Kind::Code => {
+            matches!(kind(place, here, next), Kind::Code) || (block.is_typed && here.is_option)
+        }
         _ => false,
     }
 }

@@ -19,6 +19,7 @@ pub struct Shape {
     pub ends_with_colon: bool,
     pub is_in_capitals: bool,
     pub is_code: bool,
+    pub is_typed: bool,
     pub subject: Subject,
 }
 
@@ -39,6 +40,7 @@ impl Shape {
             ends_with_colon: scan::ends_with_colon(text),
             is_in_capitals: scan::is_in_capitals(text),
             is_code: is_code(text),
+            is_typed: is_typed(text),
             subject: Subject::of(text),
         }
     }
@@ -91,8 +93,8 @@ fn begins_small(text: &[u8]) -> bool
 }
 
 // Whether these are options as they are typed.
-fn is_call(text: &[u8]) -> bool
-    ensures { result ≡ looks.is_call text.now }
+fn is_typed(text: &[u8]) -> bool
+    ensures { result ≡ looks.is_typed text.now }
 {
     is_option(text)
         && !scan::has_columns(text)
@@ -103,7 +105,7 @@ fn is_call(text: &[u8]) -> bool
 fn is_listed_option(text: &[u8]) -> bool
     ensures { result ≡ looks.is_listed_option text.now }
 {
-    is_option(text) && !is_call(text)
+    is_option(text) && !is_typed(text)
 }
 
 fn ends_word(rest: &[u8]) -> bool
@@ -139,5 +141,5 @@ fn is_prompt(text: &[u8]) -> bool
 fn is_code(text: &[u8]) -> bool
     ensures { result ≡ looks.is_code text.now }
 {
-    is_prompt(text) || scan::has_columns(text) || is_call(text)
+    is_prompt(text) || scan::has_columns(text) || is_typed(text)
 }

@@ -1,6 +1,0 @@
-use Rattle.std.proofs.Common.{◌≡◌, bytes_eq, drop, map}
-use Rattle.std.specs.List.{list_any}
-use Rattle.drafts.proofs.free.is_one_of.Given as goal
-
-abbrev pub invariant-loop-other : goal.invariant-loop-other
-invariant-loop-other l = list_any (bytes_eq l.name) (map (λ n. n.now) (drop l.other-index l.others)) ≡ list_any (bytes_eq l.name) (map (λ n. n.now) l.others)
