@@ -16,7 +16,7 @@ use Rattle.description_hints.specs.Names.{choices_words, group_words, level_word
 use Rattle.description_hints.specs.Sites.{choices_sites, commands_sites, groups_sites, level_sites, standing_of, options_sites, own_texts, positionals_sites, topics_sites}
 use Rattle.description_hints.specs.declared.sites.Standing.{Standing}
 
--- ---- lists behind one another
+-- ---- one list after another
 
 onto : {X : Type 0} (s0 s t p x : List X) → s ≡ s0 ++ p → t ≡ s ++ x → t ≡ s0 ++ (p ++ x)
 onto s0 s t p x h e = e ∙ ap (λ s. s ++ x) h ∙ append_assoc s0 p x

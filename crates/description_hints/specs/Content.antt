@@ -1,6 +1,6 @@
 -- What a hint says, what it is about, and the way there, with no memory in it: names and texts are bytes.
 use Rattle.std.specs.Prelude.{ℕ, List, Bool, Option}
-use Rattle.description.specs.Content.{OptSaid}
+use Rattle.description.specs.Content.{OptSaid, PositionalSaid}
 use Rattle.description.specs.Words.{WordsSaid}
 use Rattle.description_hints.specs.declared.sites.Standing.{Standing}
 
@@ -29,19 +29,19 @@ pub data HintSaid : Type 0 where
   help_name : (name : List ℕ) → HintSaid
   marked_value : (word : List ℕ) → HintSaid
   bracketed_name : (word : List ℕ) → HintSaid
+  unlisted_default : (text : List ℕ) → HintSaid
 
 -- a hint, and the way to what it is about
 pub record WarningSaid : Type 0 where
   pub path : Path
   pub hint : HintSaid
 
--- a part of a description that hints may be about: an option with where it stands, a positional value by whether it is
--- hidden and its word, and a text in place of the usage that is made of a level with the words that the options of its
--- level are called by
+-- a part of a description that hints may be about: an option with where it stands, and a text in place of the usage
+-- that is made of a level with the words that the options of its level are called by
 pub data PartSaid : Type 0 where
   application_part : (about : Option (List ℕ)) → PartSaid
   option_part : OptSaid → Standing → PartSaid
-  positional_part : (hidden : Bool) → (word : List ℕ) → PartSaid
+  positional_part : PositionalSaid → PartSaid
   command_part : (hidden : Bool) → (help about : Option (List ℕ)) → PartSaid
   text_part : List ℕ → PartSaid
   usage_part : (text : List ℕ) → (own : List (List ℕ)) → PartSaid

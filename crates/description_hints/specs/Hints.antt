@@ -1,15 +1,16 @@
 -- What is better said otherwise in a description: hints about each of its parts.
 use Rattle.std.specs.Prelude.{ℕ, Bool, true, false, not, ◌&&◌, ◌||◌, ◌==◌, nat_lt, List, [], ◌∷◌, ◌++◌, bytes_eq, codes, find, map, flat_map, Option, Some, None, if◌then◌else◌}
-use Rattle.std.specs.List.{count_by, ends_with, list_any, starts_with}
+use Rattle.std.specs.List.{count_by, ends_with, list_all, list_any, slice_split, starts_with}
 use Rattle.std.specs.Str.{chars}
 use Rattle.unicode_width.specs.Width.{str_width}
 use Rattle.page_model.specs.Content.{Piece, words, literal, value, link, page, Line, FormSaid}
-use Rattle.description.specs.Content.{NameSaid, short, long, both, SpellingSaid, named, syntax, OptSaid, DescriptionSaid}
+use Rattle.description.specs.Content.{NameSaid, short, long, both, SpellingSaid, named, syntax, OptSaid, PositionalSaid, DescriptionSaid}
+use Rattle.description.specs.Values.{listed_values}
 use Rattle.description_texts.specs.Texts.{first_paragraph, is_empty, text_blocks}
 use Rattle.description_usage.specs.Forms.{text_forms}
 use Rattle.description_usage.specs.Usage.{option_item}
 use Rattle.file_names.specs.Names.{is_file_name, name_key}
-use Rattle.description_hints.specs.Content.{Around, HelpSaid, Path, HintSaid, no_help, nothing_said, no_about, two_sentences, wide_summary, no_such_option, plain_link, wide_item, not_on_level, different_help, no_file_name, alike_name, help_name, marked_value, bracketed_name, PageSaid, WarningSaid, PartSaid, application_part, option_part, positional_part, command_part, text_part, usage_part, SiteSaid}
+use Rattle.description_hints.specs.Content.{Around, HelpSaid, Path, HintSaid, no_help, nothing_said, no_about, two_sentences, wide_summary, no_such_option, plain_link, wide_item, not_on_level, different_help, no_file_name, alike_name, help_name, marked_value, bracketed_name, unlisted_default, PageSaid, WarningSaid, PartSaid, application_part, option_part, positional_part, command_part, text_part, usage_part, SiteSaid}
 use Rattle.description_hints.specs.Names.{called, is_among, is_bracket, is_no_option, known_words, options_names, options_words, shown_names}
 use Rattle.description_hints.specs.Pages.{manual_name, markdown_name, pages, web_name}
 use Rattle.description_hints.specs.Sites.{sites, under}
@@ -83,7 +84,7 @@ text_hints has text = flat_map (piece_hints has) (pieces_of (text_blocks text))
 
 -- ---- usages
 
--- so many columns a usage takes to show an option alone
+-- the number of columns that a usage takes to show an option alone
 abbrev pub item_columns : OptSaid → ℕ
 item_columns o = columns (line_text (option_item o.required o.repeated o))
 
@@ -170,6 +171,24 @@ spelling_warnings path hidden (syntax text) = []
 abbrev pub mark_warnings : Path → OptSaid → List WarningSaid
 mark_warnings path o = spelling_warnings path o.hidden o.spelling ++ value_warnings path o.hidden o.value
 
+-- ---- defaults
+
+-- one of the values, which are listed in one text, or some of them with commas between
+abbrev pub is_listed : (default values : List ℕ) → Bool
+is_listed default values =
+    is_among (listed_values values) default
+    || list_all (is_among (listed_values values)) (slice_split (λ b. b == 44) default)
+
+abbrev pub listed_warnings : Path → (hidden : Bool) → (default values : List ℕ) → List WarningSaid
+listed_warnings path hidden default values =
+    about_path (under path (codes "default")) (hint_if (not hidden && not (is_listed default values)) (unlisted_default default))
+
+-- of what is not hidden, and has both a default and such values
+abbrev pub default_warnings : Path → (hidden : Bool) → (default values : Option (List ℕ)) → List WarningSaid
+default_warnings path hidden None values = []
+default_warnings path hidden (Some default) None = []
+default_warnings path hidden (Some default) (Some values) = listed_warnings path hidden default values
+
 -- ---- one name with two helps
 
 -- of an option that pages show and that has a help
@@ -183,7 +202,7 @@ option_helps path o = if o.hidden then [] else help_at path (called o.spelling) 
 abbrev pub part_helps : Path → PartSaid → List HelpSaid
 part_helps path (application_part about) = []
 part_helps path (option_part o standing) = option_helps path o
-part_helps path (positional_part hidden word) = []
+part_helps path (positional_part p) = []
 part_helps path (command_part hidden help about) = []
 part_helps path (text_part said) = []
 part_helps path (usage_part text own) = []
@@ -246,12 +265,17 @@ abbrev pub command_warnings : Path → (hidden : Bool) → (help about : Option 
 command_warnings path hidden help about = about_path path (command_hints hidden help about) ++ summary_warnings path help about
 
 abbrev pub option_warnings : Around → Path → Standing → OptSaid → List WarningSaid
-option_warnings a path standing o = about_path path (option_hints a standing o) ++ mark_warnings path o
+option_warnings a path standing o =
+    about_path path (option_hints a standing o) ++ mark_warnings path o
+    ++ default_warnings path o.hidden o.default o.values
+
+abbrev pub positional_warnings : Path → PositionalSaid → List WarningSaid
+positional_warnings path p = word_warnings path p.hidden p.value ++ default_warnings path p.hidden p.default p.values
 
 abbrev pub part_warnings : Around → Path → PartSaid → List WarningSaid
 part_warnings a path (application_part about) = application_warnings path about
 part_warnings a path (option_part o standing) = option_warnings a path standing o
-part_warnings a path (positional_part hidden word) = word_warnings path hidden word
+part_warnings a path (positional_part p) = positional_warnings path p
 part_warnings a path (command_part hidden help about) = command_warnings path hidden help about
 part_warnings a path (text_part said) = about_path path (text_hints a.has said)
 part_warnings a path (usage_part text own) = about_path path (usage_hints a text own)

@@ -52,7 +52,7 @@ spelling_words (syntax text) = syntax_words text
 abbrev pub part_words : PartSaid → List (List ℕ)
 part_words (application_part about) = []
 part_words (option_part o standing) = spelling_words o.spelling
-part_words (positional_part hidden word) = []
+part_words (positional_part p) = []
 part_words (command_part hidden help about) = []
 part_words (text_part said) = []
 part_words (usage_part text own) = []

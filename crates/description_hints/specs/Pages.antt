@@ -7,7 +7,7 @@ use Rattle.description_hints.specs.Sites.{table_in}
 abbrev pub page : Path → (name : List ℕ) → PageSaid
 page path name = record { path = path; name = name }
 
--- the name of the page of a command, behind that of the level that has it
+-- the name of the page of a command, after that of the level that has it
 abbrev pub page_below : (above name : List ℕ) → List ℕ
 page_below above name = above ++ codes "-" ++ name
 

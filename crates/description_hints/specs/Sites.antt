@@ -6,7 +6,7 @@ use Rattle.description_hints.specs.Names.{level_words}
 use Rattle.description_hints.specs.declared.sites.Standing.{Standing}
 use Rattle.description_hints.specs.declared.sites.Standing.TheVariants.{ForHelp, InUsage, OutsideUsage}
 
--- what comes of each of a list, by its number, one behind the other
+-- what comes of each of a list, by its number, one after another
 abbrev pub numbered : {A B : Type 0} → (ℕ → A → List B) → ℕ → List A → List B
 numbered f n [] = []
 numbered f n (x ∷ xs) = f n x ++ numbered f (n + 1) xs
@@ -80,7 +80,7 @@ choices_sites standing path choices = numbered (choice_sites standing path) 0 ch
 
 -- a positional value, and its help
 abbrev pub value_sites : Path → PositionalSaid → List SiteSaid
-value_sites path p = site path (positional_part p.hidden p.value) ∷ text_sites path (codes "help") p.help
+value_sites path p = site path (positional_part p) ∷ text_sites path (codes "help") p.help
 
 abbrev pub positional_sites : Path → ℕ → PositionalSaid → List SiteSaid
 positional_sites path n positional = value_sites (table_in path (codes "positional") n) positional

@@ -1,4 +1,4 @@
--- What private functions say of a map: nobody has to believe this.
+-- What private functions say of a map: internal.
 use Rattle.std.specs.Prelude.{ℕ, List, Option, option_map}
 use Rattle.std.specs.Borrow.{Bor}
 use Rattle.std.specs.BTreeMap.{BTreeMap, get_by}

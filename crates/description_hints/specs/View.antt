@@ -4,9 +4,9 @@ use Rattle.std.specs.Borrow.{Bor}
 use Rattle.std.specs.List.{list_any}
 use Rattle.keyed.specs.declared.step.Step.{Step}
 use Rattle.keyed.specs.declared.step.Step.TheVariants.{Key, Index}
-use Rattle.description.specs.View.{opt_said, text_of}
+use Rattle.description.specs.View.{opt_said, positional_said, text_of}
 use Rattle.description.specs.Words as of_words
-use Rattle.description_hints.specs.Content.{Around, HelpSaid, StepSaid, key, index, Path, HintSaid, no_help, nothing_said, no_about, two_sentences, wide_summary, no_such_option, plain_link, wide_item, not_on_level, different_help, no_file_name, alike_name, help_name, marked_value, bracketed_name, PageSaid, WarningSaid, PartSaid, application_part, option_part, positional_part, command_part, text_part, usage_part, SiteSaid}
+use Rattle.description_hints.specs.Content.{Around, HelpSaid, StepSaid, key, index, Path, HintSaid, no_help, nothing_said, no_about, two_sentences, wide_summary, no_such_option, plain_link, wide_item, not_on_level, different_help, no_file_name, alike_name, help_name, marked_value, bracketed_name, unlisted_default, PageSaid, WarningSaid, PartSaid, application_part, option_part, positional_part, command_part, text_part, usage_part, SiteSaid}
 use Rattle.description_hints.specs.declared.around.Around as of_around
 use Rattle.description_hints.specs.declared.helps.NamedHelp.{NamedHelp}
 use Rattle.description_hints.specs.declared.hints.Hint.{Hint}
@@ -44,6 +44,7 @@ hint_said (hint.AlikeName name) = alike_name name.now
 hint_said (hint.HelpName name) = help_name name.now
 hint_said (hint.MarkedValue word) = marked_value word.now
 hint_said (hint.BracketedName word) = bracketed_name word.now
+hint_said (hint.UnlistedDefault text) = unlisted_default text.now
 
 abbrev pub warning_said : Warning → WarningSaid
 warning_said w = record { path = path_said w.path.now; hint = hint_said w.hint }
@@ -51,7 +52,7 @@ warning_said w = record { path = path_said w.path.now; hint = hint_said w.hint }
 abbrev pub part_said : Part → PartSaid
 part_said (part.Application about) = application_part (text_of about)
 part_said (part.Option o standing) = option_part (opt_said o) standing
-part_said (part.Positional hidden word) = positional_part hidden word.now
+part_said (part.Positional p) = positional_part (positional_said p)
 part_said (part.Command hidden help about) = command_part hidden (text_of help) (text_of about)
 part_said (part.Text said) = text_part said.now
 part_said (part.Usage said own) = usage_part said.now (words_said own.now)

@@ -112,7 +112,7 @@ fn push_site<'p>(arena: &'p Bump, helps: &mut Helps<'p>, site: &Site<'p>) -> Res
     match site.part {
         Part::Option(option, _) => push_option(arena, helps, site.path, option),
         Part::Application(_)
-        | Part::Positional(_, _)
+        | Part::Positional(_)
         | Part::Command(_, _, _)
         | Part::Text(_)
         | Part::Usage(_, _) => Ok(()),

@@ -15,13 +15,13 @@ pub enum Hint<'a> {
     NoAbout,
     /// The first paragraph, which is a summary, has more than one sentence.
     TwoSentences,
-    /// The first paragraph, which is a summary, takes so many columns on one line, and these are over 80.
+    /// The first paragraph, which is a summary, takes that many columns on one line, which are over 80.
     WideSummary(usize),
     /// A literal looks like an option, and no option of the description is called so.
     NoSuchOption(&'a str),
     /// An address that is linked to is of `http`, and not of this machine.
     PlainLink(&'a str),
-    /// The option takes so many columns as an item of the usage that is made of its level, and these are over 60.
+    /// The option takes that many columns as an item of the usage that is made of its level, which are over 60.
     WideItem(usize),
     /// A text in place of a usage has this name, and no option of its level is called so.
     NotOnLevel(&'a str),
@@ -40,6 +40,8 @@ pub enum Hint<'a> {
     MarkedValue(&'a str),
     /// This long name has a bracket.
     BracketedName(&'a str),
+    /// The default is this, which is neither one of the values nor some of them with commas between.
+    UnlistedDefault(&'a str),
 }
 
 impl Display for Hint<'_> {
@@ -80,6 +82,9 @@ impl Display for Hint<'_> {
                     "the name {} has a bracket; write it as syntax",
                     Brief(*word)
                 )
+            }
+            Hint::UnlistedDefault(text) => {
+                write!(f, "the default {} is not one of the values", Brief(*text))
             }
         }
     }

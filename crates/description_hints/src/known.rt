@@ -90,7 +90,7 @@ fn word_len(text: &[u8]) -> usize
     text.iter().take_while(|byte| !is_separator(**byte)).count()
 }
 
-// The first word of a syntax, and what stands behind the separator at its end. None where there is no separator.
+// The first word of a syntax, and what follows the separator at its end. None where there is no separator.
 #[tactic(auto, using(crate::proofs::Words::word_alone))]
 fn split_word(text: &[u8]) -> Option<(&[u8], &[u8])>
     ensures { MatchOption result
@@ -140,7 +140,7 @@ fn push_part<'p>(arena: &'p Bump, words: &mut Words<'p>, part: Part<'p>) -> Resu
     match part {
         Part::Option(option, _) => push_spelling(arena, words, option.spelling),
         Part::Application(_)
-        | Part::Positional(_, _)
+        | Part::Positional(_)
         | Part::Command(_, _, _)
         | Part::Text(_)
         | Part::Usage(_, _) => Ok(()),

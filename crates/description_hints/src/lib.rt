@@ -2,6 +2,7 @@
 #![tactic(auto)]
 
 mod around;
+mod defaults;
 mod files;
 mod helps;
 pub mod hints;

@@ -22,7 +22,7 @@ pub struct PageSite<'p> {
 /// Such levels in an arena.
 pub type Pages<'p> = Vec<PageSite<'p>, &'p Bump>;
 
-// The name of the page of a command, behind that of the level that has it.
+// The name of the page of a command, after that of the level that has it.
 fn page_below<'p>(arena: &'p Bump, above: &str, name: &str) -> Result<&'p str, AllocError>
     ensures { IfOk result (λ page. page.now ≡ page_below above.now name.now) }
 {

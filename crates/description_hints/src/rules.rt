@@ -2,17 +2,18 @@
 ghost use Rattle.std.specs.Prelude.{◌≡◌, ◌++◌, map, flat_map, IfOk, None, OnOk};
 ghost use Rattle.page_model.specs.View.{form_of};
 ghost use Rattle.page_model.specs.View.{block_of, line_of, piece_of};
-ghost use Rattle.description.specs.View.{opt_said, text_of};
+ghost use Rattle.description.specs.View.{opt_said, positional_said, text_of};
 ghost use Rattle.description_hints.specs.Hints.{about_path, application_warnings, command_warnings, hint_if};
 ghost use Rattle.description_hints.specs.Hints.{forms_hints, help_hints, is_missing, is_plain, item_columns};
 ghost use Rattle.description_hints.specs.Hints.{item_pieces, option_hints, part_warnings, piece_hints, summary_hints};
 ghost use Rattle.description_hints.specs.Hints.{level_name_hints, option_warnings, shared_hints, summary_warnings, text_hints, usage_hints};
-ghost use Rattle.description_hints.specs.Hints.{item_hints, usage_piece_hints, width_hints};
+ghost use Rattle.description_hints.specs.Hints.{item_hints, positional_warnings, usage_piece_hints, width_hints};
 ghost use Rattle.description_hints.specs.Texts.{blocks_of};
 ghost use Rattle.description_hints.specs.View.{around_said, hint_said, holds, part_said, path_said, warning_said};
 ghost use Rattle.description_hints.specs.View.{words_said};
 
 use crate::around::Around;
+use crate::defaults::push_default;
 use crate::hints::{Hint, Warning};
 use crate::known::{Known, known_in};
 use crate::marks::{push_marks, push_word};
@@ -21,7 +22,7 @@ use crate::shared::shared_name;
 use crate::sites::{Part, Standing, under};
 use crate::texts::{has_turn, line_text, paragraph_text};
 use bumpalo::Bump;
-use description::Opt;
+use description::{Opt, Positional};
 use description_texts::{blocks, first_paragraph, is_empty};
 use description_usage::{option_item, text_forms};
 use keyed::Step;
@@ -376,7 +377,23 @@ fn push_option<'p>(
         ++ option_warnings (around_said around.now) (path_said path.now) standing (opt_said option.now)) }
 {
     push_own(arena, found, around, path, option, standing)?;
-    push_marks(arena, found, path, option)
+    push_marks(arena, found, path, option)?;
+    let (default, values) = (option.default, option.values);
+    push_default(arena, found, path, option.hidden, default, values)
+}
+
+fn push_positional<'p>(
+    arena: &'p Bump,
+    found: &mut Warnings<'p>,
+    path: &'p [Step<'p>],
+    positional: &Positional<'p>,
+) -> Result<(), AllocError>
+    ensures { OnOk result (map warning_said found.new.items ≡ map warning_said found.old.items
+        ++ positional_warnings (path_said path.now) (positional_said positional.now)) }
+{
+    push_word(arena, found, path, positional.hidden, positional.value)?;
+    let (default, values) = (positional.default, positional.values);
+    push_default(arena, found, path, positional.hidden, default, values)
 }
 
 fn push_command<'p>(
@@ -411,7 +428,7 @@ pub fn push_part<'p>(
         Part::Option(option, standing) => {
             push_option(arena, found, around, path, &option, standing)
         }
-        Part::Positional(is_hidden, word) => push_word(arena, found, path, is_hidden, word),
+        Part::Positional(positional) => push_positional(arena, found, path, &positional),
         Part::Command(is_hidden, help, about) => {
             push_command(arena, found, path, is_hidden, help, about)
         }

@@ -36,8 +36,8 @@ pub enum Part<'p> {
     Application(Option<&'p str>),
     /// An option, and where it stands.
     Option(Opt<'p>, Standing),
-    /// A positional value, by whether it is hidden, and its word.
-    Positional(bool, &'p str),
+    /// A positional value.
+    Positional(Positional<'p>),
     /// A command, by whether it is hidden, its help, and what is said about it.
     Command(bool, Option<&'p str>, Option<&'p str>),
     Text(&'p str),
@@ -218,7 +218,7 @@ fn push_value<'p>(
     ensures { OnOk result (map site_said sites.new.items ≡ map site_said sites.old.items
         ++ value_sites (path_said path.now) (positional_said positional.now)) }
 {
-    let part = Part::Positional(positional.hidden, positional.value);
+    let part = Part::Positional(*positional);
     sites.push(Site { path, part })?;
     push_text(arena, sites, path, "help", positional.help)
 }

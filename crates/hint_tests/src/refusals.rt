@@ -38,6 +38,10 @@ usage = 'run [--none]'
 [[command.option]]
 long = 'two'
 help = 'Two'
+[[command.positional]]
+value = 'Q'
+default = 'c'
+values = ['a', 'b']
 [[command.topic]]
 title = 'T'
 text = '- <http://e.f>'
@@ -60,6 +64,7 @@ choice 0 option 0 - no help says what the option does
 group 0 positional 0 help - the link http://c.d is not https
 command 0 - neither help nor about says what the command does
 command 0 usage - no option here is called --none
+command 0 positional 0 default - the default c is not one of the values
 command 0 topic 0 text - the link http://e.f is not https
 command 1 option 0 - a help option is called -h too
 command 1 option 0 long - the name l[x] has a bracket; write it as syntax

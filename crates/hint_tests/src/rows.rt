@@ -178,6 +178,20 @@ pub const MARKS: &[Row<'static>] = &[
     ),
 ];
 
+/// Defaults beside the values that there may be.
+pub const DEFAULTS: &[Row<'static>] = &[
+    // Of options of each kind, and of a positional value. Case counts, and a part of a value is none.
+    (
+        "name = 'a'\nabout = 'A'\n[[help_option]]\nlong = 'help'\nvalue = 'T'\ndefault = 'all'\nvalues = ['one', 'two']\nhelp = 'H'\n[[option]]\nshort = 'x'\nvalue = 'V'\ndefault = 'Never'\nvalues = ['never', 'always']\nhelp = 'X'\n[[option]]\nshort = 'w'\nvalue = 'V'\ndefault = 'a,c'\nvalues = ['a', 'b']\nhelp = 'W'\n[[choice]]\n[[choice.option]]\nsyntax = '--y[=V]'\ndefault = 'a, b'\nvalues = ['a', 'b']\nhelp = 'Y'\n[[positional]]\nvalue = 'P'\ndefault = 'alway'\nvalues = ['never', 'always']\n",
+        "help_option 0 default - the default all is not one of the values\noption 0 default - the default Never is not one of the values\noption 1 default - the default a,c is not one of the values\nchoice 0 option 0 default - the default a, b is not one of the values\npositional 0 default - the default alway is not one of the values\n",
+    ),
+    // One of the values, also as a number; some with commas between; one alone; and that of what is hidden.
+    (
+        "name = 'a'\nabout = 'A'\n[[option]]\nlong = 'x'\nvalue = 'V'\ndefault = 'always'\nvalues = ['never', 'auto', 'always']\nhelp = 'X'\n[[option]]\nlong = 'y'\nvalue = 'N'\ndefault = 2\nvalues = ['1', '2', '3']\nhelp = 'Y'\n[[option]]\nlong = 'u'\nvalue = 'V,...'\ndefault = 'b,a'\nvalues = ['a', 'b', 'c']\nhelp = 'U'\n[[option]]\nlong = 'v'\nvalue = 'V'\ndefault = 'd,e'\nvalues = ['c', 'd,e']\nhelp = 'V'\n[[option]]\nlong = 'z'\nvalue = 'V'\ndefault = 'one'\nhelp = 'Z'\n[[option]]\nlong = 'w'\nvalue = 'V'\nvalues = ['one']\nhelp = 'W'\n[[option]]\nlong = 'h'\nvalue = 'V'\ndefault = 'two'\nvalues = ['one']\nhidden = true\n[[positional]]\nvalue = 'P'\ndefault = 'one'\nvalues = ['one']\n[[positional]]\nvalue = 'H'\ndefault = 'two'\nvalues = ['one']\nhidden = true\n",
+        "",
+    ),
+];
+
 /// Names of files.
 pub const FILES: &[Row<'static>] = &[
     // Of hidden commands, and of what is below them, there are no pages.

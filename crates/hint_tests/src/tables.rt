@@ -17,6 +17,7 @@ const NAMES: &[Table] = &[
     ("options of one name have one help", rows::HELPS),
     ("names of help options are told", rows::HELP_NAMES),
     ("marks that pages set are told", rows::MARKS),
+    ("a default is one of the values", rows::DEFAULTS),
     ("files may have the names of pages", rows::FILES),
     ("what is shown is short and seen", rows::SHOWN),
     ("hints have their ways, in order", rows::WAYS),

@@ -31,6 +31,18 @@ long = 'long'
 help = 'Two'
 
 ----
+-:6:1: warning: the default Never is not one of the values
+====
+name = 'app'
+about = 'Greets'
+[[option]]
+long = 'color'
+value = 'WHEN'
+default = 'Never'
+values = ['never', 'always']
+help = 'When to use colors'
+
+----
 -:3:1: warning: no file may be called app-a:b.1
 -:9:1: warning: some folders take its page app-Run for another
 ====
