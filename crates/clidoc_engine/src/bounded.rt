@@ -1,12 +1,14 @@
-//! Ends that give or take no more than so many bytes.
+//! Readers and writers with a bound on their bytes.
 
-ghost use Rattle.std.specs.Prelude.{◌≡◌, IfOk};
+ghost use Rattle.std.specs.Io.{ReadsAtMost};
+ghost use Rattle.std.specs.Io.KnownBytes.{ReadConsumes};
+ghost use Rattle.std.specs.Prelude.{◌≡◌, [], None, IfOk};
 
 use std::io;
 use std::io::{ErrorKind, Read, Write};
 
-/// A reader that fails where it would give more bytes than these, or a writer that fails where it is to take more, and
-/// then takes none.
+/// A reader that fails where it would give more bytes than the bound, or a writer that fails where it is to take more,
+/// and then takes none.
 #[derive(Drop)]
 pub struct Bounded<E> {
     inner: E,
@@ -16,7 +18,7 @@ pub struct Bounded<E> {
 }
 
 impl<E> Bounded<E> {
-    /// The end, which gives or takes so many bytes at most.
+    /// A reader that gives, or a writer that takes, at most `most` bytes.
     pub fn new(inner: E, most: usize) -> Bounded<E> {
         Bounded {
             inner,
@@ -51,11 +53,19 @@ impl<R: Read> Bounded<R> {
 }
 
 impl<R: Read> Read for Bounded<R> {
-    fn read(&mut self, buf: &mut [u8]) -> io::Result<usize> {
-        let room = self.left.min(buf.len());
-        if room == 0 {
+    // A read into no room asks for no byte, also where the bound was reached.
+    fn read(&mut self, buf: &mut [u8]) -> io::Result<usize>
+        ensures bound { ReadsAtMost result buf.new }
+        ensures bytes { ReadConsumes None None result buf.new }
+        ensures empty { buf.old ≡ [] → self.new ≡ self.old }
+    {
+        if buf.is_empty() {
+            return Ok(0);
+        }
+        if self.left == 0 {
             return self.look_further();
         }
+        let room = self.left.min(buf.len());
         let taken = self.inner.read(&mut buf[..room])?;
         self.left -= taken;
         Ok(taken)
