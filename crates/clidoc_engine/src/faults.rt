@@ -19,9 +19,9 @@ use std::fmt::Display;
 /// Why a run fails.
 #[derive(Debug, Drop)]
 pub enum Fault {
-    /// What was read is no text: the place of the first byte that is of no character.
+    /// What was read is not UTF-8: the place of the first byte that is not part of a character.
     NotUtf8(Place),
-    /// The text is no TOML: the place where the error begins, and why.
+    /// The text is not TOML: the place where the error begins, and why.
     NotToml {
         place: Place,
         error: toml::de::Error,
@@ -32,7 +32,7 @@ pub enum Fault {
         place: Place,
         why: Why,
     },
-    /// The table is no description: what is wrong in it.
+    /// The table is not a description: what is wrong in it.
     NotDescription(Lines),
     /// The page is that of a command, and the description has no such command: its name, and the names of the
     /// commands above it, the application's first, with a blank between two.
@@ -52,7 +52,7 @@ pub enum Fault {
 }
 
 impl Fault {
-    /// What is told of it where the description stands in this file. A line about a place in the file begins with the
+    /// The lines about it where the description stands in this file. A line about a place in the file begins with the
     /// file and the place.
     pub fn told<'f>(&'f self, file: &'f str) -> Told<'f> {
         Told { fault: self, file }
@@ -134,13 +134,7 @@ impl From<PageError> for Fault {
     fn from(error: PageError) -> Fault {
         match error {
             PageError::Refused(_) => Fault::Memory,
-            PageError::Language => Fault::NoPage(PageError::Language),
-            PageError::Title => Fault::NoPage(PageError::Title),
-            PageError::Style => Fault::NoPage(PageError::Style),
-            PageError::Character => Fault::NoPage(PageError::Character),
-            PageError::Id => Fault::NoPage(PageError::Id),
-            PageError::Misplaced => Fault::NoPage(PageError::Misplaced),
-            PageError::NoInk => Fault::NoPage(PageError::NoInk),
+            other => Fault::NoPage(other),
         }
     }
 }
