@@ -19,6 +19,7 @@ use crate::words::{
 };
 use crate::wrong::line_of;
 use folder::{enter, tell_left, tell_written, write_files};
+use inputs::Opened;
 use limits::{Limit, Limits};
 use page_model::permitted::are_permitted;
 use std::alloc::{AllocError, Allocator, Global};
@@ -36,6 +37,7 @@ pub use watched::program::WRONG_WORDS;
 use watched::program::{expecting, garbled_word, status_of, with_words};
 
 mod folder;
+mod inputs;
 mod limits;
 
 /// The name of standard input.
@@ -232,13 +234,7 @@ where
         check_given(global, *title)?;
     }
     let limits = Limits::said(rt, global)?;
-    match named(file) {
-        None => write_page(rt, global, limits, page, (STANDARD_INPUT, rt.reader())),
-        Some(file) => {
-            let input = opened(rt, global, file)?;
-            write_page(rt, global, limits, page, (file, input))
-        }
-    }
+    write_page(rt, global, limits, page, input(rt, global, file)?)
 }
 
 // ---- help texts
@@ -288,13 +284,7 @@ fn help_text<R: Alloc + Env + Files + Input>(
     file: &str,
 ) -> Result<String, Failure> {
     let limits = Limits::said(rt, global)?;
-    match named(Some(file)) {
-        None => read_text(global, limits, (STANDARD_INPUT, rt.reader())),
-        Some(file) => {
-            let input = opened(rt, global, file)?;
-            read_text(global, limits, (file, input))
-        }
-    }
+    read_text(global, limits, input(rt, global, Some(file))?)
 }
 
 fn read_text<S: Read + Drop>(
@@ -317,13 +307,7 @@ where
     R::A: Copy,
 {
     let limits = Limits::said(rt, global)?;
-    match named(file) {
-        None => write_draft(rt, global, limits, name, (STANDARD_INPUT, rt.reader())),
-        Some(file) => {
-            let input = opened(rt, global, file)?;
-            write_draft(rt, global, limits, name, (file, input))
-        }
-    }
+    write_draft(rt, global, limits, name, input(rt, global, file)?)
 }
 
 fn write_draft<R: Alloc + Print, S: Read + Drop>(
@@ -370,13 +354,7 @@ where
     R::A: Copy,
 {
     let limits = Limits::said(rt, global)?;
-    match named(file) {
-        None => check(rt, global, limits, strict, (STANDARD_INPUT, rt.reader())),
-        Some(file) => {
-            let input = opened(rt, global, file)?;
-            check(rt, global, limits, strict, (file, input))
-        }
-    }
+    check(rt, global, limits, strict, input(rt, global, file)?)
 }
 
 fn write_all_of<R: Alloc + Env + Files + Input + Eprint + RandomSource>(
@@ -390,13 +368,7 @@ where
 {
     check_given(global, place.1)?;
     let limits = Limits::said(rt, global)?;
-    match named(file) {
-        None => write_all(rt, global, limits, place, (STANDARD_INPUT, rt.reader())),
-        Some(file) => {
-            let input = opened(rt, global, file)?;
-            write_all(rt, global, limits, place, (file, input))
-        }
-    }
+    write_all(rt, global, limits, place, input(rt, global, file)?)
 }
 
 // Says which of the words that are given no page may have.
@@ -423,6 +395,18 @@ fn named(file: Option<&str>) -> Option<&str> {
     match file {
         None | Some(STANDARD_INPUT) => None,
         named => named,
+    }
+}
+
+// What is to be read, with the name by which lines call it.
+fn input<'f, R: Files + Input>(
+    rt: &R,
+    global: Global,
+    file: Option<&'f str>,
+) -> Result<(&'f str, Opened<R::Reader, R::File>), Failure> {
+    match named(file) {
+        None => Ok((STANDARD_INPUT, Opened::Standard(rt.reader()))),
+        Some(file) => Ok((file, Opened::File(opened(rt, global, file)?))),
     }
 }
 
