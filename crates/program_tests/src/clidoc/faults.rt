@@ -257,6 +257,21 @@ A \"text\" \\\"\"\" of \"\"two\"\" lines
 [[option]]
 long = 'a'
 ----
+-:2:9: \" is not closed
+====
+name = 'app'
+about = \"A
+[[option]]
+long = 'a'
+----
+-:4:16: ' is not closed
+====
+name = 'app'
+[[option]]
+long = 'a' # it's \"
+values = ['x', 'y]
+help = 'H'
+----
 -:2:9: ''' is not closed
 ====
 name = 'app' # \"
