@@ -2,7 +2,8 @@
 use bumpalo::Bump;
 use description::{Level, Opt};
 use help_differences::{
-    HelpText, Kind, Name, Side, difference_text, differences, names_of_help, names_of_level,
+    HelpText, Kind, Name, Side, difference_text, differences, has_no_name, names_of_help,
+    names_of_level,
 };
 use std::alloc::{AllocError, Allocator, Global};
 use std::process::Abort;
@@ -179,12 +180,19 @@ fn lines_say_where_a_name_stands(rt: HostRuntime) {
     assert!(rt; are_lines(&rt, rt.alloc(), &arena).expect(&rt, "lines"));
 }
 
+// Whether a help text without a name and one with some are told apart in this arena.
+fn are_told_apart<A: Allocator + Copy>(alloc: A) -> Result<bool, AllocError> {
+    let has_none = has_no_name(alloc, "Error: \u{1b}[1mno\u{1b}[0m terminal\n")?;
+    Ok(has_none && !has_no_name(alloc, PRINTED.printed)?)
+}
+
 #[derive(Clone, Copy)]
 enum Call {
     Help,
     Level,
     Differences,
     Lines,
+    NoName,
 }
 
 // How many bytes an arena has: more than any call here takes.
@@ -204,6 +212,7 @@ fn is_made_in(rt: &impl Abort, out: Global, call: Call, room: usize) -> Option<b
         Call::Level => are_described(rt, out, &arena).ok(),
         Call::Differences => are_alone(&arena).ok(),
         Call::Lines => are_lines(rt, out, &arena).ok(),
+        Call::NoName => are_told_apart(&arena).ok(),
     }
 }
 
@@ -219,7 +228,13 @@ fn is_made_with_more(rt: &impl Abort, out: Global, call: Call) -> bool {
 
 #[test]
 fn names_are_made_with_more_room(rt: HostRuntime) {
-    for call in [Call::Help, Call::Level, Call::Differences, Call::Lines] {
+    for call in [
+        Call::Help,
+        Call::Level,
+        Call::Differences,
+        Call::Lines,
+        Call::NoName,
+    ] {
         assert!(rt; is_made_with_more(&rt, rt.alloc(), call));
     }
 }

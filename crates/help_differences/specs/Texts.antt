@@ -1,5 +1,5 @@
 -- The lines that say which names one side alone has.
-use Rattle.std.specs.Prelude.{◌≡◌, ◌↔◌, ◌==◌, ℕ, List, ◌++◌, codes, flat_map}
+use Rattle.std.specs.Prelude.{◌≡◌, ◌↔◌, ◌==◌, ℕ, Bool, List, ◌++◌, codes, flat_map, length}
 use Rattle.std.specs.List.{Contains, slice_split}
 use Rattle.std.specs.List.Sorted.{IsStrictlySortedBy}
 use Rattle.description.specs.Content.{LevelSaid, OptSaid}
@@ -37,6 +37,10 @@ line h a =
 
 abbrev pub help_lines : (printed : List ℕ) → List (List ℕ)
 help_lines printed = slice_split (λ b. b == 10) (shown_letters printed)
+
+-- nothing in it is the name of an option or a command
+abbrev pub has_no_name : (printed : List ℕ) → Bool
+has_no_name printed = length (names_in (help_lines printed)) == 0
 
 -- a line for each name that either the level or what was printed has alone, options first, and each once
 pub record IsComparison (h : HelpSaid) (help_options : List OptSaid) (l : LevelSaid) (text : List ℕ) : Type 0 where

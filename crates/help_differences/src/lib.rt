@@ -12,4 +12,4 @@ pub use compared::{Difference, Side, differences};
 pub use help::names_of_help;
 pub use level::{Names, names_of_level};
 pub use names::{Kind, Name};
-pub use texts::{HelpText, difference_text};
+pub use texts::{HelpText, difference_text, has_no_name};

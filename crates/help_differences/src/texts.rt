@@ -106,3 +106,17 @@ pub fn difference_text<'p, 'a: 'p, A: Allocator, C: Allocator>(
     let found = differences(arena, &ours, &theirs)?;
     lines_of(alloc, help, &found)
 }
+
+/// Whether a help text has no name. What it takes, `difference_text` takes too.
+///
+/// # Errors
+///
+/// Memory.
+pub fn has_no_name<A: Allocator + Copy>(alloc: A, printed: &str) -> Result<bool, AllocError>
+    ensures { IfOk result (λ is_so. is_so ≡ spec.has_no_name printed.now) }
+{
+    let shown = shown_letters(alloc, printed)?;
+    let lines = lines_in(alloc, shown.as_str())?;
+    let names = names_of_help(alloc, &lines)?;
+    Ok(names.is_empty())
+}
