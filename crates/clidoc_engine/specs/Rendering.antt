@@ -1,5 +1,6 @@
 -- What is promised of a page of a description.
-use Rattle.std.specs.Prelude.{◌≡◌, ℕ, ⊤, List, IsUtf8, Option, Some, option_map}
+use Rattle.std.specs.Prelude.{◌≡◌, ◌==◌, ◌&&◌, ℕ, ⊤, Bool, false, not}
+use Rattle.std.specs.Prelude.{List, IsUtf8, Option, Some, option_map}
 use Rattle.web_page.specs.declared.errors.PageError.{PageError}
 use Rattle.web_page.specs.declared.errors.PageError.TheVariants as making
 use Rattle.page_model.specs.declared.fault.PageFault.{PageFault}
@@ -10,7 +11,7 @@ use Rattle.command_pages.specs.Pages.{console_page, console_page_fault, level_at
 use Rattle.command_pages.specs.Html.{IsHtmlOf, html_page_fault}
 use Rattle.command_pages.specs.Readings.{IsManualOf, IsMarkdownOf}
 use Rattle.completions.specs.Scripts.{IsScript}
-use Rattle.help_differences.specs.Texts.{IsComparison}
+use Rattle.help_differences.specs.Texts.{IsComparison, has_no_name}
 use Rattle.json_of_descriptions.specs.Descriptions.{IsReadBack, json_of, json_text}
 use Rattle.clidoc_engine.specs.Words.{PageSaid, console, html, markdown, man, completion, in_json, differences}
 
@@ -46,6 +47,22 @@ pub record IsPage (p : PageSaid) (d : DescriptionSaid) (output : List ℕ) : Typ
   pub utf8 : IsUtf8 output
   pub rendering : IsRendering p d output
   pub exact : IsExact p d output
+
+-- ---- of differences
+
+-- the help text has no name, so that each name that is found is one of the description
+abbrev pub is_of_no_name : PageSaid → Bool
+is_of_no_name (console form commands width) = false
+is_of_no_name (html extent commands given) = false
+is_of_no_name (markdown commands depth) = false
+is_of_no_name (man commands depth given) = false
+is_of_no_name (completion shell) = false
+is_of_no_name in_json = false
+is_of_no_name (differences text commands) = has_no_name text.printed
+
+-- a page of that many bytes needs a line that says so
+abbrev pub needs_advice : PageSaid → (written : ℕ) → Bool
+needs_advice p written = not (written == 0) && is_of_no_name p
 
 -- ---- when there is none
 

@@ -8,7 +8,7 @@ ghost use Rattle.command_pages.specs.View.{title_said};
 ghost use Rattle.help_differences.specs.View.{help_said};
 ghost use Rattle.clidoc_engine.specs.Chosen.{console_said, page_said};
 ghost use Rattle.clidoc_engine.specs.Chosen.{words_said as names_said};
-ghost use Rattle.clidoc_engine.specs.Rendering.{IsPage};
+ghost use Rattle.clidoc_engine.specs.Rendering.{IsPage, is_of_no_name, needs_advice};
 ghost use Rattle.clidoc_engine.specs.Steps.{IsLost, IsNoCommand, IsUnmade};
 ghost use Rattle.clidoc_engine.specs.Words.{completion, differences, html, in_json, man, markdown};
 
@@ -24,7 +24,7 @@ use command_pages::{
 use completions::{Shell, completion_script};
 use description::Description;
 use description_pages::subjects::enter;
-use help_differences::{HelpText, difference_text};
+use help_differences::{HelpText, difference_text, has_no_name};
 use json_of_descriptions::json_text;
 use std::alloc::{AllocError, Allocator, Global};
 
@@ -253,4 +253,34 @@ fn compared<'p, 'a: 'p, A: Allocator + Copy>(
     let level = level_at(arena, global, commands, description)?;
     let text = difference_text(alloc, arena, help, level.help_options, level.level)?;
     Ok(text)
+}
+
+// Whether the page is of a help text that has no name.
+fn is_of_no_name<A: Allocator + Copy, B: Allocator>(
+    alloc: A,
+    page: &Page<'_, B>,
+) -> Result<bool, AllocError>
+    ensures { IfOk result (λ is_so. is_so ≡ is_of_no_name (page_said page.now)) }
+{
+    match page {
+        Page::Differences { help, .. } => has_no_name(alloc, help.printed.as_str()),
+        Page::Console(_)
+        | Page::Html { .. }
+        | Page::Markdown { .. }
+        | Page::Man { .. }
+        | Page::Completion(_)
+        | Page::Json => Ok(false),
+    }
+}
+
+/// Whether a line has to go with a page of that many bytes, which says that the help text has no name: exactly where
+/// that is so, and the description has some.
+pub(crate) fn needs_advice<A: Allocator + Copy, B: Allocator>(
+    alloc: A,
+    page: &Page<'_, B>,
+    written: usize,
+) -> Result<bool, AllocError>
+    ensures { IfOk result (λ is_so. is_so ≡ needs_advice (page_said page.now) written) }
+{
+    Ok(written > 0 && is_of_no_name(alloc, page)?)
 }

@@ -12,6 +12,7 @@ use crate::faults::Fault;
 use crate::files::{PageFile, check_names};
 use crate::meant::Named;
 use crate::own::{DESCRIPTION, VERSION};
+use crate::pages::needs_advice;
 use crate::reading::WordFault;
 use crate::utf8::text_from;
 use crate::words::{
@@ -42,6 +43,10 @@ mod limits;
 
 /// The name of standard input.
 const STANDARD_INPUT: &str = "-";
+
+/// What is said of a help text without a name: most often the program printed it on standard error.
+const NO_NAMES: &str = "clidoc: no options or commands were found in HELP; \
+    if the program prints its help on standard error, add 2>&1";
 
 /// Why a run fails.
 #[derive(Debug, Drop, Error)]
@@ -93,10 +98,11 @@ impl From<AllocError> for Failure {
     }
 }
 
-/// Does what the words after the program's name choose, and answers the status: success, `WRONG_WORDS` where they
-/// choose nothing, and failure where the run failed. On standard error it says why it was no success. The words,
-/// what is read and the pages are kept in the runtime's memory, and all else in `global`, also a help text that is
-/// compared. No clause can say what a runtime reads and prints.
+/// Does what the words after the program's name choose, and returns the status: success, `WRONG_WORDS` where they
+/// choose nothing, and failure where the run failed. On standard error it says why it was not a success; where
+/// differences are found, this is one line exactly where `needs_advice` says so. The words, what is read and the pages
+/// are kept in the runtime's memory, and all else in `global`, also a help text that is compared. No clause can say
+/// what a runtime reads and prints.
 pub fn run<R: Alloc + Env + Files + Input + Print + Eprint + RandomSource>(
     rt: &R,
     global: Global,
@@ -261,12 +267,29 @@ where
         },
         commands: Vec::from_slice(global, commands)?,
     };
-    let written = write_page_of(rt, global, &page, file);
+    let compared = write_differences(rt, global, &page, file);
     drop(page);
-    match written? {
-        0 => Ok(ExitCode::SUCCESS),
-        _ => Ok(ExitCode::FAILURE),
+    compared
+}
+
+// Writes them, and says on standard error where the help text has no name at all.
+fn write_differences<R: Alloc + Env + Files + Input + Print + Eprint>(
+    rt: &R,
+    global: Global,
+    page: &Page<'_, Global>,
+    file: Option<&str>,
+) -> Result<ExitCode, Failure>
+where
+    R::A: Copy,
+{
+    let written = write_page_of(rt, global, page, file)?;
+    if written == 0 {
+        return Ok(ExitCode::SUCCESS);
     }
+    if needs_advice(global, page, written)? {
+        let _ = eprintln!(rt; "{NO_NAMES}");
+    }
+    Ok(ExitCode::FAILURE)
 }
 
 // What a file is called in a line.

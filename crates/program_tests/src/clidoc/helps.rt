@@ -31,7 +31,7 @@ long = 'number'
 short = 'n'
 ";
 
-// Words, the file that they name, its bytes, standard input, the status, and the lines.
+// Words, the file that they name, its bytes, standard input, the status, the lines, and the one on standard error.
 type Comparison = (
     &'static str,
     &'static str,
@@ -39,7 +39,11 @@ type Comparison = (
     &'static [u8],
     u8,
     &'static [u8],
+    &'static str,
 );
+
+const NO_NAMES: &str =
+    "clidoc: no options or commands were found in HELP; if the program prints its help on standard error, add 2>&1";
 
 const COMPARISONS: &[Comparison] = &[
     (
@@ -52,6 +56,7 @@ const COMPARISONS: &[Comparison] = &[
 option --old: in standard input, not in my.toml
 command go: in my.toml, not in standard input
 ",
+        "",
     ),
     (
         "clidoc|against|my.txt",
@@ -63,6 +68,7 @@ command go: in my.toml, not in standard input
 option --old: in my.txt, not in standard input
 command go: in standard input, not in my.txt
 ",
+        "",
     ),
     (
         "clidoc|against|--command=go|my.txt|-",
@@ -71,7 +77,9 @@ command go: in standard input, not in my.txt
         DESCRIPTION,
         0,
         b"",
+        "",
     ),
+    // No name on either side, and none in the help text alone.
     (
         "clidoc|against|my.txt",
         "my.txt",
@@ -79,18 +87,44 @@ command go: in standard input, not in my.txt
         b"name = 'app'\n[[option]]\nlong = 'secret'\nhidden = true\n",
         0,
         b"",
+        "",
+    ),
+    (
+        "clidoc|against|my.txt",
+        "my.txt",
+        b"Error: no terminal\n",
+        DESCRIPTION,
+        1,
+        b"option --new: in standard input, not in my.txt
+option --number: in standard input, not in my.txt
+option -n: in standard input, not in my.txt
+command go: in standard input, not in my.txt
+",
+        NO_NAMES,
+    ),
+    (
+        "clidoc|against|-|my.toml|--command=go",
+        "my.toml",
+        DESCRIPTION,
+        b"",
+        1,
+        b"option --number: in my.toml, not in standard input
+option --old: in my.toml, not in standard input
+option -n: in my.toml, not in standard input
+",
+        NO_NAMES,
     ),
 ];
 
 fn is_compared(global: Global, row: &Comparison) -> bool {
-    let &(words, name, bytes, input, status, lines) = row;
+    let &(words, name, bytes, input, status, lines, line) = row;
     let calls: &[&str] = match name {
         "my.txt" => &["open my.txt"],
         _ => &["open my.toml"],
     };
     let folder = Folder::new(calls).with_file(name, bytes);
-    let desk = Desk::new(global, words, Ends::new(input, lines), "").with_folder(&folder);
-    ends_with(global, &desk, status, lines.len(), false)
+    let desk = Desk::new(global, words, Ends::new(input, lines), line).with_folder(&folder);
+    ends_with(global, &desk, status, lines.len(), !line.is_empty())
 }
 
 #[test]
