@@ -12,7 +12,7 @@ use Rattle.clidoc_engine.specs.declared.reading.WordFault.{WordFault}
 use Rattle.clidoc_engine.specs.Reading.{IsRefused}
 use Rattle.clidoc_engine.specs.Words.{Given, given_in, PageSaid, console, html, markdown, man, completion, in_json, differences, ChoiceSaid, Chooses, ChoosesWork, Takes, Split, page, check, all, draft, against, help, version, is_one_of, NamesPage, IsPageOf, IsCheck, IsAll, IsComplete, IsJson, IsDraft, IsAgainst}
 
--- ---- the first word, and those behind it
+-- ---- the first word, and those after it
 
 pub chosen_otherwise : (terminal : ℕ) (words : List (List ℕ)) (word : List ℕ) (behind : List (List ℕ)) (g : Given) → given_in words ≡ Some g → g.plain ++ g.files ≡ word ∷ behind
     → ((choice : ChoiceSaid) → ¬ Takes terminal word behind g choice) → (choice : ChoiceSaid) → ¬ ChoosesWork terminal words choice

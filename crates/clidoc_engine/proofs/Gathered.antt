@@ -11,7 +11,7 @@ use Rattle.clidoc_engine.specs.Chosen.{words_said}
 use Rattle.clidoc_engine.specs.Reading.{before, together}
 use Rattle.clidoc_engine.specs.Words.{Given, behind, kind_of, only_files, other_kind}
 
--- where the word does not begin with the front, nothing stands behind it
+-- where the word does not begin with the front, nothing follows it
 pub behind_none : (front word : List ℕ) → ((rest : List ℕ) → word ≢ front ++ rest) → behind front word ≡ None
 behind_none [] word h = absurd (h word refl)
 behind_none (c ∷ cs) [] h = refl
@@ -41,6 +41,6 @@ next_word words i d h = ap words_said (drop_more words i d h)
 differs : (xs ys : List ℕ) → xs ≢ ys → bytes_eq xs ys ≡ false
 differs xs ys h = grind (arith, bytes_eq-Decides xs ys, false≢true)
 
--- a word that is no option of its own
+-- a word that is not an option by itself
 pub other_word : (word : List ℕ) → word ≢ codes "--" → word ≢ codes "--deep" → word ≢ codes "--command" → word ≢ codes "--width" → word ≢ codes "--into" → word ≢ codes "--date" → word ≢ codes "--vendor" → word ≢ codes "--name" → word ≢ codes "--fragment" → word ≢ codes "--strict" → kind_of word ≡ other_kind word
 other_word word dashes deep command width folder date vendor name fragment strict = grind (arith, differs word (codes "--") dashes, differs word (codes "--deep") deep, differs word (codes "--command") command, differs word (codes "--width") width, differs word (codes "--into") folder, differs word (codes "--date") date, differs word (codes "--vendor") vendor, differs word (codes "--name") name, differs word (codes "--fragment") fragment, differs word (codes "--strict") strict)

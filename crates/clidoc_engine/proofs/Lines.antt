@@ -10,7 +10,7 @@ any_last : (front : List ℕ) (byte : ℕ) → is_newline byte ≡ true → list
 any_last [] byte newline = rw newline refl
 any_last (b ∷ bs) byte newline = grind (arith, any_last bs byte newline)
 
--- behind a newline the last line is empty
+-- after a newline the last line is empty
 last_line-newline : (front : List ℕ) (byte : ℕ) → is_newline byte ≡ true → last_line (front ++ byte ∷ []) ≡ []
 last_line-newline [] byte newline = rw newline refl
 last_line-newline (b ∷ bs) byte newline = rw (any_last (b ∷ bs) byte newline) (last_line-newline bs byte newline)
@@ -23,7 +23,7 @@ more_by : (b : ℕ) (bs : List ℕ) (byte : ℕ) → (any : Bool) → list_any i
     → last_line (bs ++ byte ∷ []) ≡ last_line bs ++ byte ∷ [] → last_line (b ∷ bs ++ byte ∷ []) ≡ last_line (b ∷ bs) ++ byte ∷ []
 more_by b bs byte h3 h4 h5 h6 = grind arith
 
--- another byte is put behind it
+-- another byte is put after it
 last_line-more : (front : List ℕ) (byte : ℕ) → is_newline byte ≡ false → last_line (front ++ byte ∷ []) ≡ last_line front ++ byte ∷ []
 last_line-more [] byte other = rw other refl
 last_line-more (b ∷ bs) byte other = more_by b bs byte (list_any is_newline (b ∷ bs)) refl (any_more (b ∷ bs) byte other) (last_line-more bs byte other)
@@ -31,7 +31,7 @@ last_line-more (b ∷ bs) byte other = more_by b bs byte (list_any is_newline (b
 count_last : (p : ℕ → Bool) (front : List ℕ) (byte : ℕ) → count_by p (front ++ byte ∷ []) ≡ count_by p front + cond (p byte) 1 0
 count_last p front byte = sum_by-append (λ x. cond (p x) 1 0) front (byte ∷ []) ∙ ap (λ n. count_by p front + n) (zero-add (cond (p byte) 1 0))
 
--- ---- what the byte at i does to the place behind the front of that length
+-- ---- what the byte at i does to the place after the front of that length
 
 pub line-newline : (xs : List ℕ) (i : ℕ) → i < length xs → is_newline (get_or xs i 0) ≡ true → line_behind (take (i + 1) xs) ≡ line_behind (take i xs) + 1
 line-newline xs i inside newline = rw (take_more xs i 0 inside, count_last is_newline (take i xs) (get_or xs i 0), newline) (omega arith)

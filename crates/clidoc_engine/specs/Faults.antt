@@ -23,7 +23,7 @@ fault_of_page making.Id = NoPage making.Id
 fault_of_page making.Misplaced = NoPage making.Misplaced
 fault_of_page making.NoInk = NoPage making.NoInk
 
--- where a fault says that the input is no text, this holds of the place that it tells
+-- where a fault says that the input is not UTF-8, this holds of its place
 abbrev pub IfNotUtf8 : Fault → (Place → Type 0) → Type 0
 IfNotUtf8 (NotUtf8 place) P = P place
 IfNotUtf8 (NotToml place error cause) P = ⊤
@@ -35,7 +35,7 @@ IfNotUtf8 Read P = ⊤
 IfNotUtf8 Write P = ⊤
 IfNotUtf8 Memory P = ⊤
 
--- where a fault says that the text is no TOML, this holds of the place and of the error that it tells
+-- where a fault says that the text is not TOML, this holds of its place and its error
 abbrev pub IfNotToml : Fault → (Place → Error → Type 0) → Type 0
 IfNotToml (NotToml place error cause) P = P place error
 IfNotToml (NotUtf8 place) P = ⊤
@@ -47,7 +47,7 @@ IfNotToml Read P = ⊤
 IfNotToml Write P = ⊤
 IfNotToml Memory P = ⊤
 
--- where a fault says that the text gives no table as JSON, this holds of the place that it tells
+-- where a fault says that the text gives no table as JSON, this holds of its place
 abbrev pub IfNotJson : Fault → (Place → Type 0) → Type 0
 IfNotJson (NotJson place why) P = P place
 IfNotJson (NotUtf8 place) P = ⊤
@@ -59,7 +59,7 @@ IfNotJson Read P = ⊤
 IfNotJson Write P = ⊤
 IfNotJson Memory P = ⊤
 
--- where a fault says that the table is no description, this holds
+-- where a fault says that the table is not a description, this holds
 abbrev pub IfNotDescription : Fault → Type 0 → Type 0
 IfNotDescription (NotDescription lines) P = P
 IfNotDescription (NotUtf8 place) P = ⊤

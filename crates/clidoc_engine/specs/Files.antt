@@ -22,7 +22,7 @@ pub record FileSaid : Type 0 where
 abbrev pub file_said : {A : Type 0} → PageFile A → FileSaid
 file_said file = record { name = string_bytes file.name; page = string_bytes file.page }
 
--- the manual page of a level: behind the name of the page a dot, and the section
+-- the manual page of a level: the name of the page, a dot and the section
 abbrev pub manual_file : DescriptionSaid → TitleGiven → SubjectSaid → FileSaid
 manual_file d given s = record { name = page_name s.names ++ (codes "." ++ d.section); page = manual_page d Alone given s }
 
@@ -46,7 +46,7 @@ pub record IsWebFile (d : DescriptionSaid) (given : TitleGiven) (file : FileSaid
   pub name : file.name ≡ d.name ++ codes ".html"
   pub read : IsHtmlOf d Page given (application d) file.page
 
--- the pages of each level, and behind them that of all
+-- the pages of each level, and after them that of all
 pub record AreFiles (d : DescriptionSaid) (given : TitleGiven) (files : List FileSaid) : Type 0 where
   pub web : FileSaid
   pub exact : files ≡ flat_map (level_files d given) (all_from (application d)) ++ web ∷ []

@@ -29,7 +29,7 @@ abbrev pub is_brace : Option ℕ → Bool
 is_brace None = false
 is_brace (Some byte) = byte == open_brace
 
--- JSON where the name of the file ends in `.json`, and where the text begins, behind white space, with a brace, as no TOML does
+-- JSON where the name of the file ends in `.json`, and where the text begins, after white space, with a brace, as no TOML does
 abbrev pub notation_of : (file text : List ℕ) → Notation
 notation_of file text = if ends_with ◌==◌ file (codes ".json") || is_brace (first_ink text) then Json else Toml
 
@@ -46,11 +46,11 @@ pub record Describes (file text : List ℕ) (d : DescriptionSaid) : Type 0 where
   pub read : table_in (notation_of file text) text ≡ Some table
   pub gives : described table ≡ Some d
 
--- of how many faults or warnings lines tell
+-- how many faults or warnings there are
 abbrev pub count_of : Lines → ℕ
 count_of lines = length lines.told.items + lines.more
 
--- the first 20 are told, or all where there are fewer
+-- the first 20 are reported, or all where there are fewer
 abbrev pub TellsTheFirst : Lines → Type 0
 TellsTheFirst lines = length lines.told.items ≡ min 20 (count_of lines)
 
@@ -60,13 +60,13 @@ pub record HasWarnings (count : ℕ) (file text : List ℕ) : Type 0 where
   pub described : Describes file text description
   pub each : count ≡ length (warnings description)
 
--- the input is no text, and the place is that of its first byte that is of no character
+-- the input is not UTF-8, and the place is that of its first byte that is not part of a character
 pub record IsNoText (input : List ℕ) (place : Place) : Type 0 where
   pub refused : ¬ IsUtf8 input
   pub line : place.line ≡ line_behind (take (utf8_valid_len input) input)
   pub column : place.column ≡ column_behind (take (utf8_valid_len input) input)
 
--- The text is no TOML, the error has a span in it, and the place is that where this span begins. The kit says no more of an error: that
+-- The text is not TOML, the error has a span in it, and the place is where this span begins. The kit says no more of an error: that
 -- reading this text gave it is only tested.
 pub record IsNoTomlText (text : List ℕ) (place : Place) (error : Error) : Type 0 where
   pub refused : parse_document text ≡ None
@@ -79,7 +79,7 @@ pub record IsNoTomlText (text : List ℕ) (place : Place) (error : Error) : Type
 abbrev pub IsNoToml : (file text : List ℕ) → Place → Error → Type 0
 IsNoToml file text place error = (notation_of file text ≡ Toml) × IsNoTomlText (without_returns text) place error
 
--- the text gives no table as JSON, and the place is that behind a front of it
+-- the text gives no table as JSON, and the place is that after a front of it
 pub record IsNoJsonText (text : List ℕ) (place : Place) : Type 0 where
   pub refused : json_table text ≡ None
   pub front : List ℕ

@@ -9,7 +9,7 @@ is_newline byte = byte == 10
 abbrev pub begins_character : ℕ → Bool
 begins_character byte = nat_lt byte 128 || nat_le 192 byte
 
--- what stands behind the last newline; all, where there is none
+-- what follows the last newline; all, where there is none
 abbrev pub last_line : List ℕ → List ℕ
 last_line [] = []
 last_line (byte ∷ bytes) = if list_any is_newline (byte ∷ bytes) then last_line bytes else byte ∷ bytes
@@ -18,6 +18,6 @@ last_line (byte ∷ bytes) = if list_any is_newline (byte ∷ bytes) then last_l
 abbrev pub line_behind : (front : List ℕ) → ℕ
 line_behind front = 1 + count_by is_newline front
 
--- the column behind it
+-- the column after it
 abbrev pub column_behind : (front : List ℕ) → ℕ
 column_behind front = 1 + count_by begins_character (last_line front)

@@ -26,7 +26,7 @@ IsOfInput (NoCommand name path meant) = ⊥
 IsOfInput (NoPage error) = ⊥
 IsOfInput Write = ⊥
 
--- the fault says that the text is no TOML, and where; or that an allocation failed
+-- the fault says that the text is not TOML, and where; or that an allocation failed
 abbrev pub IsSyntaxFault : (text : List ℕ) → Fault → Type 0
 IsSyntaxFault text (NotToml place error cause) = IsNoTomlText text place error
 IsSyntaxFault text Memory = ⊤
@@ -62,7 +62,7 @@ IsTableFault notation text (NoPage error) = ⊥
 IsTableFault notation text Read = ⊥
 IsTableFault notation text Write = ⊥
 
--- the fault says that the table is no description; or that an allocation failed
+-- the fault says that the table is not a description; or that an allocation failed
 abbrev pub IsOfData : Members → Fault → Type 0
 IsOfData table (NotDescription lines) = described table ≡ None
 IsOfData table Memory = ⊤
@@ -74,7 +74,7 @@ IsOfData table (NoPage error) = ⊥
 IsOfData table Read = ⊥
 IsOfData table Write = ⊥
 
--- the fault is none of a stream, and none of bytes that are no text
+-- the fault is neither of a stream nor of bytes that are not UTF-8
 abbrev pub IsOfContent : Fault → Type 0
 IsOfContent (NotToml place error cause) = ⊤
 IsOfContent (NotJson place why) = ⊤

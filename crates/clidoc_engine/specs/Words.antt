@@ -39,7 +39,7 @@ pub data ChoiceSaid : Type 0 where
 
 -- ---- what each word gives
 
--- the words that stand for themselves, the values of each option, each `--deep`, `--fragment` and `--strict`, and the words behind `--`, in order
+-- the words that stand for themselves, the values of each option, each `--deep`, `--fragment` and `--strict`, and the words after `--`, in order
 pub record Given : Type 0 where
   pub plain : List (List ℕ)
   pub commands : List (List ℕ)
@@ -94,13 +94,13 @@ pub data Kind : Type 0 where
   joined : Valued → (value : List ℕ) → Kind
   unknown : Kind
 
--- what stands behind a front of the word
+-- what follows a front of the word
 abbrev pub behind : (front word : List ℕ) → Option (List ℕ)
 behind [] word = Some word
 behind (c ∷ cs) [] = None
 behind (c ∷ cs) (d ∷ ds) = if c == d then behind cs ds else None
 
--- an option of these, with its value behind `=`
+-- an option of these, with its value after `=`
 abbrev pub joined_to : Valued → (value : Option (List ℕ)) → (other : Kind) → Kind
 joined_to o (Some value) other = joined o value
 joined_to o None other = other
@@ -109,12 +109,12 @@ abbrev pub joined_kind : List Valued → (word : List ℕ) → Kind
 joined_kind [] word = unknown
 joined_kind (o ∷ os) word = joined_to o (behind (option_word o ++ codes "=") word) (joined_kind os word)
 
--- a word that is no option of its own
+-- a word that is not an option by itself
 abbrev pub other_kind : List ℕ → Kind
 other_kind word =
     if bytes_eq word (codes "-") || not (slice_index word 0 == 45) then plain else joined_kind (Command ∷ Width ∷ Into ∷ Date ∷ Vendor ∷ Name ∷ []) word
 
--- a word that begins with `-` is `--`, or `-` alone, or `--deep`, or `--fragment`, or `--strict`, or an option with a value, which stands behind `=` or is the next word, whatever
+-- a word that begins with `-` is `--`, or `-` alone, or `--deep`, or `--fragment`, or `--strict`, or an option with a value, which follows `=` or is the next word, whatever
 -- that is; any other such word is unknown
 abbrev pub kind_of : List ℕ → Kind
 kind_of word =
@@ -171,7 +171,7 @@ abbrev pub SaysColumns : (said : Option (List ℕ)) → ℕ → Type 0
 SaysColumns None n = ⊥
 SaysColumns (Some text) n = IsColumns text n × (20 ≤ n)
 
--- so many columns the terminal has then, and else 100
+-- the number of columns that the terminal has then, and otherwise 100
 abbrev pub IsTerminalWidth : (said : Option (List ℕ)) → ℕ → Type 0
 IsTerminalWidth said n = SaysColumns said n ⊎ (((m : ℕ) → ¬ SaysColumns said m) × (n ≡ 100))
 
@@ -233,7 +233,7 @@ shell_word Bash = codes "bash"
 shell_word Zsh = codes "zsh"
 shell_word Fish = codes "fish"
 
--- What each form takes: the words behind it, and its options.
+-- What each form takes: the words after it, and its options.
 
 abbrev pub HasNoOption : Given → Type 0
 HasNoOption g = HasNoLevel g × HasNoTitle g × HasNoWork g
@@ -260,7 +260,7 @@ abbrev pub IsAgainst : (behind : List (List ℕ)) → Given → (printed : List 
 IsAgainst behind g printed commands file =
     (behind ≡ printed ∷ option_to_list file) × (commands ≡ g.commands) × (g.widths ≡ []) × (g.deeps ≡ []) × (g.fragments ≡ []) × HasNoTitle g × HasNoWork g
 
--- the word, those behind it, and the options choose this work
+-- the word, those after it, and the options choose this work
 abbrev pub Takes : (terminal : ℕ) → (word : List ℕ) → (behind : List (List ℕ)) → Given → ChoiceSaid → Type 0
 Takes terminal word behind g (page (completion shell) file) = (word ≡ codes "complete") × IsComplete behind g shell file
 Takes terminal word behind g (page in_json file) = (word ≡ codes "json") × IsJson behind g file
@@ -272,7 +272,7 @@ Takes terminal word behind g (against printed commands file) = (word ≡ codes "
 Takes terminal word behind g help = ⊥
 Takes terminal word behind g version = ⊥
 
--- the first word that stands for itself, and all behind it: the others, and the files
+-- the first word that stands for itself, and all after it: the others, and the files
 pub record Split (words : List (List ℕ)) (word : List ℕ) (behind : List (List ℕ)) (g : Given) : Type 0 where
   pub given : given_in words ≡ Some g
   pub plain : g.plain ++ g.files ≡ word ∷ behind
@@ -286,7 +286,7 @@ abbrev pub is_one_of : (words : List (List ℕ)) → (long short : List ℕ) →
 is_one_of (word ∷ []) long short = bytes_eq word long || bytes_eq word short
 is_one_of words long short = false
 
--- on a terminal of so many columns
+-- on a terminal of that many columns
 abbrev pub Chooses : (terminal : ℕ) → (words : List (List ℕ)) → ChoiceSaid → Type 0
 Chooses terminal words help = is_one_of words (codes "--help") (codes "-h") ≡ true
 Chooses terminal words version = is_one_of words (codes "--version") (codes "-V") ≡ true

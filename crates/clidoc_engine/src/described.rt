@@ -18,7 +18,7 @@ use std::alloc::{AllocError, Global};
 use std::fmt;
 use std::fmt::Display;
 
-// So many warnings are told.
+// How many warnings are reported.
 const MOST_TOLD: usize = 20;
 
 /// Why a text gives no description: its faults. Or what a description would better say: its warnings.
@@ -80,14 +80,14 @@ impl Display for Warned<'_> {
 }
 
 impl Lines {
-    /// Whether there is none, told or counted.
+    /// Whether there is none, reported or only counted.
     pub fn is_empty(&self) -> bool
         ensures { result ≡ (count_of self.now == 0) }
     {
         self.told.is_empty() && self.more == 0
     }
 
-    /// What is told of warnings about the description in this file.
+    /// The lines about warnings about the description in this file.
     pub fn warned<'l>(&'l self, file: &'l str) -> Warned<'l> {
         Warned {
             warnings: self,
@@ -175,7 +175,7 @@ pub(crate) fn warnings_in(
     first_lines(global, notation, &plain, &found)
 }
 
-// The lines of warnings. Those of the first are told, by their places.
+// The lines of warnings. The first are reported, by their places.
 fn first_lines(
     global: Global,
     notation: Notation,

@@ -15,10 +15,10 @@ use drafts::{DraftError, draft};
 use std::alloc::Allocator;
 use watched::{Source, Watched};
 
-/// Reads all that the reader has left, as a help text, and answers a description of it in TOML, by the rules of
+/// Reads all that the reader has left, as a help text, and returns a description of it in TOML, by the rules of
 /// `docs/draft.md`; `None` if the name that is given may be none, or none is given, and no usage has one. `Read` comes
-/// exactly where the reader's mark is then set, since its last read failed, `NotUtf8` where what was read is no text, and
-/// `Memory` where an allocation failed.
+/// exactly where the reader's mark is then set, since its last read failed, `NotUtf8` where what was read is not UTF-8,
+/// and `Memory` where an allocation failed.
 pub fn draft_of<A: Allocator + Copy, R: Source>(
     alloc: A,
     name: Option<&str>,

@@ -4,7 +4,7 @@ use description_toml::words::{Quoted, Shown};
 use std::fmt;
 use std::fmt::Display;
 
-// So many bytes are shown at most, but for escapes.
+// How many bytes are shown at most, escapes not counted.
 const MOST: usize = 200;
 
 /// The name of a file or a folder, at the front of a line too: as `Shown` has it; in quotes, where a program that reads

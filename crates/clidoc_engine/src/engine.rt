@@ -38,14 +38,13 @@ use watched::{Sink, Source, Watched};
 /// as it was. The tables of the text, the description, its names and what a page is made of are kept in `room`, and
 /// what is read and the page in `alloc`. The names are never freed, so each call keeps its own.
 ///
-/// `Read` comes exactly where the reader's mark is then set, since its last read failed, `Write` exactly
-/// where the writer's is, since its last write failed or took none, and the faults of the input only where
-/// all was read: `NotUtf8` where it is no text, and from which place on, `NotToml` where it has to be TOML and is none,
-/// `NotJson` where it has to be JSON and gives no table, `NotDescription` where its table is
-/// no description, `NoCommand` where the commands of the page lead nowhere, and `NoPage` where a text of the page has a
-/// control character but newline and tab, or a noncharacter, or it is a page in HTML, in which a name or a text cannot
-/// stand. `Memory` comes only where an allocation failed, or what the page says takes more than `room` has for it, which
-/// no clause can say.
+/// `Read` comes exactly where the reader's mark is then set, since its last read failed, `Write` exactly where the
+/// writer's is, since its last write failed or took none, and the faults of the input only where all was read:
+/// `NotUtf8` where it is not UTF-8, and from which place on, `NotToml` where it has to be TOML and is not, `NotJson`
+/// where it has to be JSON and gives no table, `NotDescription` where its table is not a description, `NoCommand`
+/// where the commands of the page lead nowhere, and `NoPage` where a text of the page has a control character but
+/// newline and tab, or a noncharacter, or it is a page in HTML, in which a name or a text cannot stand. `Memory` comes
+/// only where an allocation failed, or what the page says takes more than `room` has for it, which no clause can say.
 pub fn run_description<A: Allocator + Copy, B: Allocator, R: Source, W: Sink>(
     alloc: A,
     room: Room,
@@ -115,8 +114,8 @@ pub fn run_description<A: Allocator + Copy, B: Allocator, R: Source, W: Sink>(
     writer.write_all(text.as_bytes()).map_err(|_| Fault::Write)
 }
 
-/// Reads all that the reader has left, and judges whether it is a description, in a file of this name. Answers what that
-/// would better say: as many warnings as there are, of which the first 20 are told. Its faults are those of
+/// Reads all that the reader has left, and judges whether it is a description, in a file of this name. Returns what
+/// that would better say: as many warnings as there are, of which the first 20 are reported. Its faults are those of
 /// `run_description` that come of reading, and they come where those do.
 pub fn check_description<A: Allocator + Copy, R: Source>(
     alloc: A,

@@ -61,7 +61,7 @@ fn write_two<W: fmt::Write>(
 }
 
 /// Refuses files of which one has a name that no file may have, or two have names that some folders take for one. The
-/// first that is refused is told. The names are kept in `alloc`, and what they are compared by in `global`.
+/// first that is refused is reported. The names are kept in `alloc`, and what they are compared by in `global`.
 /// `AllocError` where an allocation failed.
 pub fn check_names<'f, A: Allocator, B: Allocator + Copy>(
     alloc: B,

@@ -1,4 +1,4 @@
-//! Headers of tables in a text that is no TOML.
+//! Headers of tables in a text that is not TOML.
 
 use description_toml::words::Brief;
 use std::fmt;
@@ -22,7 +22,7 @@ impl Display for Header<'_> {
     }
 }
 
-/// The header of an array that stands behind this place of the text, and the first before that place whose table is in
+/// The header of an array that stands after this place of the text, and the first before that place whose table is in
 /// one of that array. None where there are no such two.
 pub fn late_header(text: &str, place: usize) -> Option<(Header<'_>, Header<'_>)> {
     let (before, behind) = text.split_at_checked(place)?;

@@ -9,7 +9,7 @@ use std::alloc::{AllocError, Global};
 use std::fmt;
 use std::fmt::Display;
 
-// So many names are told.
+// How many names are listed.
 const MOST_TOLD: usize = 20;
 
 /// What may have been meant by a word that names no command of a level.
@@ -23,7 +23,7 @@ pub enum Meant {
     Others(Vec<&'static str>),
 }
 
-/// It is shown behind the line that tells of the word.
+/// It is shown after the line about the word.
 impl Display for Meant {
     fn fmt<W: fmt::Write>(&self, f: &mut fmt::Formatter<W>) -> fmt::Result {
         match self {

@@ -13,7 +13,7 @@ pub enum Notation {
 }
 
 /// The notation of the text of the file: JSON where the name of the file ends in `.json`, and where the first character
-/// behind white space is `{`, with which no TOML begins.
+/// after white space is `{`, with which no TOML begins.
 pub fn notation_of(file: &str, text: &str) -> Notation
     ensures { result ≡ notation_of file.now text.now }
 {

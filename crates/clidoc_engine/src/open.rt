@@ -1,6 +1,6 @@
-//! What is left open at the end of a text that is no TOML.
+//! What is left open at the end of a text that is not TOML.
 
-// What begins a string, and what begins a comment. One that is the front of another stands behind it.
+// What begins a string, and what begins a comment. One that is the front of another stands after it.
 const MARKS: [&str; 5] = ["\"\"\"", "'''", "\"", "'", COMMENT];
 
 const COMMENT: &str = "#";

@@ -22,7 +22,7 @@ impl Display for Place {
     }
 }
 
-/// The place behind this front of a text. A character that is cut there counts.
+/// The place after this front of a text. A character that is cut there counts.
 pub fn place_behind(front: &[u8]) -> Place
     ensures line { result.line ≡ line_behind front.now }
     ensures column { result.column ≡ column_behind front.now }

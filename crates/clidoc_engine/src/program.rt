@@ -150,7 +150,7 @@ where
     }
 }
 
-// The columns of the terminal. What is no text says none.
+// The columns of the terminal. What is not UTF-8 says none.
 fn terminal<R: Alloc + Env>(rt: &R) -> Result<usize, Failure> {
     match env::var(rt, "COLUMNS") {
         Ok(said) => Ok(terminal_width(Some(said.as_str()))),
@@ -506,7 +506,7 @@ fn too_much(global: Global, what: &str, limit: Limit) -> Failure {
     }
 }
 
-// What is told of a run over such a reader, of a file of this name.
+// What a run over such a reader made, of a file of this name, or why it made nothing.
 fn within<T: Drop, S: Drop>(
     global: Global,
     limit: Limit,
@@ -525,7 +525,7 @@ fn within<T: Drop, S: Drop>(
     }
 }
 
-// What is told of a fault of a file.
+// The lines about a fault of a file.
 fn told(global: Global, fault: &Fault, file: &str) -> Failure {
     match format!(in global; "{}", fault.told(file)) {
         Ok(lines) => Failure::Told(lines),

@@ -46,16 +46,16 @@ pub enum WordFault<'w> {
     NoForm,
     /// This is no form.
     NoSuchForm(&'w str),
-    /// This is no form, and a form stands behind it.
+    /// This is not a form, and a form stands after it.
     FormBehind {
         word: &'w str,
         form: &'w str,
     },
     /// There is no such option.
     NoSuchOption(&'w str),
-    /// This option has no value behind it.
+    /// This option has no value after it.
     NoValue(Valued),
-    /// This is no number of columns.
+    /// This is not a number of columns.
     NoColumns(&'w str),
     /// There is no shell to complete words in.
     NoShell,
@@ -67,7 +67,7 @@ pub enum WordFault<'w> {
     NoFolder,
     /// This option is given more than once.
     Twice(WordOption),
-    /// This stands behind the name of the file, which may have been meant for a command.
+    /// This stands after the name of the file, which may have been meant for a command.
     TooMany {
         word: &'w str,
         command: Option<&'w str>,
@@ -92,7 +92,7 @@ impl<'w> From<AllocError> for WordFault<'w> {
 }
 
 /// What words give: those that stand for themselves, the values of each option, each `--deep`, `--fragment` and
-/// `--strict`, and those behind `--`, in order.
+/// `--strict`, and those after `--`, in order.
 #[derive(Drop)]
 pub(crate) struct Given<'w, A: Allocator> {
     pub plain: Vec<&'w str, A>,
@@ -121,7 +121,7 @@ pub(crate) enum Next {
 /// What a word is.
 #[derive(Clone, Copy)]
 pub(crate) enum Kind<'w> {
-    /// `--`: each word behind it is a file.
+    /// `--`: each word after it is a file.
     Dashes,
     /// It stands for itself.
     Plain,
@@ -268,7 +268,7 @@ fn kind_of(word: &str) -> Kind<'_>
     }
 }
 
-// The same of a word that is no option of its own.
+// The same of a word that is not an option by itself.
 fn other_kind(word: &str) -> Kind<'_>
     requires { word.now ≢ codes "-" }
     ensures { kind_said result ≡ other_kind word.now }
@@ -301,7 +301,7 @@ fn joined(word: &str) -> Kind<'_>
     }
 }
 
-// What stands behind this front of the word.
+// What follows this front of the word.
 fn behind<'w>(word: &'w str, front: &str) -> Option<&'w str>
     ensures { option_map (λ rest. rest.now) result ≡ behind front.now word.now }
 {

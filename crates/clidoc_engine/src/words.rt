@@ -141,7 +141,7 @@ fn width_said(text: &str) -> usize
     if count < LEAST_WIDTH { WIDTH } else { count }
 }
 
-/// What the words after the program's name choose, on a terminal of so many columns: `docs/description.md` has the
+/// What the words after the program's name choose, on a terminal of that many columns: `docs/description.md` has the
 /// forms. An error where they choose nothing, or an allocation failed.
 #[tactic(auto, using(crate::proofs::Choosing::chosen_work))]
 pub fn choose<'w, A: Allocator + Copy>(
@@ -189,7 +189,7 @@ fn with_input<'w, A: Allocator + Copy>(
     taken(terminal, word, &behind, given)
 }
 
-// The first of the plain words, and all behind it: the others, and the files.
+// The first of the plain words, and all after it: the others, and the files.
 fn first_word<'w, A: Allocator + Copy>(
     alloc: A,
     plain: &[&'w str],
@@ -209,7 +209,7 @@ fn first_word<'w, A: Allocator + Copy>(
     Ok((*word, behind))
 }
 
-// What the word chooses with those behind it and the options.
+// What the word chooses with those after it and the options.
 #[tactic(auto, using(crate::proofs::Choosing::only_check, crate::proofs::Choosing::only_all, crate::proofs::Choosing::only_completion, crate::proofs::Choosing::only_json, crate::proofs::Choosing::only_draft, crate::proofs::Choosing::only_against, crate::proofs::Choosing::only_page))]
 fn taken<'w, A: Allocator>(
     terminal: usize,
@@ -477,7 +477,7 @@ fn page_named<'w, A: Allocator>(
     }
 }
 
-// The fault of the words behind one, or of that one, if it is no form.
+// The fault of the words after one, or of that one, if it is not a form.
 fn first_fault<'w>(word: &'w str, behind: &[&'w str], fault: WordFault<'w>) -> WordFault<'w> {
     if is_form(word) {
         return fault;
@@ -486,7 +486,7 @@ fn first_fault<'w>(word: &'w str, behind: &[&'w str], fault: WordFault<'w>) -> W
     no_form(word, behind.first().copied())
 }
 
-// The fault of a word that is no form, behind which this one stands.
+// The fault of a word that is not a form, before this one.
 fn no_form<'w>(word: &'w str, behind: Option<&'w str>) -> WordFault<'w> {
     match behind {
         Some(form) if is_form(form) => WordFault::FormBehind { word, form },

@@ -116,14 +116,14 @@ fn put(line: &mut String, words: &str, word: &str) -> Result<(), AllocError> {
     }
 }
 
-// A word that is no form, with a form behind it, and the words that were meant.
+// A word that is not a form, with a form after it, and the words that were meant.
 fn put_turned(line: &mut String, word: &str, form: &str) -> Result<(), AllocError> {
     put(line, "no form ", word)?;
     put(line, "; the form comes first: clidoc ", form)?;
     put(line, " ", word)
 }
 
-// A word behind that of the file, which may have been meant for a command.
+// A word after that of the file, which may have been meant for a command.
 fn put_many(line: &mut String, word: &str, file: Option<&str>) -> Result<(), AllocError> {
     put(line, "one word too many: ", word)?;
     match file {
@@ -167,7 +167,7 @@ fn meant_form(global: Global, word: &str) -> Result<Option<&'static str>, AllocE
     }
 }
 
-// An option without the value behind its `=`.
+// An option without the value after its `=`.
 fn before_value(word: &str) -> &str {
     match word.split_once('=') {
         Some((option, _)) => option,

@@ -15,7 +15,7 @@ use std::{env, fs, io};
 /// How many names beside a place are tried.
 const TRIES: u32 = 8;
 
-/// How many files are told that runs before have left.
+/// How many files that earlier runs have left are reported.
 const MOST_TOLD: u32 = 8;
 
 /// Who may read, write and run a file. The bits beside these would have it run as its owner.

@@ -11,7 +11,7 @@ use std::fmt::Display;
 use std::rt::Env;
 use std::{env, fmt};
 
-/// How many bytes of an arena a byte of a text takes at most: it leaves behind what a text has grown out of.
+/// How many bytes of an arena a byte of a text takes at most: the arena keeps what a text has grown out of.
 const KEPT_FOR_A_BYTE: usize = 8;
 
 /// How many arenas hold at once what pages say: one the levels, and one a page.

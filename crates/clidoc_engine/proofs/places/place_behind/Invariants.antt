@@ -2,7 +2,7 @@ use Rattle.std.proofs.Common.{◌≡◌, ◌+◌, ◌≤◌, take}
 use Rattle.clidoc_engine.specs.Places.{column_behind, line_behind}
 use Rattle.clidoc_engine.proofs.places.place_behind.Given as goal
 
--- the place behind the bytes so far, which lies no further than they are many
+-- the place after the bytes so far, neither number of which is greater than the number of bytes
 abbrev pub invariant-loop-byte : goal.invariant-loop-byte
 invariant-loop-byte l = record {
   line : l.line ≡ line_behind (take l.byte-index l.front);
