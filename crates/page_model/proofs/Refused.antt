@@ -25,7 +25,7 @@ lost (Some one) none = absurd (false≢true (sym none))
 pub refused_append : (xs ys : List (List ℕ)) → refused_in (xs ++ ys) ≡ option_or (refused_in xs) (refused_in ys)
 refused_append xs ys = find-append (λ text. not (are_permitted text)) xs ys
 
--- what is found behind what is permitted is the first
+-- what is found after what is permitted is the first
 first_found : {X : Type 0} (f : X → List (List ℕ)) (xs : List X) (i : ℕ) (d : X) (found : Option (Bor (List ℕ))) → i < length xs → refused_in (flat_map f (take i xs)) ≡ None → text_of found ≡ refused_in (f (get_or xs i d)) → is_some found ≡ true → text_of found ≡ refused_in (flat_map f xs)
 first_found f xs i d found inside none is some =
     let others : List (List ℕ) = flat_map f (drop (suc i) xs) in

@@ -8,7 +8,7 @@ use Rattle.std.proofs.lemmas.List.Concat.{flat_map-append}
 text_more : (f : ℕ → List ℕ) (text : List ℕ) (at : ℕ) → at < length text → flat_map f (take (at + 1) text) ≡ flat_map f (take at text) ++ f (get_or text at 0)
 text_more f text at h = grind (arith, take_more text at 0 h, flat_map-append f (take at text) (get_or text at 0 ∷ []), append-nil (f (get_or text at 0)))
 
--- the next byte of what lies behind a place
+-- the next byte of what lies after a place
 run_more : (text : List ℕ) (start at : ℕ) → start ≤ at → at < length text → take (at + 1 - start) (drop start text) ≡ take (at - start) (drop start text) ++ get_or text at 0 ∷ []
 run_more text start at le h = grind (arith, length-drop start text, take_more (drop start text) (at - start) 0, get_or-drop start text (at - start) 0)
 

@@ -59,7 +59,7 @@ pub struct Form<'a, A: Allocator = Global> {
     pub items: Vec<Line<'a, A>, A>,
 }
 
-/// The rank of a heading: that of a page that stands behind another, of a section, or of a section in one.
+/// The rank of a heading: that of a page that follows another, of a section, or of a section inside one.
 #[derive(Clone, Copy, Debug, PartialEq, Eq)]
 pub enum Rank {
     Page,
@@ -84,7 +84,7 @@ pub struct Chapter<'a, A: Allocator = Global> {
     /// What it is called under the level above: `save`.
     pub name: &'a str,
     pub about: Vec<Block<'a, A>, A>,
-    /// What stands behind `about`.
+    /// What follows `about`.
     pub parts: Vec<Part<'a, A>, A>,
     pub below: Vec<Chapter<'a, A>, A>,
 }

@@ -15,7 +15,7 @@ pub trait StandIns: Copy {
             (λ text. (byte < 128) × (replaced self byte ≡ text.now)) };
 }
 
-/// Writes a text behind what is there, with what stands for its bytes. What lies between two bytes that do not stand
+/// Writes a text after what is there, with what stands for its bytes. What lies between two bytes that do not stand
 /// for themselves goes in at once. An error comes only where an allocation failed; then the text has some part of it.
 pub fn push_replaced<A: Allocator, S: StandIns>(
     out: &mut String<A>,

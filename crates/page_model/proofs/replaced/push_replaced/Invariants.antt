@@ -3,7 +3,7 @@ use Rattle.std.specs.Prelude.{flat_map}
 use Rattle.std.specs.Str.{IsCharBoundary}
 use Rattle.page_model.proofs.replaced.push_replaced.Given as goal
 
--- what is written and what lies behind the last stand-in are what stands for the text so far
+-- what is written and what lies after the last stand-in are what stands for the text so far
 abbrev pub invariant-loop-at : goal.invariant-loop-at
 invariant-loop-at g l = record {
   in_order : l.start ≤ l.at;
