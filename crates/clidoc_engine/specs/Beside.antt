@@ -1,4 +1,4 @@
--- The names of files on the way to their places.
+-- The names of files that are written before they take their places.
 use Rattle.std.specs.Prelude.{codes, ℕ, List, ◌++◌}
 use Rattle.hex.specs.Hex.{encode_lower}
 

@@ -1,4 +1,4 @@
--- What the types of words say.
+-- What the results of the reader of words say.
 use Rattle.std.specs.Prelude.{ℕ, List, [], map, string_bytes}
 use Rattle.std.specs.Borrow.{Bor}
 use Rattle.description.specs.View.{text_of}

@@ -50,11 +50,11 @@ pub record Describes (file text : List ℕ) (d : DescriptionSaid) : Type 0 where
 abbrev pub count_of : Lines → ℕ
 count_of lines = length lines.told.items + lines.more
 
--- the first 20 are reported, or all where there are fewer
+-- as many as 20 are reported, or all where there are fewer
 abbrev pub TellsTheFirst : Lines → Type 0
 TellsTheFirst lines = length lines.told.items ≡ min 20 (count_of lines)
 
--- the text gives a description, which would better say so many things otherwise
+-- the text gives a description that has `count` warnings
 pub record HasWarnings (count : ℕ) (file text : List ℕ) : Type 0 where
   pub description : DescriptionSaid
   pub described : Describes file text description

@@ -1,4 +1,4 @@
--- What the types of words on the way say.
+-- What the intermediate values of the reader of words say.
 use Rattle.std.specs.Prelude.{ℕ, List, ◌++◌, Option, Some, option_map, ⊤}
 use Rattle.clidoc_engine.specs.declared.reading.Given as of_given
 use Rattle.clidoc_engine.specs.declared.reading.Kind as of_kind

@@ -133,7 +133,7 @@ IsOfReading (NoCommand name path meant) = ⊥
 IsOfReading (NoPage error) = ⊥
 IsOfReading Write = ⊥
 
--- the same, and not of the reader
+-- the same without `Read` and `NotUtf8`
 abbrev pub IsOfText : Fault → Type 0
 IsOfText (NotToml place error cause) = ⊤
 IsOfText (NotJson place why) = ⊤
@@ -157,7 +157,7 @@ IsOfFiles Memory = ⊤
 IsOfFiles (NoCommand name path meant) = ⊥
 IsOfFiles Write = ⊥
 
--- the same, and not of the reader
+-- the same without `Read` and `NotUtf8`
 abbrev pub IsOfFilesText : Fault → Type 0
 IsOfFilesText (NotToml place error cause) = ⊤
 IsOfFilesText (NotJson place why) = ⊤
@@ -169,7 +169,7 @@ IsOfFilesText (NoCommand name path meant) = ⊥
 IsOfFilesText Read = ⊥
 IsOfFilesText Write = ⊥
 
--- the same, and not of the text
+-- `NoPage` and `Memory` alone
 abbrev pub IsOfPages : Fault → Type 0
 IsOfPages (NoPage error) = ⊤
 IsOfPages Memory = ⊤

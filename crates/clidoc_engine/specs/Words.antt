@@ -16,16 +16,16 @@ use Rattle.completions.specs.declared.shells.Shell.TheVariants.{Bash, Zsh, Fish}
 
 -- ---- what is chosen
 
--- a page of what some commands lead to: on the console, of a width; in HTML, of that level and of those below it, complete or what stands in its
--- body; in markdown, or as a manual page, of that level alone, or of those below it too; and what completes the words of the program in a shell; the
--- description in JSON; and the names that either that level or a help text has alone
+-- what is printed; `commands` lead to the level that it is about
 pub data PageSaid : Type 0 where
   console : ConsoleForm → (commands : List (List ℕ)) → (width : ℕ) → PageSaid
+  -- of the level and of all below it
   html : Extent → (commands : List (List ℕ)) → TitleGiven → PageSaid
   markdown : (commands : List (List ℕ)) → Depth → PageSaid
   man : (commands : List (List ℕ)) → Depth → TitleGiven → PageSaid
   completion : Shell → PageSaid
   in_json : PageSaid
+  -- the names that either the level or a help text has alone
   differences : HelpSaid → (commands : List (List ℕ)) → PageSaid
 
 pub data ChoiceSaid : Type 0 where
@@ -171,7 +171,7 @@ abbrev pub SaysColumns : (said : Option (List ℕ)) → ℕ → Type 0
 SaysColumns None n = ⊥
 SaysColumns (Some text) n = IsColumns text n × (20 ≤ n)
 
--- the number of columns that the terminal has then, and otherwise 100
+-- that number, or 100 if the environment gives none
 abbrev pub IsTerminalWidth : (said : Option (List ℕ)) → ℕ → Type 0
 IsTerminalWidth said n = SaysColumns said n ⊎ (((m : ℕ) → ¬ SaysColumns said m) × (n ≡ 100))
 
@@ -181,13 +181,13 @@ IsWidth terminal [] n = n ≡ terminal
 IsWidth terminal (text ∷ []) n = IsColumns text n
 IsWidth terminal (text ∷ other ∷ texts) n = ⊥
 
--- the level alone, and those below it too where one word says so
+-- the level alone, or with those below it if `--deep` is given once
 abbrev pub IsDepth : (deeps : List (List ℕ)) → Depth → Type 0
 IsDepth [] depth = depth ≡ Alone
 IsDepth (word ∷ []) depth = depth ≡ Deep
 IsDepth (word ∷ other ∷ words) depth = ⊥
 
--- the complete page, and what stands in its body where one word says so
+-- the complete page, or what stands in its body if `--fragment` is given once
 abbrev pub IsExtent : (fragments : List (List ℕ)) → Extent → Type 0
 IsExtent [] extent = extent ≡ Page
 IsExtent (word ∷ []) extent = extent ≡ Fragment

@@ -66,7 +66,7 @@ summary_warnings path help about =
 
 -- ---- what texts say; `has` tells whether an option is called by a word
 
--- an address that is not of this machine, and is not read in secret
+-- an `http` address that is not on this machine
 abbrev pub is_plain : (address : List ℕ) → Bool
 is_plain address =
     starts_with ◌==◌ address (codes "http://")
@@ -97,8 +97,8 @@ width_hints ForHelp o = []
 width_hints InUsage o = item_hints o
 width_hints OutsideUsage o = []
 
--- a text in place of a usage names options of its level, or such as ask for help; `own` and `asks` tell whether one of
--- these is called by a word
+-- a text in place of a usage names options of its level, or help options; `own` and `asks` say whether one of these is
+-- called by a word
 abbrev pub usage_piece_hints : (own asks : List ℕ → Bool) → Piece → List HintSaid
 usage_piece_hints own asks (words text) = []
 usage_piece_hints own asks (literal text) = hint_if (is_no_option own text && is_no_option asks text) (not_on_level text)

@@ -79,7 +79,7 @@ level_words (level texts required os cs gs ps ms) = (options_words os ++ choices
 abbrev pub is_among : (words : List (List ℕ)) → List ℕ → Bool
 is_among words word = list_any (bytes_eq word) words
 
--- an option may be denied by `--no-` before its word
+-- an option may be negated by `--no-` before its word
 abbrev pub is_known : (has : List ℕ → Bool) → List ℕ → Bool
 is_known has word = has word || (starts_with ◌==◌ word (codes "no-") && has (drop 3 word))
 

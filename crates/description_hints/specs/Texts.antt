@@ -1,4 +1,4 @@
--- What of a text hints look at: the pieces of its lines, and its first paragraph.
+-- The parts of a text that warnings look at: the pieces of its lines, and its first paragraph.
 use Rattle.std.specs.Prelude.{ℕ, Bool, false, ◌&&◌, ◌||◌, ◌==◌, List, [], ◌∷◌, ◌++◌, codes, drop, take, flat_map, Option, Some, None}
 use Rattle.std.specs.Char.{is_ascii_lowercase, is_ascii_uppercase}
 use Rattle.std.specs.List.{list_all, starts_with}

@@ -23,7 +23,7 @@ pub enum Hint<'a> {
     PlainLink(&'a str),
     /// The option takes that many columns as an item of the usage that is made of its level, which are over 60.
     WideItem(usize),
-    /// A text in place of a usage has this name, and no option of its level is called so.
+    /// A text in place of a usage has this name, but neither an option of its level nor a help option is called so.
     NotOnLevel(&'a str),
     /// An option of this name stands before, where this leads, and its help is another text.
     DifferentHelp {

@@ -30,8 +30,9 @@ fn warnings_at<'p>(
 }
 
 /// What a description would better say, in the order of its records: each level before what stands in it; then which
-/// options of one name have different helps, and which levels have pages that are no files. All is made in the arena but
-/// what names of files are compared by, which is made in `global`. An error comes only where an allocation failed.
+/// options of one name have different helps, which pages have a name that no file may have, and which some folders take
+/// for one another. All is made in the arena except what names of files are compared by, which is made in `global`. An
+/// error comes only where an allocation failed.
 pub fn warnings_of<'p, 'a: 'p, C: Allocator>(
     arena: &'p Bump,
     global: Global,

@@ -60,7 +60,12 @@ placed_text has role.Usual p below = usual_title p
 placed_text has role.Entry p below = entry_table has false p
 placed_text has role.Member p below = entry_table has true p
 placed_text has role.LeftOut p below = flat_map left_out p.lines
-placed_text has _ p below = []
+placed_text has role.Nothing p below = []
+placed_text has role.Usage p below = []
+placed_text has role.About p below = []
+placed_text has role.Header p below = []
+placed_text has role.Footer p below = []
+placed_text has role.InTopic p below = []
 
 abbrev pub after_role : Has → Role → PassageSaid → Has
 after_role has role.Entry p = after_entry has p

@@ -80,7 +80,7 @@ pub record IsFormOf (line : List ℕ) (f : FormSaid) : Type 0 where
 abbrev pub FormsStandInTheirLine : Type 0
 FormsStandInTheirLine = (line : List ℕ) → IsUtf8 line → IsFormOf line (first_form line) × IsFormOf line (further_form line)
 
--- the characters of a text that are no white space
+-- the characters of a text that are not white space
 abbrev pub letters : (text : List ℕ) → List ℕ
 letters text = filter is_not_whitespace (chars text)
 

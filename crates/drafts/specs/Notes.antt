@@ -103,7 +103,7 @@ pub record NotesSaid : Type 0 where
   pub preset : Option (List ℕ)
   pub values : Option (List ℕ)
   pub env : Option (List ℕ)
-  -- whether none is of the kind of another
+  -- whether each kind occurs at most once
   pub are_single : Bool
 
 abbrev pub no_notes : NotesSaid

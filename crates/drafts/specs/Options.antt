@@ -186,13 +186,13 @@ is_syntax_good f = list_all is_syntax_part f.names && list_all is_syntax_part f.
 abbrev pub is_good : FrontSaid → Bool
 is_good f = (list_all is_name f.names && list_all is_word f.values) && (is_plain f || is_syntax_good f)
 
--- ---- what of a name no other option of its level has
+-- ---- the part of a name that no other option of its level may have
 
 -- `--[no-]` and two letters or more
 abbrev pub has_negation : (name : List ℕ) → Bool
 has_negation n = bytes_eq (take 7 n) (codes "--[no-]") && nat_lt 8 (length n)
 
--- that of one letter keeps a dash, so that no two names have one key
+-- that of one letter keeps a dash, so that `-x` and `--x` have different keys
 abbrev pub long_key : (name : List ℕ) → List ℕ
 long_key n = if length n == 3 then drop 1 n else drop 2 n
 

@@ -17,7 +17,7 @@ pub record FormSaid : Type 0 where
 abbrev pub form : Bool → List ℕ → FormSaid
 form m text = record { is_marked = m; text = text }
 
--- a text without so many bytes at its front, and the white space after them
+-- the text after its first n bytes, trimmed
 abbrev pub behind : ℕ → List ℕ → List ℕ
 behind n text = trim (drop n text)
 

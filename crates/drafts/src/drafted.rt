@@ -164,7 +164,8 @@ fn push_placed<'a, A: Allocator + Copy>(
         Role::Entry => push_entry(alloc, out, taken, false, placed.passage),
         Role::Member => push_entry(alloc, out, taken, true, placed.passage),
         Role::LeftOut => push_lines_left_out(out, placed.passage.lines),
-        _ => Ok(()),
+        Role::Nothing | Role::Usage | Role::About | Role::Header => Ok(()),
+        Role::Footer | Role::InTopic => Ok(()),
     }
 }
 

@@ -168,7 +168,7 @@ pub struct Notes<'a> {
     pub preset: Option<&'a str>,
     pub values: Option<&'a str>,
     pub env: Option<&'a str>,
-    /// Whether none is of the kind of another.
+    /// Whether each kind occurs at most once.
     pub are_single: bool,
 }
 
