@@ -32,7 +32,8 @@ IsRendering (completion shell) d output = IsScript shell d output
 IsRendering in_json d output = IsReadBack output (json_of d)
 IsRendering (differences text commands) d output = AtLevel commands d (λ s. IsComparison text s.help_options s.level output)
 
--- exactly these bytes. Of a page in HTML its tree says all but how it is spelled.
+-- Exactly these bytes, or nothing where `IsRendering` says enough: of a page in HTML its tree, and not how that is
+-- spelled, of completions the words that are read of their data, and of differences every line.
 abbrev pub IsExact : PageSaid → DescriptionSaid → List ℕ → Type 0
 IsExact (console form commands width) d output = option_map (console_page form width d.words) (level_at commands d) ≡ Some output
 IsExact (html extent commands given) d output = ⊤
@@ -66,7 +67,7 @@ needs_advice p written = not (written == 0) && is_of_no_name p
 
 -- ---- when there is none
 
--- a text that no reader would give back, which media but HTML do not write
+-- a character that no page may hold, for media other than HTML
 abbrev pub HasCharacter : Option PageFault → PageError → Type 0
 HasCharacter fault error = (fault ≡ Some Character) × (error ≡ making.Character)
 

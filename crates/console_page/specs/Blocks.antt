@@ -20,10 +20,11 @@ paragraph_text width lines = laid_out width (broken_lines lines) ++ codes "\n"
 abbrev pub item_text : ℕ → List Line → List ℕ
 item_text width item = behind (codes "- ") (codes "  ") (paragraph_text (width - 2) item)
 
--- code is indented by four columns, as it stands
+-- a line of code as it stands
 abbrev pub code_line : List ℕ → List ℕ
 code_line line = shown Code line ++ codes "\n"
 
+-- code is indented by four columns
 abbrev pub code_text : List (List ℕ) → List ℕ
 code_text lines = behind (codes "    ") (codes "    ") (flat_map code_line lines)
 

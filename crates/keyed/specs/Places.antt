@@ -30,7 +30,7 @@ ReadsInside bracket text rest =
     ((n : ℕ) × (d : Data) × (bracket ≡ right_bracket) × (val n text ≡ Some (d, rest)))
     ⊎ ((n : ℕ) × (e : Key × Data) × (bracket ≡ right_brace) × (keyval (val n) text ≡ Some (e, rest)))
 
--- the same where these brackets close what is open, the innermost first: in none, a header or a pair
+-- the same in the bracket that the closing text begins with; a header or a pair where that text is empty
 abbrev pub ReadsEntry : List ℕ → List ℕ → List ℕ → Type 0
 ReadsEntry [] text rest = (e : Expression) × (expression text ≡ Some (e, rest))
 ReadsEntry (bracket ∷ outer) text rest = ReadsInside bracket text rest
@@ -50,14 +50,14 @@ abbrev pub has_part : List ℕ → Read Key → Bool
 has_part name None = false
 has_part name (Some (k, rest)) = list_any (λ part. bytes_eq part name) (k.0 ++ k.1 ∷ [])
 
--- The entry is the one that the step leads to: to a key that is a part of the entry's; or to an element of an array,
--- which stands there in brackets, or under a header.
+-- The entry is one that the step may lead to: for a key, one whose key has it as a part; for an index, an element of an
+-- array in brackets, or a header of an array. `IsFront` says that it brings what the path leads to.
 abbrev pub names_step : Step → List ℕ → List ℕ → Bool
 names_step (key_step k) closing text = not (first closing == right_bracket) && has_part k.now (key (at_key text))
 names_step (index_step n) closing text = first closing == right_bracket || is_array_header text
 
--- The entry after the front brings the path: the text before it, with the open brackets closed, is a document without
--- the path, and the text through it, closed in the same way, is a document with it.
+-- The entry after the front brings the path: the text before it, with an ending that closes the brackets, is a document
+-- without the path, and the text through it, with the same ending, is a document with it.
 pub record IsFront (text : List ℕ) (path : List Step) (front : List ℕ) : Type 0 where
   pub from : List ℕ
   pub through : List ℕ

@@ -161,7 +161,7 @@ abbrev pub shown_entries : List Entry → List Entry
 shown_entries es = map (λ p. p.1) (shown_places es)
 
 -- what `items_of_ty` gives: a mark by its own type; any other entry by the last mark before it. If that starts a group
--- or an adjacent block the entry goes by its type, and in an adjacent block it needs help; else by its own type
+-- or an adjacent block, by the mark's type, and in an adjacent block the entry needs help; else by the entry's own type
 abbrev pub is_given_after : Option Entry → HiTy → Entry → Bool
 is_given_after (Some (adjacent_start t j)) k e = not (lacks_help e) && same_type j k
 is_given_after (Some (group_start d j)) k e = same_type j k

@@ -79,7 +79,7 @@ impl<'s, B: Allocator, L: Allocator + Copy> Repeats<'s, B, L> {
     }
 }
 
-// Whether no two items have the same hash. Then no two have the same key.
+// True only if no two items have the same hash, and so no two the same key.
 fn are_apart<'a, B: Allocator, L: Allocator>(
     alloc: L,
     entries: &[&HelpItem<'a, B>],
