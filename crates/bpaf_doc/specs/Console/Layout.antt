@@ -240,7 +240,7 @@ pub record KeepsMargin (document : List Part) (stretches : List Stretch) : Type 
       → margin document f.part ≤ column before
   pub exact : (before after : List Stretch) (f : Place) → stretches ≡ before ++ Placed f ∷ after → IsInked (chunk_at f)
       → IsFirstInLine before
-      → IsTrue (not (list_any is_raw_or_ref (events_since_ink before))) ⊎ FollowsBlank before f
+      → (IsTrue (not (list_any is_raw_or_ref (events_since_ink before))) ⊎ FollowsBlank before f)
       → column before ≡ margin document f.part
 
 -- the blocks whose marks ask for nothing and push no margin
