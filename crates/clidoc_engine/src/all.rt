@@ -34,11 +34,11 @@ use lasting_names::Names;
 use std::alloc::{AllocError, Allocator, Global};
 use watched::{Source, Watched};
 
-/// Reads all that the reader has left, as a description in a file of this name, and makes all pages of it: of each level,
-/// each before those below it, the manual page and the page in markdown, and last the complete HTML page. In the title
-/// lines of the manual pages and at the foot of the HTML page stand the words that are given. Its faults are those of
-/// `run_description` that come of reading, and they come where those do, and `NoPage`, where a word or a text cannot
-/// stand in a page.
+/// Reads all that the reader has left, as a description in a file of this name, and makes all pages of it: of each
+/// level, each before those below it, the manual page and the page in markdown, and last the complete HTML page. In the
+/// title lines of the manual pages and at the foot of the HTML page stand the words that are given. Its faults are
+/// those of `run_description` that come of reading, and they come where those do, and `NoPage`, where a word or a text
+/// cannot stand in a page.
 pub fn make_files<A: Allocator + Copy, R: Source>(
     alloc: A,
     room: Room,

@@ -14,8 +14,8 @@ pub struct Open<'t> {
     pub mark: &'static str,
 }
 
-/// What is open at the end of the text, before which it is TOML: the string, or else the bracket around all others. None
-/// where nothing is.
+/// What is open at the end of the text, before which it is TOML: the string, or else the bracket around all others.
+/// None where nothing is.
 pub fn open_at_end(text: &[u8]) -> Option<Open<'_>> {
     let mut walk = Walk {
         skipped: 0,

@@ -23,8 +23,8 @@ use man_page::{TitleLine, manual_page};
 use page_model::PageFault;
 use std::alloc::{AllocError, Allocator, Global};
 
-/// The manual page of a level, of it alone or with those below it. `Character` comes where a text of the page, or a word
-/// of its title line, may not stand in a page, and `Refused` where an allocation failed.
+/// The manual page of a level, of it alone or with those below it. `Character` comes where a text of the page, or a
+/// word of its title line, may not stand in a page, and `Refused` where an allocation failed.
 #[tactic(auto, using(crate::proofs::Failing::failing, crate::proofs::Failing::permitted))]
 pub fn manual_page_of<'p, 'a: 'p, A: Allocator + Copy>(
     alloc: A,

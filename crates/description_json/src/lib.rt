@@ -23,8 +23,8 @@ use std::alloc::{AllocError, Global};
 use toml::Table;
 use walk::fault_of;
 
-/// The table of a JSON text, an object: objects are tables, arrays are arrays, and a number is one of TOML with the same
-/// letters.
+/// The table of a JSON text, an object: objects are tables, arrays are arrays, and a number is one of TOML with the
+/// same letters.
 ///
 /// `Content` reports why a text gives none: it is not JSON, no object stands at the top, a key stands twice in an
 /// object, arrays and objects are nested more than 80 deep, a value is null, or a number does not fit into 64 bits. Of

@@ -33,10 +33,10 @@ pub fn html_ids_are_distinct()
     ensures { HtmlIdsAreDistinct }
 {}
 
-/// No medium refuses a text of a page of a description that a TOML text gives: no page on a console, as a manual page or
-/// in markdown has a fault, of the application or of a command, alone or with the levels below it, and none in HTML has
-/// the fault `Character`. The texts are UTF-8, as those of every value are. A date and a vendor that are given in the
-/// place of its own are permitted too.
+/// No medium refuses a text of a page of a description that a TOML text gives: no page on a console, as a manual page
+/// or in markdown has a fault, of the application or of a command, alone or with the levels below it, and none in HTML
+/// has the fault `Character`. The texts are UTF-8, as those of every value are. A date and a vendor that are given in
+/// the place of its own are permitted too.
 pub fn pages_are_written()
     ensures { PagesAreWritten }
 {}

@@ -28,8 +28,8 @@ pub fn each_key_is_listed_once()
     ensures { EachKeyIsListedOnce }
 {}
 
-/// Each option that asks for help is shown among the options of each level, unless it is hidden or one with its key stands
-/// before it.
+/// Each option that asks for help is shown among the options of each level, unless it is hidden or one with its key
+/// stands before it.
 pub fn help_options_are_listed()
     ensures { HelpOptionsAreListed }
 {}

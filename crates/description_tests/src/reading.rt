@@ -1,6 +1,6 @@
 //! Descriptions that are read from TOML, with ample memory or with each growth refused in turn: budgets rise from
-//! nothing, and each refuses the first growth that does not fit, until the call succeeds. Tables, names and what is shown
-//! stand in other memory.
+//! nothing, and each refuses the first growth that does not fit, until the call succeeds. Tables, names and what is
+//! shown stand in other memory.
 use crate::forms::{Form, made};
 use description_toml::{DescriptionError, Faults, description_from_table};
 use lasting_names::Names;

@@ -125,8 +125,8 @@ fn is_barred(spelling: Spelling<'_>) -> bool
     }
 }
 
-/// What a usage shows of an option as an item, hidden or not: in brackets where it is not required, with dots where it is
-/// repeated. An error comes only where an allocation failed.
+/// What a usage shows of an option as an item, hidden or not: in brackets where it is not required, with dots where it
+/// is repeated. An error comes only where an allocation failed.
 pub fn option_item<'p, A: Allocator>(
     arena: &'p Bump<A>,
     option: &Opt<'p>,

@@ -511,8 +511,8 @@ fn keys_of_value<'a, A: Allocator>(alloc: A, line: &'a str) -> Option<Keys<'a, A
     }
 }
 
-/// The names of an entry that no other of the level may have: of an option those that are free. None where a description
-/// does not take the entry.
+/// The names of an entry that no other of the level may have: of an option those that are free. None where a
+/// description does not take the entry.
 pub fn entry_keys<'a, A: Allocator + Copy>(
     alloc: A,
     taken: &Words<'a, A>,

@@ -1,4 +1,5 @@
-//! What the front of one line of a help text says: the names of an option or a command, the value, and where the help begins.
+//! What the front of one line of a help text says: the names of an option or a command, the value, and where the help
+//! begins.
 #![tactic(auto)]
 
 mod bytes;

@@ -66,8 +66,8 @@ fn push_names<'a, A: Allocator>(
     Ok(())
 }
 
-/// The names of options at the front of a line, in their order: those of its front, and of each further front that follows one
-/// after a blank, as in `-mount -noleaf -xdev`. None if the line begins with no option.
+/// The names of options at the front of a line, in their order: those of its front, and of each further front that
+/// follows one after a blank, as in `-mount -noleaf -xdev`. None if the line begins with no option.
 ///
 /// # Errors
 ///

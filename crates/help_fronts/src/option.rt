@@ -20,7 +20,8 @@ use std::alloc::{AllocError, Allocator, Global};
 pub struct OptionFront<'a, A: Allocator = Global> {
     /// With their dashes, in the order of the line.
     pub names: Vec<&'a str, A>,
-    /// What is said of each value of the last name that has any, with brackets: `<MIN>` and `[MAX]` of `--of <MIN> [MAX]`.
+    /// What is said of each value of the last name that has any, with brackets: `<MIN>` and `[MAX]` of
+    /// `--of <MIN> [MAX]`.
     pub values: Vec<&'a str, A>,
     /// The byte directly after the name, as `=` or a bracket, if the first value is in one word with it; else a blank.
     pub joint: u8,

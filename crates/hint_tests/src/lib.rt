@@ -1,5 +1,5 @@
-//! Tests of `description_hints`: rows with ample memory, and each growth refused in turn. A row is a description in TOML
-//! and its hints.
+//! Tests of `description_hints`: rows with ample memory, and each growth refused in turn. A row is a description in
+//! TOML and its hints.
 #![tactic(auto)]
 
 #[cfg(test)]

@@ -1,5 +1,5 @@
-//! Each growth refused in turn: hints are found in an arena with room for nothing, then for a little more each time, until
-//! all are there.
+//! Each growth refused in turn: hints are found in an arena with room for nothing, then for a little more each time,
+//! until all are there.
 use crate::reading::is_said_of;
 use bumpalo::Bump;
 use description::Description;

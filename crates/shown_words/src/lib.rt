@@ -111,8 +111,8 @@ fn is_between(first: char, last: char, character: char) -> bool
     first <= character && character <= last
 }
 
-/// Whether nothing is seen of a character where it stands: a font may leave it out, it is a mark of notes between lines,
-/// or it is the pattern of Braille without a dot.
+/// Whether nothing is seen of a character where it stands: a font may leave it out, it is a mark of notes between
+/// lines, or it is the pattern of Braille without a dot.
 #[tactic(auto, using(crate::proofs::Ascii::ascii_is_seen))]
 pub fn is_unseen(character: char) -> bool
     ensures { result ≡ is_unseen character }
@@ -130,8 +130,8 @@ fn is_separator(character: char) -> bool
     is_between('\u{2028}', '\u{2029}', character)
 }
 
-/// Whether nothing is seen of a character, or it moves what stands beside it: control characters, unseen ones, separators
-/// of lines, and noncharacters.
+/// Whether nothing is seen of a character, or it moves what stands beside it: control characters, unseen ones,
+/// separators of lines, and noncharacters.
 pub fn is_hidden(character: char) -> bool
     ensures { result ≡ is_hidden character }
 {

@@ -1,4 +1,5 @@
-//! What `Debug` shows of lists and of texts of environment variables, what errors say, all forms at once, and title lines.
+//! What `Debug` shows of lists and of texts of environment variables, what errors say, all forms at once, and title
+//! lines.
 use crate::help::calls::{Call, list_of};
 use crate::help::pages_calls::PageCall;
 use crate::help::refusals::given;
