@@ -1110,6 +1110,18 @@ values = ['x', ['y']]
 long = 'b'
 value = 'V'
 values = 'x'
+=> option 1 (--b): values is no array of texts; write values = ["x"]
+
+[[option]]
+long = 'b'
+value = 'V'
+values = 'x, y'
+=> option 1 (--b): values is no array of texts; write each in quotes, in [ ]
+
+[[option]]
+long = 'b'
+value = 'V'
+values = true
 => option 1 (--b): values is no array of texts
 
 [[positional]]
@@ -1211,7 +1223,7 @@ aliases = []
 [[command]]
 name = 'b'
 aliases = 'c'
-=> command 1 (b): aliases is no array of texts
+=> command 1 (b): aliases is no array of texts; write aliases = ["c"]
 
 [[command]]
 name = 'b'
@@ -1637,6 +1649,22 @@ usage = ''
 words: usage is empty
 help_option 1: short, long or syntax is missing
 option 1: short, long or syntax is missing
+
+# The name of the top that stands below a table.
+[[option]]
+short = 'a'
+name = 'b'
+[[choice]]
+name = 'c'
+[[choice.option]]
+short = 'd'
+[[positional]]
+value = 'P'
+about = 'A'
+=> name is missing
+option 1 (-a): no key name is known here; it is called long; a key of the top stands before the first table
+choice 1: no key name is known here; a key of the top stands before the first table
+positional 1 (P): no key about is known here; a key of the top stands before the first table
 
 # In a choice whose other keys are refused the options are read, and in one without options there is nothing to read.
 name = 'a'

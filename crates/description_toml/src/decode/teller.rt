@@ -5,8 +5,8 @@ ghost use Rattle.description_toml.specs.Faults.{IsMemory, IsRefusal, Joins, Tell
 use super::faults::{DescriptionError, Fault, Faults};
 use super::places::{Header, Place, Way, path_through};
 use super::twice::Named;
-use super::unknown::Unknown;
-use crate::words::Brief;
+use super::unknown::{Table, Unknown};
+use crate::words::{Brief, Quoted};
 use keyed::Step;
 use std::alloc::{AllocError, Allocator};
 use toml::Value;
@@ -40,6 +40,10 @@ enum Wrong<'a> {
         known: &'static [&'static str],
     },
     NoHint(&'a str),
+    Lone {
+        key: &'static str,
+        word: &'a str,
+    },
 }
 
 /// Reports what is wrong, and where. Each failed allocation goes through it, so that it knows of one at the end.
@@ -148,6 +152,11 @@ impl<'a, A: Allocator + Copy> Teller<'a, A> {
         self.say(Wrong::NoTables { key, is_one })
     }
 
+    /// Reports a text at a key that takes an array of texts.
+    pub fn tell_lone(&mut self, key: &'static str, word: &'a str) -> Refused {
+        self.say(Wrong::Lone { key, word })
+    }
+
     /// Reports a key that is not known.
     pub fn tell_unknown(&mut self, key: &'a str, known: &'static [&'static str]) -> Refused {
         self.say(Wrong::Unknown { key, known })
@@ -208,6 +217,7 @@ impl<'a, A: Allocator + Copy> Teller<'a, A> {
             Wrong::At { key, .. } => self.path_to(key),
             Wrong::NoTables { key, .. } => self.path_to(key),
             Wrong::Unknown { key, .. } => self.path_to(key),
+            Wrong::Lone { key, .. } => self.path_to(key),
             Wrong::NoHint(_) => self.path_to("hint"),
         }
     }
@@ -225,13 +235,28 @@ impl<'a, A: Allocator + Copy> Teller<'a, A> {
                 format!(in self.alloc; "{way}{key} is no array of tables")
             }
             Wrong::Unknown { key, known } => {
-                let unknown = Unknown::key(self.alloc, key, known, self.places.is_empty())?;
+                let unknown = Unknown::key(self.alloc, key, known, self.kind_of_table())?;
                 format!(in self.alloc; "{way}{unknown}")
             }
             Wrong::NoHint(word) => {
                 let unknown = Unknown::hint(self.alloc, word)?;
                 format!(in self.alloc; "{way}{unknown}")
             }
+            Wrong::Lone { key, word } => {
+                let word = Quoted(word);
+                format!(in self.alloc; "{way}{key} is no array of texts; write {key} = [{word}]")
+            }
+        }
+    }
+
+    // Where this stands. Of what has no key only the name of the top is missing at the top.
+    fn kind_of_table(&self) -> Table {
+        if self.places.is_empty() {
+            Table::Top
+        } else if self.told.iter().any(|fault| fault.path.is_empty()) {
+            Table::BelowNoName
+        } else {
+            Table::Below
         }
     }
 

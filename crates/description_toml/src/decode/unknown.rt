@@ -53,6 +53,17 @@ const TOP_KEYS: [&str; 10] = [
     "command_required",
 ];
 
+const BEFORE_TABLES: &str = "a key of the top stands before the first table";
+
+/// The table in which a key is not known.
+#[derive(Clone, Copy, PartialEq, Eq)]
+pub enum Table {
+    Top,
+    Below,
+    /// One below a top that has no name.
+    BelowNoName,
+}
+
 /// Which word may be meant by one that is not known.
 #[derive(Clone, Copy)]
 enum Meant {
@@ -60,6 +71,8 @@ enum Meant {
     Other(&'static str),
     /// One with a similar spelling.
     Near(&'static str),
+    /// One that says this, or one of the top.
+    OtherOrTop(&'static str),
     /// One of the top.
     Top,
     /// Any of these.
@@ -92,15 +105,19 @@ fn meaning_of<A: Allocator + Copy>(
     alloc: A,
     key: &str,
     known: &'static [&'static str],
-    is_top: bool,
+    table: Table,
 ) -> Result<Meant, AllocError> {
-    if let Some(other) = other_key(key, known) {
-        return Ok(Meant::Other(other));
+    match other_key(key, known) {
+        Some(other) if table == Table::BelowNoName && key == "name" => {
+            return Ok(Meant::OtherOrTop(other));
+        }
+        Some(other) => return Ok(Meant::Other(other)),
+        None => {}
     }
     if let Some(near) = nearest(alloc, key, known)? {
         return Ok(Meant::Near(near));
     }
-    if !is_top && is_in(key, &TOP_KEYS) {
+    if table != Table::Top && is_in(key, &TOP_KEYS) {
         return Ok(Meant::Top);
     }
     Ok(Meant::Any(known))
@@ -139,9 +156,9 @@ impl<'k> Unknown<'k> {
         alloc: A,
         key: &'k str,
         known: &'static [&'static str],
-        is_top: bool,
+        table: Table,
     ) -> Result<Unknown<'k>, AllocError> {
-        let meant = meaning_of(alloc, key, known, is_top)?;
+        let meant = meaning_of(alloc, key, known, table)?;
         Ok(Unknown {
             what: "key",
             word: key,
@@ -165,8 +182,9 @@ impl Display for Unknown<'_> {
         write!(f, "no {} {} is known here; ", self.what, Brief(self.word))?;
         match self.meant {
             Meant::Other(other) => write!(f, "it is called {other}"),
+            Meant::OtherOrTop(other) => write!(f, "it is called {other}; {BEFORE_TABLES}"),
             Meant::Near(near) => write!(f, "is it {near}?"),
-            Meant::Top => f.write_str("a key of the top stands before the first table"),
+            Meant::Top => f.write_str(BEFORE_TABLES),
             Meant::Any(known) => write!(f, "{}s are {}", self.what, Listed(known)),
         }
     }

@@ -176,13 +176,28 @@ fn words_of_value<'a, A: Allocator + Copy>(
 ) -> Result<Vec<&'static str, A>, Refused>
     ensures { Reads (as_texts (as_kind kind) (view value.now)) (λ words. words_of words.items) result }
 {
-    let Value::Array(items) = value else {
-        return Err(teller.tell(key, " is no array of texts"));
+    let items = match value {
+        Value::Array(items) => items,
+        Value::String(word) => return Err(lone(teller, key, word.as_str())),
+        _ => return Err(teller.tell(key, " is no array of texts")),
     };
     if is_empty(items) {
         return Err(teller.tell(key, " is empty"));
     }
     words_in(teller, names, items, key, kind)
+}
+
+// Says how a text is written where an array of texts is wanted. With a comma it may stand for many.
+fn lone<'a, A: Allocator + Copy>(
+    teller: &mut Teller<'a, A>,
+    key: &'static str,
+    word: &'a str,
+) -> Refused {
+    if word.contains(',') {
+        teller.tell(key, " is no array of texts; write each in quotes, in [ ]")
+    } else {
+        teller.tell_lone(key, word)
+    }
 }
 
 fn words_in<'a, A: Allocator + Copy>(
