@@ -1,8 +1,5 @@
 -- The words of a usage, one after another.
-use Rattle.std.proofs.Common.{◌≡◌, ℕ, suc, zero, ◌+◌, ◌<◌, ◌≤◌, Bool, true, false, not, cond, List, [], ◌∷◌, ◌++◌, map, filter, length, drop, take, refl, sym, ap, ◌∙◌, arith}
-use Rattle.std.specs.List.{onto_first, prefix_len, slice_split}
-use Rattle.std.proofs.lemmas.List.Splits.{slice_split_first}
-use Rattle.std.proofs.lemmas.List.Sums.{prefix_len-le-length}
+use Rattle.std.proofs.Common.{◌≡◌, ℕ, suc, zero, ◌+◌, ◌<◌, ◌≤◌, Bool, true, false, not, cond, List, [], ◌∷◌, ◌++◌, map, filter, length, drop, take, refl, ap, ◌∙◌, arith}
 use Rattle.help_fronts.specs.declared.bytes.Class.TheVariants as class
 use Rattle.help_fronts.specs.Bytes.{free_len, is_usage_mark}
 use Rattle.help_fronts.specs.Words.{is_name, name}

@@ -1,11 +1,11 @@
 -- Where the value ends that a text begins with.
-use Rattle.std.proofs.Common.{◌≡◌, ℕ, suc, zero, ◌+◌, ◌<◌, ◌≤◌, Bool, true, false, cond, List, [], ◌∷◌, length, length-take, take, get_or, refl, sym, ap, ◌∙◌, subst, arith, one-add, ◌⊎◌, inl, inr, nat_lt, min}
+use Rattle.std.proofs.Common.{◌≡◌, ℕ, suc, zero, ◌+◌, ◌<◌, ◌≤◌, Bool, true, false, cond, List, [], ◌∷◌, length, length-take, take, get_or, refl, sym, subst, arith, one-add, ◌⊎◌, inl, inr, nat_lt}
 use Rattle.std.proofs.lemmas.Bool.Decides.{nat_tests}
 use Rattle.std.specs.Str.{IsCharBoundary, IsUtf8}
 use Rattle.std.proofs.lemmas.Str.{IsCharBoundary-end, IsCharBoundary-start, IsCharBoundary-before_ascii}
 use Rattle.std.proofs.lemmas.Bool.{cases_lt}
 use Rattle.help_fronts.specs.Pieces.{deeper}
-use Rattle.help_fronts.specs.Usages.{at_most, ends_value, len_of_value, value_len}
+use Rattle.help_fronts.specs.Usages.{ends_value, len_of_value, value_len}
 
 pub value_within : (depth before : ℕ) (bs : List ℕ) → value_len depth before bs ≤ length bs
 value_within depth before [] = omega arith

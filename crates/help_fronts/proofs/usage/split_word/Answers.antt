@@ -1,7 +1,7 @@
 use Rattle.std.proofs.Common.{◌≡◌, ◌+◌, ◌∷◌, ◌∙◌, ap, drop, rules, sym, take}
 use Rattle.help_fronts.specs.declared.bytes.Class.TheVariants as class
 use Rattle.help_fronts.specs.Bytes.{free_len}
-use Rattle.help_fronts.specs.Usages.{WordSaid, usage_words}
+use Rattle.help_fronts.specs.Usages.{usage_words}
 use Rattle.help_fronts.proofs.Boundaries.{behind_free}
 use Rattle.help_fronts.proofs.Runs.{last_is, said, word_first}
 use Rattle.help_fronts.proofs.usage.split_word.Goals as goal
