@@ -67,7 +67,7 @@ listed_value o = if is_in_list o then Some kind.Value else None
 abbrev pub leads : (here next : Shape) → Bool
 leads here next = nat_lt here.indent next.indent && not next.is_empty
 
--- an option below, where an empty line may be between, if the line does not begin with a small word as the end of a text does
+-- an option right below; or below an empty line, unless a small word begins this line, as one of a text
 abbrev pub is_above_option : (here next : Shape) → Bool
 is_above_option here next = next.is_option && not (next.is_empty && here.is_word)
 
