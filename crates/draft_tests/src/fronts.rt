@@ -235,7 +235,7 @@ fn other_lines_have_no_options(rt: HostRuntime) {
 }
 
 // A line; the name of the command, its other names with a blank after each, and the help.
-const COMMANDS: [(&str, &str, &str, &str); 9] = [
+const COMMANDS: [(&str, &str, &str, &str); 18] = [
     (
         "    clone    Clone a repository",
         "clone",
@@ -245,6 +245,25 @@ const COMMANDS: [(&str, &str, &str, &str); 9] = [
     ("  build, b   Compile it", "build", "b ", "Compile it"),
     ("  go (g)     run", "go", "g ", "run"),
     ("  run (default)  it", "run", "", "it"),
+    (
+        "    send (put)          Send a file",
+        "send",
+        "put ",
+        "Send a file",
+    ),
+    (
+        "  stop (halt,end, x-2)    Stop it",
+        "stop",
+        "halt end x-2 ",
+        "Stop it",
+    ),
+    ("  stop (halt, end)", "stop", "halt end ", ""),
+    ("  stop (halt, End)  it", "stop", "", "it"),
+    ("  stop (halt,  end)  it", "stop", "", "it"),
+    ("  stop (halt, end,)  it", "stop", "", "it"),
+    ("  stop (to halt)  it", "stop", "", "it"),
+    ("  stop (halt) NAME  it", "stop", "", "it"),
+    ("  stop (deprecated)  it", "stop", "", "it"),
     ("list - list packages", "list", "", "list packages"),
     ("auth:  Log in", "auth", "", "Log in"),
     (
@@ -412,6 +431,7 @@ const BYTES: usize = 4096;
 enum Call {
     Option,
     Command,
+    Listed,
     Usage,
 }
 
@@ -421,6 +441,7 @@ impl Call {
         match self {
             Call::Option => Ok(has_option(option_front(alloc, "-a, -b, -c, -d, -e, -f X  help")?)),
             Call::Command => Ok(has_command(command_front(alloc, "a, b, c, d, e, f  help")?)),
+            Call::Listed => Ok(has_command(command_front(alloc, "a (b, c, d, e, f)  help")?)),
             Call::Usage => Ok(usage_options(alloc, "[-a] [-b] [-c] [-d] [-e] [-f]")?.len() == 6),
         }
     }
@@ -466,5 +487,6 @@ fn is_made_with_more(rt: &impl Abort, out: Global, call: Call) -> bool {
 fn fronts_are_made_with_more_room(rt: HostRuntime) {
     assert!(rt; is_made_with_more(&rt, rt.alloc(), Call::Option));
     assert!(rt; is_made_with_more(&rt, rt.alloc(), Call::Command));
+    assert!(rt; is_made_with_more(&rt, rt.alloc(), Call::Listed));
     assert!(rt; is_made_with_more(&rt, rt.alloc(), Call::Usage));
 }

@@ -8,12 +8,13 @@ use help_differences::{
 use std::alloc::{AllocError, Allocator, Global};
 use std::process::Abort;
 
-const HELP: [&str; 20] = [
+const HELP: [&str; 21] = [
     "usage: prog [-h] [--foo FOO]",
     "            [--far]",
     "",
     "Commands:",
     "  go (g)   start",
+    "  end (halt, stop)  it",
     "  put      store [a] [aliases: add,  -x, store ]",
     "  get      fetch [aliases: take,",
     "           have]",
@@ -31,12 +32,15 @@ const HELP: [&str; 20] = [
     "--far=/a",
 ];
 
-const NAMES: [(Kind, &str); 16] = [
+const NAMES: [(Kind, &str); 19] = [
     (Kind::Option, "-h"),
     (Kind::Option, "--foo"),
     (Kind::Option, "--far"),
     (Kind::Command, "go"),
     (Kind::Command, "g"),
+    (Kind::Command, "end"),
+    (Kind::Command, "halt"),
+    (Kind::Command, "stop"),
     (Kind::Command, "put"),
     (Kind::Command, "add"),
     (Kind::Command, "store"),
@@ -75,19 +79,22 @@ const DESCRIBED: [(Kind, &str); 4] = [
     (Kind::Option, "-y"),
 ];
 
-const ALONE: [(Kind, &str, Side); 13] = [
+const ALONE: [(Kind, &str, Side); 16] = [
     (Kind::Option, "--far", Side::Help),
     (Kind::Option, "--foo", Side::Help),
     (Kind::Option, "-amin", Side::Help),
     (Kind::Option, "-anewer", Side::Help),
     (Kind::Option, "-y", Side::Description),
     (Kind::Command, "add", Side::Help),
+    (Kind::Command, "end", Side::Help),
     (Kind::Command, "gaze", Side::Help),
     (Kind::Command, "get", Side::Help),
     (Kind::Command, "go", Side::Help),
+    (Kind::Command, "halt", Side::Help),
     (Kind::Command, "look", Side::Help),
     (Kind::Command, "put", Side::Help),
     (Kind::Command, "see", Side::Help),
+    (Kind::Command, "stop", Side::Help),
     (Kind::Command, "store", Side::Help),
 ];
 

@@ -54,6 +54,11 @@ const ROWS: &[(&str, &str)] = &[
         "usage: a\n\nCommands:\n  go (g)  run\n  list (default)  show\n",
         "name = \"a\"\nusage = \"a\"\n\n# Commands:\n\n[[command]]\nname = \"go\"\naliases = [\"g\"]\nhelp = \"run\"\n\n[[command]]\n# left out: list (default)\nname = \"list\"\nhelp = \"show\"\n",
     ),
+    // other names in parentheses
+    (
+        "usage: a\n\nCommands:\n  send (put)        Send a file\n  stop (halt, end)  Stop it\n",
+        "name = \"a\"\nusage = \"a\"\n\n# Commands:\n\n[[command]]\nname = \"send\"\naliases = [\"put\"]\nhelp = \"Send a file\"\n\n[[command]]\nname = \"stop\"\naliases = [\"halt\", \"end\"]\nhelp = \"Stop it\"\n",
+    ),
     // a sentence, a text at the left edge below a topic, and letters of options in another order
     (
         "usage: a [-yx]\n\nMandatory arguments are mandatory.\n  -x  more\n  -y, --at=<k>[,..]  place\n\nExit status:\n 0  if OK,\n\nSee more.\n",

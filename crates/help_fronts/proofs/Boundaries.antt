@@ -1,5 +1,5 @@
 -- Where a text may be cut: at bytes that are ASCII.
-use Rattle.std.proofs.Common.{◌≡◌, ℕ, suc, zero, ◌+◌, ◌<◌, ◌≤◌, Bool, true, false, not, cond, List, [], ◌∷◌, length, get_or, refl, sym, subst, arith, add-one, one-add, nat_lt, true≢false}
+use Rattle.std.proofs.Common.{◌≡◌, ℕ, suc, zero, ◌+◌, ◌-◌, ◌==◌, ◌<◌, ◌≤◌, Bool, true, false, not, cond, List, [], ◌∷◌, length, get_or, refl, sym, subst, arith, add-one, one-add, nat_lt, true≢false}
 use Rattle.std.specs.List.{prefix_len}
 use Rattle.std.specs.Str.{IsCharBoundary, IsUtf8}
 use Rattle.std.proofs.lemmas.List.Sums.{prefix_len-le-length, prefix_len_passes, prefix_len_stops}
@@ -8,7 +8,7 @@ use Rattle.std.proofs.lemmas.Bool.Decides.{nat_tests}
 use Rattle.std.proofs.lemmas.Str.{IsCharBoundary-start, IsCharBoundary-end, IsCharBoundary-before_ascii, IsCharBoundary-after_ascii, IsUtf8-drop}
 use Rattle.help_fronts.specs.Bytes.{free_len, is_dash, is_in, is_letter, is_no_letter}
 use Rattle.help_fronts.specs.Words.{dashes, is_name}
-use Rattle.help_fronts.specs.Fronts.{gap_len, is_in_gap}
+use Rattle.help_fronts.specs.Fronts.{gap_len, is_in_gap, is_in_parentheses}
 use Rattle.help_fronts.specs.declared.bytes.Class.{Class}
 
 after_run : (p : ℕ → Bool) (bs : List ℕ) (n : ℕ) → prefix_len p bs ≡ n → IsUtf8 bs → ((c : ℕ) → p c ≡ true → c < 128) → IsCharBoundary bs n
@@ -69,3 +69,10 @@ behind_gap (b ∷ bs) utf8 = by (is_in_gap b (get_or bs 0 0)) refl (behind_gap b
       let inner : IsCharBoundary bs (gap_len bs) = below rest in
       subst (IsCharBoundary (b ∷ bs)) (sym (one-add (gap_len bs))) ((let n = inner.0 in omega arith), (λ l. inner.1 (omega arith)))
   by false e below = IsCharBoundary-start (b ∷ bs) utf8
+
+-- behind a parenthesis that begins a word
+pub behind_parenthesis : (w : List ℕ) → IsUtf8 w → is_in_parentheses w ≡ true → IsCharBoundary w 1
+behind_parenthesis w utf8 h =
+    let opened : (get_or w 0 0 == 40) ≡ true = (and_parts (get_or w 0 0 == 40) (get_or w (length w - 1) 0 == 41) h).0 in
+    let e : get_or w 0 0 ≡ 40 = grind (arith, nat_tests) in
+    IsCharBoundary-after_ascii w 0 utf8 (stands w 0 40 e (omega arith)) (omega arith)

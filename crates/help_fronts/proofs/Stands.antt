@@ -7,11 +7,11 @@ use Rattle.help_fronts.specs.declared.front.Kind.{Kind}
 use Rattle.help_fronts.specs.declared.front.Kind.TheVariants as kind
 use Rattle.help_fronts.specs.Pieces.{first_word, pieces, word}
 use Rattle.help_fronts.specs.Words.{bare_word, is_name, name, value_text, value_word, without_joints}
-use Rattle.help_fronts.specs.Fronts.{CommandSaid, before_name, begins_front, behind_front, belonging, belongs, command_in, command_name, command_said, first_value, from_last, front, front_in, front_said, gap_of, if_parted, is_alias, is_parted, is_valued, names, or_else, says_more, says_value, values, without_indent}
+use Rattle.help_fronts.specs.Fronts.{CommandSaid, aliases, before_name, begins_front, behind_front, belonging, belongs, command_in, command_name, command_said, first_value, from_last, front, front_in, front_said, gap_of, if_parted, is_alias, is_list, is_parted, is_valued, listed, names, only, or_else, other_names, says_more, says_value, values, without_indent}
 use Rattle.help_fronts.specs.Lines.{further_words, goes_on, option_words}
 use Rattle.help_fronts.specs.Usages.{WordSaid, bare, is_own, joint_after, options_from, usage_words, used, used_with, value_after}
 use Rattle.help_fronts.specs.Laws.{CommandsStandInTheirLine, IsCommandOf, IsFrontOf, IsTextOf, IsUsedIn, NamesStandInTheirLine, OptionsStandInTheirLine, UsageOptionsStandInTheirLine}
-use Rattle.help_fronts.proofs.Texts.{IsWordIn, all_read, all_within, at_front, bare_word_of, concat_pieces, dropped, joined, name_of, nothing, taken, value_after_of, value_text_of, value_word_of, within, without_joints_of, word_of, usage_words_are}
+use Rattle.help_fronts.proofs.Texts.{IsWordIn, all_read, all_within, at_front, bare_word_of, concat_pieces, dropped, joined, listed_are, name_of, nothing, taken, value_after_of, value_text_of, value_word_of, within, without_joints_of, word_of, usage_words_are}
 
 -- ---- a front begins its text
 
@@ -131,6 +131,17 @@ options_stand_in_their_line line =
 -- ---- commands
 
 module _ (line : List ℕ) where
+  only_is : (ws : List (List ℕ)) → Are line ws → IsTextOf line (only ws)
+  only_is [] all = nothing line
+  only_is (w ∷ []) all = first_of line w [] all
+  only_is (w ∷ v ∷ ws) all = nothing line
+
+  aliases_are : (n : List ℕ) (ws : List (List ℕ)) → Are line ws → Are line (aliases (n ∷ ws))
+  aliases_are n ws all = by (is_list (only ws)) where
+    by : (t : Bool) → Are line (cond t (listed (only ws)) (other_names n ws))
+    by true = all_within line (only ws) (only_is ws all) (listed (only ws)) (listed_are (only ws))
+    by false = all_read bare_word bare_word_of line _ (All-filter (is_alias n) (IsTextOf line) ws all)
+
   command_is : (text : List ℕ) → IsTextOf line text → (p : List ℕ) (ps : List (List ℕ)) → IsTextOf text (concat (p ∷ ps)) → IsCommandOf line (command_said (p ∷ ps) (behind_front (p ∷ ps) text))
   command_is text h p ps begins =
       let behind = behind_front (p ∷ ps) text in
@@ -139,7 +150,7 @@ module _ (line : List ℕ) where
       let others = others_of line (word p) (map word ps) words in
       record {
         name = within line (word p) (command_name (word p)) first (taken _ (word p));
-        aliases = all_read bare_word bare_word_of line _ (All-filter (is_alias (word p)) (IsTextOf line) (map word ps) others);
+        aliases = aliases_are (word p) (map word ps) others;
         written = within line text (concat (p ∷ ps)) h begins;
         gap = within line behind (gap_of behind) (behind_is line text h (p ∷ ps)) (taken _ behind);
         help = within line behind _ (behind_is line text h (p ∷ ps)) (dropped _ behind);

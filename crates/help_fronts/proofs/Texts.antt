@@ -1,6 +1,6 @@
 -- Parts of a text are texts of it.
-use Rattle.std.proofs.Common.{◌≡◌, ℕ, Bool, true, false, cond, List, [], ◌∷◌, ◌++◌, ◌==◌, All, drop, map, take, refl, sym, ap, ◌∙◌, subst, append_assoc}
-use Rattle.std.specs.List.{concat, list_any, onto_first}
+use Rattle.std.proofs.Common.{◌≡◌, ℕ, Bool, true, false, cond, List, [], ◌∷◌, ◌++◌, ◌-◌, ◌==◌, All, drop, length, map, take, refl, sym, ap, ◌∙◌, subst, append_assoc}
+use Rattle.std.specs.List.{concat, list_any, onto_first, slice_split}
 use Rattle.std.proofs.lemmas.List.{append-nil, take-append-drop}
 use Rattle.std.proofs.lemmas.List.Elements.{All-cons, All-map, All-nil, All-weaker}
 use Rattle.help_fronts.specs.declared.bytes.Class.{Class}
@@ -8,6 +8,7 @@ use Rattle.help_fronts.specs.declared.bytes.Class.TheVariants as class
 use Rattle.help_fronts.specs.Bytes.{first, is_bracket, is_usage_mark, without_end, without_front}
 use Rattle.help_fronts.specs.Pieces.{deeper, is_cut, onto_pieces, pieces, pieces_behind, word}
 use Rattle.help_fronts.specs.Words.{attached, bare_word, is_joiner, is_name, name, name_len, value_text, value_word, without_joints}
+use Rattle.help_fronts.specs.Fronts.{listed}
 use Rattle.help_fronts.specs.Usages.{WordSaid, apart, behind_value, is_apart, is_joined, last_word, len_of_value, onto_word, usage_words, value_after, value_in}
 use Rattle.help_fronts.specs.Laws.{IsTextOf}
 
@@ -107,6 +108,54 @@ all_within line text h ts = All-weaker (IsTextOf text) (IsTextOf line) (λ t. wi
 -- what is read of each text
 pub all_read : (read : List ℕ → List ℕ) → ((t : List ℕ) → IsTextOf t (read t)) → (line : List ℕ) (ts : List (List ℕ)) → All (IsTextOf line) ts → All (IsTextOf line) (map read ts)
 all_read read reads line ts all = All-map (IsTextOf line) read ts (All-weaker (IsTextOf line) (λ t. IsTextOf line (read t)) (λ t h. within line t (read t) h (reads t)) ts all)
+
+-- ---- what a byte parts
+
+-- the first part begins the text, and the others stand in it
+record ArePartsOf (text : List ℕ) (parts : List (List ℕ)) : Type 0 where
+  first : List ℕ
+  others : List (List ℕ)
+  rest : List ℕ
+  split : parts ≡ first ∷ others
+  begins : text ≡ first ++ rest
+  stand : All (IsTextOf text) others
+
+all_parts : (text : List ℕ) (parts : List (List ℕ)) → ArePartsOf text parts → All (IsTextOf text) parts
+all_parts text parts h =
+    subst (All (IsTextOf text)) (sym h.split) (All-cons (IsTextOf text) h.first h.others (subst (λ t. IsTextOf t h.first) (sym h.begins) (at_front h.first h.rest)) h.stand)
+
+parts_of : (p : ℕ → Bool) (text : List ℕ) → ArePartsOf text (slice_split p text)
+parts_of p [] = record { first = []; others = []; rest = []; split = refl; begins = refl; stand = All-nil (IsTextOf []) }
+parts_of p (b ∷ bs) = by (p b) (parts_of p bs) where
+  behind : IsTextOf (b ∷ bs) bs
+  behind = dropped 1 (b ∷ bs)
+
+  by : (t : Bool) → ArePartsOf bs (slice_split p bs) → ArePartsOf (b ∷ bs) (cond t ([] ∷ slice_split p bs) (onto_first b (slice_split p bs)))
+  by true h = record {
+    first = [];
+    others = slice_split p bs;
+    rest = b ∷ bs;
+    split = refl;
+    begins = refl;
+    stand = all_within (b ∷ bs) bs behind (slice_split p bs) (all_parts bs (slice_split p bs) h);
+  }
+  by false h = record {
+    first = b ∷ h.first;
+    others = h.others;
+    rest = h.rest;
+    split = ap (onto_first b) h.split;
+    begins = ap (λ t. b ∷ t) h.begins;
+    stand = all_within (b ∷ bs) bs behind h.others h.stand;
+  }
+
+-- each name of a list stands in it
+pub listed_are : (w : List ℕ) → All (IsTextOf w) (listed w)
+listed_are w =
+    let behind = drop 1 w in
+    let inside = take (length w - 2) behind in
+    let stands : IsTextOf w inside = within w behind inside (dropped 1 w) (taken (length w - 2) behind) in
+    let parts = slice_split (λ b. b == 44) inside in
+    all_read word word_of w parts (all_within w inside stands parts (all_parts inside parts (parts_of (λ b. b == 44) inside)))
 
 -- ---- words of a usage
 

@@ -1,13 +1,13 @@
 -- The front of a line that begins with an option or a command: its names and its value, up to where its help begins.
-use Rattle.std.specs.Prelude.{ℕ, ◌+◌, ◌==◌, ◌||◌, ◌&&◌, Bool, true, false, not, List, [], ◌∷◌, drop, filter, length, map, nat_le, nat_lt, take, if◌then◌else◌, Option, None, Some}
-use Rattle.std.specs.List.{concat, list_any}
+use Rattle.std.specs.Prelude.{ℕ, ◌+◌, ◌-◌, ◌==◌, ◌||◌, ◌&&◌, Bool, true, false, not, List, [], ◌∷◌, drop, filter, length, map, nat_le, nat_lt, take, if◌then◌else◌, Option, None, Some}
+use Rattle.std.specs.List.{concat, list_all, list_any, slice_split}
 use Rattle.std.specs.Option.{option_map}
 use Rattle.help_fronts.specs.declared.bytes.Class.TheVariants as class
 use Rattle.help_fronts.specs.declared.front.Kind.{Kind}
 use Rattle.help_fronts.specs.declared.front.Kind.TheVariants as kind
 use Rattle.help_fronts.specs.Bytes.{first, is_blank, is_closing, is_divider, last, second, without_end, without_front}
 use Rattle.help_fronts.specs.Pieces.{first_word, pieces, word}
-use Rattle.help_fronts.specs.Words.{attached, bare_word, has_form_of_value, is_bare_name, is_bracketed, is_command, is_dots, is_in_capitals, is_joiner, is_long, is_name, is_optional, is_short, leads_on, name, value_text, value_word, without_joints}
+use Rattle.help_fronts.specs.Words.{attached, bare_word, has_form_of_value, is_bare_name, is_bracketed, is_command, is_dots, is_in_capitals, is_joiner, is_listed, is_long, is_name, is_optional, is_short, leads_on, name, value_text, value_word, without_joints}
 
 -- ---- which words belong to a front
 
@@ -209,15 +209,32 @@ is_alias n w = is_command (bare_word w) && (if first w == 40 then second w == fi
 abbrev pub other_names : (name : List ℕ) → (words : List (List ℕ)) → List (List ℕ)
 other_names n words = map bare_word (filter (is_alias n) words)
 
--- after the first word
+abbrev pub is_in_parentheses : List ℕ → Bool
+is_in_parentheses w = first w == 40 && last w == 41
+
+-- what commas part in parentheses, each without a blank before it
+abbrev pub listed : (w : List ℕ) → List (List ℕ)
+listed w = map word (slice_split (λ b. b == 44) (take (length w - 2) (drop 1 w)))
+
+-- a list of names, as `(halt, end)`
+abbrev pub is_list : List ℕ → Bool
+is_list w = is_in_parentheses w && list_all is_listed (listed w)
+
+-- the one word; an empty one, if there are none or more
+abbrev pub only : (words : List (List ℕ)) → List ℕ
+only [] = []
+only (w ∷ []) = w
+only (w ∷ v ∷ ws) = []
+
+-- behind the name: those of a list that is all, and else each word that is one
 abbrev pub aliases : (words : List (List ℕ)) → List (List ℕ)
 aliases [] = []
-aliases (w ∷ ws) = other_names w ws
+aliases (w ∷ ws) = if is_list (only ws) then listed (only ws) else other_names w ws
 
 -- whether a word is none of the names
 abbrev pub says_else : (words : List (List ℕ)) → Bool
 says_else [] = false
-says_else (w ∷ ws) = list_any (λ v. not (is_alias w v)) ws
+says_else (w ∷ ws) = not (is_list (only ws)) && list_any (λ v. not (is_alias w v)) ws
 
 -- a front that its line ends with, or that a colon, a tabulator or more than a blank parts from what follows
 abbrev pub is_parted : (written gap help : List ℕ) → Bool

@@ -1,6 +1,6 @@
 -- What a word of a line is: a name, a word that joins two names, or what says a value.
 use Rattle.std.specs.Prelude.{ℕ, ◌+◌, ◌==◌, ◌||◌, ◌&&◌, Bool, false, not, List, [], ◌∷◌, bytes_eq, codes, drop, length, nat_le, take, if◌then◌else◌}
-use Rattle.std.specs.Char.{is_ascii_alphanumeric, is_ascii_lowercase, is_ascii_uppercase}
+use Rattle.std.specs.Char.{is_ascii_alphanumeric, is_ascii_digit, is_ascii_lowercase, is_ascii_uppercase}
 use Rattle.std.specs.List.{count_by, list_all, list_any, slice_index}
 use Rattle.help_fronts.specs.declared.bytes.Class.TheVariants as class
 use Rattle.help_fronts.specs.Bytes.{first, free_len, is_bracket, is_dash, is_divider, is_letter, is_opening, last, second, without_end, without_front}
@@ -52,6 +52,14 @@ is_command_byte b = is_command_start b || ((b == 45 || b == 95) || (b == 46 || (
 
 abbrev pub is_command : List ℕ → Bool
 is_command w = is_command_start (first w) && list_all is_command_byte w
+
+-- what a word in parentheses says of a command, and does not name
+abbrev pub is_remark : List ℕ → Bool
+is_remark w = bytes_eq w (codes "default") || bytes_eq w (codes "deprecated")
+
+-- the name of a command in a list of them: a small letter or a digit first
+abbrev pub is_listed : List ℕ → Bool
+is_listed w = (is_ascii_lowercase (first w) || is_ascii_digit (first w)) && (list_all is_command_byte w && not (is_remark w))
 
 -- ---- values
 

@@ -109,6 +109,22 @@ pub fn is_command(word: &str) -> bool
     is_command_start(byte_at(word, 0)) && has_command_bytes(word)
 }
 
+fn is_remark(word: &str) -> bool
+    ensures { result ≡ spec.is_remark word.now }
+{
+    word == "default" || word == "deprecated"
+}
+
+/// Whether a word could be the name of a command in a list of them.
+pub fn is_listed(word: &str) -> bool
+    ensures { result ≡ spec.is_listed word.now }
+{
+    let first = byte_at(word, 0);
+    (first.is_ascii_lowercase() || first.is_ascii_digit())
+        && has_command_bytes(word)
+        && !is_remark(word)
+}
+
 // ---- values
 
 /// A text without `,`, `|`, `/`, `=` and `:` at its ends.
