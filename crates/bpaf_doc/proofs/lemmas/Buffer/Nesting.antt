@@ -34,8 +34,7 @@ IsWellNested-with_text bytes style {ps} (enclosed b inner is nested) =
     (subst IsWellNested (sym (with_text-append (Start b ∷ inner) (End b) [] bytes style))
     (joined block (Text bytes style ∷ []) (sym (append_assoc (Start b ∷ inner) (End b ∷ []) (Text bytes style ∷ []))) (enclosed b inner refl nested) (text bytes style refl)))
 IsWellNested-with_text bytes style (joined front [] is nested empty) = rw (is, append-nil front) (IsWellNested-with_text bytes style nested)
-IsWellNested-with_text bytes style (joined front (q ∷ qs) is nested also) =
-    rw is (joined front (with_text (q ∷ qs) bytes style) (with_text-append front q qs bytes style) nested (IsWellNested-with_text bytes style also))
+IsWellNested-with_text bytes style (joined front (q ∷ qs) is nested also) = grind (arith, IsWellNested-with_text bytes style also, joined, with_text-append)
 
 -- parts in a block, as they are written: its start, what it holds, its end
 pub IsWellNested-in_block : (b : Block) (ps inner : List Part) → IsWellNested ps → IsWellNested inner → IsWellNested (((ps ++ Start b ∷ []) ++ inner) ++ End b ∷ [])
@@ -65,8 +64,7 @@ IsWellNested-behind_text (text before kind one) bytes style ps is = let e : Text
 IsWellNested-behind_text (enclosed b inner block nested) bytes style ps is = let e : Start b ∷ (inner ++ End b ∷ []) ≡ Text bytes style ∷ ps = sym block ∙ is in cc
 IsWellNested-behind_text (joined [] back both nested also) bytes style ps is = IsWellNested-behind_text also bytes style ps (sym both ∙ is)
 IsWellNested-behind_text (joined (Text before kind ∷ front) back both nested also) bytes style ps is =
-    let f : ps ≡ front ++ back = cc in
-    joined front back f (IsWellNested-behind_text nested before kind front refl) also
+    grind (arith, IsWellNested-behind_text nested before kind front refl, joined)
 IsWellNested-behind_text (joined (Start b ∷ front) back both nested also) bytes style ps is = let e : Start b ∷ (front ++ back) ≡ Text bytes style ∷ ps = sym both ∙ is in cc
 IsWellNested-behind_text (joined (End b ∷ front) back both nested also) bytes style ps is = let e : End b ∷ (front ++ back) ≡ Text bytes style ∷ ps = sym both ∙ is in cc
 
@@ -84,8 +82,7 @@ IsWellNested-title bytes others nested = either (list_any is_newline bytes) wher
   either false = text_and_others bytes style.Emphasis others nested
 
 pub IsWellNested-em_doc : (ps d : List Part) → IsWellNested ps → IsWellNested d → IsWellNested (with_writes ps (inside block.InlineBlock (titled d)))
-IsWellNested-em_doc ps d nested also =
-    IsWellNested-inside block.InlineBlock ps (titled d) nested (grind (arith, IsWellNested-title, IsWellNested-behind_text))
+IsWellNested-em_doc ps d nested also = grind (arith, IsWellNested-inside, IsWellNested-title, IsWellNested-behind_text)
 
 pub IsWellNested-path : (names : List (List ℕ)) (ps : List Part) → IsWellNested ps → IsWellNested (with_writes ps (path_writes names))
 IsWellNested-path [] ps nested = nested

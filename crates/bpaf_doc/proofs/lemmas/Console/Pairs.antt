@@ -106,13 +106,7 @@ skips document k i part = (is_section4_start part && skips_pair document i) && (
 
 skipped_by : (document : List Part) (k : ℕ) → is_skipped document k ≡ true
     → (i : ℕ) × SkipsAt document i × ((k ≡ after_section4 document i) ⊎ (k ≡ after_section4 document i + 1))
-skipped_by document k h = at (any_found (skips document k) document 0 h) where
-  by : (i : ℕ) (part : Part) → slice_get document i ≡ Some part → skips document k i part ≡ true → (i : ℕ) × SkipsAt document i × ((k ≡ after_section4 document i) ⊎ (k ≡ after_section4 document i + 1))
-  by i part here h = grind (arith, and_parts, start_is, nat_tests)
-
-  at : ((i : ℕ) × (part : Part) × (slice_get document i ≡ Some part) × (skips document k (0 + i) part ≡ true))
-      → (i : ℕ) × SkipsAt document i × ((k ≡ after_section4 document i) ⊎ (k ≡ after_section4 document i + 1))
-  at (i, part, here, holds) = by i part here (ap (λ n. skips document k n part) (sym (zero-add i)) ∙ holds)
+skipped_by document k h = grind (arith, any_found (skips document k) document 0 h, and_parts, start_is, nat_tests)
 
 -- no mark with a backquote is skipped
 pub skipped_bare : (document : List Part) (k : ℕ) (b : Block) → HasMarkAt document k b → is_skipped document k ≡ true → mark_bytes b ≡ []

@@ -141,8 +141,7 @@ pending_after : (p : Marked) (f : Fragment) → is_item_start f ≡ false → (m
 pending_after p f e = ap (λ s. s.pending) (step-flags p f) ∙ ap (λ b. if b then true else false) e
 
 chunk_next : (p : Marked) (style : Style) (chunk : Chunk) → Keeps true p → Keeps true (marked_after p (Shown style chunk))
-chunk_next p style chunk keeps =
-    grind (arith, common_steps, pending_after p (Shown style chunk) refl, chunk_step p style chunk keeps.0, by_weight, append_assoc, one_blank, blank_newline)
+chunk_next p style chunk keeps = grind (arith, common_steps, chunk_step, by_weight, one_blank, blank_newline)
 
 step_stands : (t : Bool) (before : List Fragment) (p : Marked) (f : Fragment) → may_come t f ≡ true → Keeps t p → LinesStand before p.bytes (snippets_of p f)
 step_stands t before p f h1 h2 = grind (arith, raw_stands, false≢true, other_stands, step-fragments)

@@ -1,5 +1,6 @@
 -- What a markdown text keeps in mind is what looking back at the fragments before says.
 use Rattle.std.proofs.Common.{◌≡◌, ℕ, ◌+◌, ◌^◌, ◌<◌, Bool, true, false, cond, List, [], ◌∷◌, ◌++◌, map, refl, sym, ap, ◌∙◌, subst, arith, append_assoc, append-nil, length-append, nat_lt}
+use Rattle.std.proofs.lemmas.Grind.{common_steps}
 use Rattle.std.specs.Prelude.{filter, count_by, if◌then◌else◌}
 use Rattle.std.specs.List.{list_any, after_last, suffix_len, prefix_len}
 use Rattle.std.proofs.lemmas.List.{reverse-append, drop-append-le, drop_all, map-append}
@@ -80,13 +81,7 @@ room_next : (p : Fragment → Bool) (before : List Fragment) (f : Fragment) (fs 
 room_next p before f fs room = omega (arith, room, count_by-cons p f fs, count_by-push p before f)
 
 agrees_next : (before : List Fragment) (s : Flags) (f : Fragment) (fs : List Fragment) → Agrees before s → Room before (f ∷ fs) → Agrees (before ++ f ∷ []) (flags_next s f)
-agrees_next before s f fs h room = record {
-  headed = any-push is_header_start before f ∙ ap (λ b. if is_header_start f then true else b) h.headed;
-  in_list = list-push before f ∙ ap (λ b. if is_list_start f then true else (if is_list_end f then false else b)) h.in_list;
-  item = item_next f h.item;
-  starts = counted is_mono_start before f s.starts h.starts (room_here is_mono_start before f fs room.0);
-  ends = counted is_mono_end before f s.ends h.ends (room_here is_mono_end before f fs room.1);
-}
+agrees_next before s f fs h room = grind (arith, common_steps, any-push, list-push, item_next, counted, room_here)
 
 pub rooms_next : (before : List Fragment) (f : Fragment) (fs : List Fragment) → Room before (f ∷ fs) → Room (before ++ f ∷ []) fs
 rooms_next before f fs room = (room_next is_mono_start before f fs room.0, room_next is_mono_end before f fs room.1)

@@ -8,7 +8,7 @@ use Rattle.bpaf_doc.specs.Splitter.Chunks.{Chunk, Raw, chunks_of, code_weight, c
 use Rattle.bpaf_doc.specs.Splitter.Steps.Runs.{IsRun}
 use Rattle.bpaf_doc.specs.Html.Fragments.{Fragment, Shown}
 use Rattle.bpaf_doc.specs.Markdown.Page.{escaped_character}
-use Rattle.bpaf_doc.specs.Markdown.Steps.Page.{Marked, put, with_item, close_code, with_line, with_words, with_raw, with_chunk, marked_after, marked_after_all}
+use Rattle.bpaf_doc.specs.Markdown.Steps.Page.{Marked, put, with_item, close_code, with_line, with_words, with_raw, marked_after, marked_after_all}
 use Rattle.bpaf_doc.proofs.lemmas.Splitter.Runs.{AreWords, no_words, a_word, words_of_line}
 use Rattle.bpaf_doc.proofs.lemmas.Splitter.Widths.{columns_few}
 
@@ -75,6 +75,4 @@ no_item : (p : Marked) → p.pending ≡ false → with_item p false ≡ p
 no_item p e = ap (λ b. if b then record p { bytes = p.bytes ++ codes "- "; pending = false; empty_item = false } else p) e
 
 pub code_line_more : (p : Marked) (style : Style) (line : List ℕ) → p.in_code ≡ true → p.pending ≡ false → marked_after p (Shown style (Raw line code_weight)) ≡ with_line p line
-code_line_more p style line opened settled =
-    ap (λ q. with_chunk q (Raw line code_weight)) (no_item p settled)
-    ∙ ap (λ b. with_line (if b then p else record p { bytes = p.bytes ++ codes "\n\n  ```text\n"; in_code = true }) line) opened
+code_line_more p style line opened settled = grind (arith, no_item)

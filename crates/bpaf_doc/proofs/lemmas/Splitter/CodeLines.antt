@@ -18,6 +18,4 @@ code_cut text utf8 front =
 
 pub code_first : (text code line rest : List ℕ) (left : List Chunk) → take 5 text ≡ codes "\n    " → code ≡ drop 5 text → code ≡ line ++ rest → IsLine line → IsLineEnd rest → left ≡ chunks_of rest
     → chunks_in Plain text ≡ Raw line code_weight ∷ left
-code_first text code line rest left front behind cut l end s =
-    ap (λ x. chunks_in Plain x) (whole text front)
-    ∙ code_line_first (codes "    " ++ drop 5 text) line rest left (ap (λ x. codes "    " ++ x) (sym behind ∙ cut)) l end s
+code_first text code line rest left front behind cut l end s = grind (arith, code_line_first)

@@ -46,15 +46,11 @@ front_passes test (b ∷ bytes) = elim (cases_Bool (test b)) [ inl e ↦ rw (tak
 
 line_end : (bytes : List ℕ) → IsLineEnd (without_front is_line_byte bytes)
 line_end [] = tt
-line_end (b ∷ bytes) = at (cases_Bool (is_line_byte b)) (line_end bytes) where
-  at : (is_line_byte b ≡ true) ⊎ (is_line_byte b ≡ false) → IsLineEnd (without_front is_line_byte bytes) → IsLineEnd (without_front is_line_byte (b ∷ bytes))
-  at h1 h2 = grind (arith, drop_more, without_false, nat_tests)
+line_end (b ∷ bytes) = grind (arith, line_end bytes, cases_Bool, drop_more, without_false, nat_tests)
 
 word_end : (bytes : List ℕ) → IsWordEnd (without_front is_word_byte bytes)
 word_end [] = tt
-word_end (b ∷ bytes) = at (cases_Bool (is_word_byte b)) (word_end bytes) where
-  at : (is_word_byte b ≡ true) ⊎ (is_word_byte b ≡ false) → IsWordEnd (without_front is_word_byte bytes) → IsWordEnd (without_front is_word_byte (b ∷ bytes))
-  at h1 h2 = grind (arith, drop_more, without_false, cases_Bool, nat_tests)
+word_end (b ∷ bytes) = grind (arith, word_end bytes, cases_Bool, drop_more, without_false, nat_tests)
 
 past_newline : (rest : List ℕ) → IsLineEnd rest → IsPastNewline rest (drop 1 rest)
 past_newline rest h = grind arith
@@ -170,13 +166,7 @@ unique {text = text} (closing line rest next others ec et il t f p s) zero h = a
 unique {text = text} (closing line rest next others ec et il t f p s) (suc n) h = grind (arith, unique s n (next_len text line rest next n et p h), line_of, rest_of, next_len, closing_is, ticks_some, text_ticks)
 unique {text = text} (closing_paragraph line rest others ec et il t f s) zero h = absurd (empty_len text h (ticks_some text line rest et t))
 unique {text = text} (closing_paragraph line rest others ec et il t f s) (suc n) h =
-    ec ∙ joined n Plain line (take_while is_line_byte text) rest (without_front is_line_byte text) others
-    (line_of text line rest et il end) (rest_of text line rest et il end)
-    (unique s n (rest_len text line rest n et (grind arith) h))
-    ∙ sym (closing_paragraph_is n text (ticks_some text line rest et t) (text_ticks text line rest et t)
-    (subst (λ xs. starts xs (codes "\n\n") ≡ true) (sym (rest_of text line rest et il end)) f)) where
-      end : IsLineEnd rest
-      end = subst (λ xs. IsLineEnd xs) (sym (starts_front (codes "\n\n") rest f)) refl
+    grind (arith, unique s n (rest_len text line rest n et (grind arith) h), joined, line_of, rest_of, rest_len, closing_paragraph_is, ticks_some, text_ticks, starts_front)
 
 -- ---- existence
 

@@ -6,7 +6,7 @@ use Rattle.bpaf_doc.specs.Splitter.Chunks.{is_whole_line}
 use Rattle.bpaf_doc.specs.Console.Layout.{Shows, Stretch, Gap, Placed, Passed, Place, chunk_at, is_placed}
 use Rattle.bpaf_doc.proofs.lemmas.Console.Layout.State.{State, Piece, Lines, Begins, first, stays, wraps, places, drops, Next, Grows, placing, breaking, passing, padded, trimmed}
 use Rattle.bpaf_doc.proofs.lemmas.Console.Layout.Back.{by_cases, EachPlace, each_grows, place_of, by_lines, same_padded, IsStarting, has_place, or_true_right}
-use Rattle.bpaf_doc.proofs.lemmas.Console.Layout.Split.{Cut, cut_cons, cut_gap, AfterPassed, cut_passed, cut_padded, has_newline}
+use Rattle.bpaf_doc.proofs.lemmas.Console.Layout.Split.{Cut, cut_cons, cut_gap, cut_passed, cut_padded, has_newline, After}
 
 -- ---- helpers
 
@@ -52,7 +52,7 @@ pub heavy_grows : {width : ℕ} {st after : State} {next : Next} → width < 1_0
 heavy_grows small start (placing p e (places base n b d a)) h =
     subst IsHeavy (sym a) (grind (arith, cut_cons, nat_tests, alone_padded n base.back (place_of p) (alone_begins p base small start h b)))
 heavy_grows small start (placing p e (drops t mid l w b a)) h = subst IsHeavy (sym a) (λ m before g there whole none.
-    let found : AfterPassed _ (Gap 10 ∷ trimmed mid.back) m g before = cut_passed _ (Gap 10 ∷ trimmed mid.back) m g before there in
+    let found : After (λ x. Passed _ ∷ x) (Gap 10 ∷ trimmed mid.back) m g before = cut_passed _ (Gap 10 ∷ trimmed mid.back) m g before there in
     let line : has_newline m ≡ true = ap has_newline found.is ∙ line_since (Gap 10 ∷ trimmed mid.back) (trimmed mid.back) found.rest before g refl found.there in absurd cc)
 heavy_grows {st = st} small start (breaking k chunk e a) h = subst IsHeavy (sym a) (λ m before g there whole none.
     let line : has_newline m ≡ true = line_since (Gap 10 ∷ Passed (Shows k chunk) ∷ st.back) (Passed (Shows k chunk) ∷ st.back) m before g refl there in absurd cc)

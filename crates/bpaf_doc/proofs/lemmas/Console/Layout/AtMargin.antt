@@ -7,7 +7,7 @@ use Rattle.bpaf_doc.specs.Console.Exact.{NoBreak}
 use Rattle.bpaf_doc.proofs.lemmas.Console.Layout.State.{State, Piece, Lines, Pads, Begins, first, stays, wraps, places, drops, Next, raw, mark, Grows, placing, breaking, passing, padded, put, Suits}
 use Rattle.bpaf_doc.proofs.lemmas.Console.Layout.Back.{by_cases, EachPlace, each_grows, place_of, fits_of, by_lines, same_padded, by_mark, Fills, column_back, column_padded, Agrees, EachPassed, NoInk, ink_text, IsStarting, begins_column, begins_margin, or_false_right}
 use Rattle.bpaf_doc.proofs.lemmas.Console.Layout.Pads.{pads_back, HasNoPads, pads_begins}
-use Rattle.bpaf_doc.proofs.lemmas.Console.Layout.Split.{events_back, Cut, FirstOrLater, here, later, cut_cons, cut_gap, AfterPassed, cut_passed, AfterPads, cut_padded, has_newline, inked_line, inked_since, ink_at, Earlier, after_lines}
+use Rattle.bpaf_doc.proofs.lemmas.Console.Layout.Split.{events_back, Cut, FirstOrLater, here, later, cut_cons, cut_gap, cut_passed, cut_padded, has_newline, inked_line, inked_since, ink_at, Earlier, after_lines, After}
 
 -- ---- only marks since the last ink
 
@@ -51,7 +51,7 @@ start_put {width} {st} p base n f q h b = λ m before e k there i blank line. at
   at m before e k i blank line (here is x r) = let no : [] ≡ Shows k (Raw (codes " ") 1) ∷ [] = sym (ap events_back is) ∙ blank in absurd cc
   at m before e k i blank line (later rest is there) =
       let none : events_back rest ≡ [] = cc in
-      let found : AfterPads n base.back rest e before = cut_padded n base.back rest e before there in
+      let found : After (padded n) base.back rest e before = cut_padded n base.back rest e before there in
       let none_found : events_back found.rest ≡ [] = sym (ap events_back found.is ∙ same_padded events_back (λ x. refl) n found.rest) ∙ none in
       let bytes : p.bytes ≡ codes " " = cc in
       let same_line : has_newline m ≡ has_newline found.rest = ap has_newline is ∙ ap has_newline found.is ∙ same_padded has_newline (λ x. refl) n found.rest in
@@ -70,7 +70,7 @@ start_grows f q l suits (placing p e (places base n b d a)) h = subst IsAtStart 
 start_grows f q l suits (placing p e (drops t mid y w b a)) h = subst IsAtStart (sym a) (λ m before g k there i blank line. refl)
 start_grows f q l suits (breaking k chunk e a) h = subst IsAtStart (sym a) (λ m before g j there i blank line. refl)
 start_grows {st = st} {next = next} f q l suits (passing event margin e a) h = subst IsAtStart (sym a) (λ m before g k there i blank line.
-    let found : AfterPassed event st.back m g before = cut_passed event st.back m g before there in
+    let found : After (λ x. Passed event ∷ x) st.back m g before = cut_passed event st.back m g before there in
     let events : event ∷ events_back found.rest ≡ Shows k (Raw (codes " ") 1) ∷ [] = sym (ap events_back found.is) ∙ blank in
     let same : event ≡ Shows k (Raw (codes " ") 1) = cc in
     absurd (not_shown st next event margin k (Raw (codes " ") 1) suits e same))
@@ -102,7 +102,7 @@ module _ (margin_of : ℕ → ℕ) where
         let pads : n ≡ margin_of p.part = grind arith in
         let total : column_back (padded n base.back) ≡ n + column_back base.back = column_padded n base.back in
         omega arith where
-          after_blank : inked_line base.back ≡ false → (found : AfterBlank (padded n base.back) p.part) → AfterPads n base.back found.rest found.place found.before → Begins width st p base → column_back base.back ≡ 0
+          after_blank : inked_line base.back ≡ false → (found : AfterBlank (padded n base.back) p.part) → After (padded n) base.back found.rest found.place found.before → Begins width st p base → column_back base.back ≡ 0
           after_blank clear found cut_there (first t s) = grind (arith, ink_at, ink_text)
           after_blank clear found cut_there (stays t l w) = at (by_cases (has_newline cut_there.rest)) where
             blank : events_back cut_there.rest ≡ Shows p.part (Raw (codes " ") 1) ∷ []

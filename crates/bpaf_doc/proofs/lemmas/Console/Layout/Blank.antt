@@ -10,7 +10,7 @@ use Rattle.bpaf_doc.specs.Console.Layout.{Event, Stretch, Gap, Placed, Passed, P
 use Rattle.bpaf_doc.specs.Console.Exact.{BlankLine}
 use Rattle.bpaf_doc.proofs.lemmas.Console.Layout.State.{State, Piece, Lines, Pads, Begins, first, stays, wraps, Next, raw, Grows, padded, trimmed, ends_line, ends_blank, passed, Suits, is_nothing}
 use Rattle.bpaf_doc.proofs.lemmas.Console.Layout.Back.{by_cases, EachPlace, each_grows, place_of, lines_back, by_trimmed, same_padded, by_break, by_grows, Fills, inked_some, fills_begins, no_bytes, EachPassed, NoInk, ink_text, or_true_right, or_false_left, or_false_right}
-use Rattle.bpaf_doc.proofs.lemmas.Console.Layout.Split.{events_back, Cut, AfterPads, cut_padded, ink_at, inked_line}
+use Rattle.bpaf_doc.proofs.lemmas.Console.Layout.Split.{events_back, Cut, cut_padded, ink_at, inked_line, After}
 
 -- ---- a newline
 
@@ -200,7 +200,7 @@ module _ (width : ℕ) where
   blank_before_grows {st} {after} {next} f q h z g e = each_grows HasBlankBefore (λ r p i x. x) core g e where
     core : (p : Piece) (base : State) (n : ℕ) → next ≡ raw p → Begins width st p base → Pads base n → HasBlankBefore (padded n base.back) (place_of p)
     core p base n is b d = λ m before e there i none asks fits.
-        let cut_there : AfterPads n base.back m e before = cut_padded n base.back m e before there in
+        let cut_there : After (padded n) base.back m e before = cut_padded n base.back m e before there in
         let bare : HasNoRaw cut_there.rest = raw_padded n cut_there.rest (subst HasNoRaw cut_there.is none) in
         let asked : list_any asks_blank_line (events_back cut_there.rest) ≡ true = subst (λ es. list_any asks_blank_line es ≡ true) (ap events_back cut_there.is ∙ same_padded events_back (λ x. refl) n cut_there.rest) asks in
         let owed : owes_blank base.back ≡ true = subst (λ x. owes_blank x ≡ true) (sym cut_there.there) (owes_between cut_there.rest e before bare i asked) in

@@ -6,7 +6,7 @@ use Rattle.bpaf_doc.specs.Splitter.Chunks.{Chunk, Raw, is_inked}
 use Rattle.bpaf_doc.specs.Console.Layout.{Event, Shows, Stretch, Gap, Placed, Passed, Place, chunk_at, is_inked_stretch, is_inked_event, is_raw_event}
 use Rattle.bpaf_doc.proofs.lemmas.Console.Layout.State.{State, Piece, Lines, Pads, Begins, first, stays, wraps, places, drops, Next, raw, break, Grows, placing, breaking, passing, padded, trimmed, put, passed, Suits}
 use Rattle.bpaf_doc.proofs.lemmas.Console.Layout.Back.{each_back, by_cases, EachPlace, each_grows, each_begins, each_trimmed, each_lines, place_of, fits_of, by_lines, by_padded, same_padded, by_mark, by_break, by_grows, or_false_right, begins_margin, lines_margin, no_ink_blank}
-use Rattle.bpaf_doc.proofs.lemmas.Console.Layout.Split.{Cut, FirstOrLater, here, later, cut_cons, cut_gap, AfterPassed, cut_passed, AfterPads, cut_padded, has_newline, inked_line, inked_since}
+use Rattle.bpaf_doc.proofs.lemmas.Console.Layout.Split.{Cut, FirstOrLater, here, later, cut_cons, cut_gap, cut_passed, cut_padded, has_newline, inked_line, inked_since, After}
 
 -- ---- parts come in order
 
@@ -84,7 +84,7 @@ kept_same : (st : State) (k n : ℕ) → IsSettled st → IsUnsettled st → InO
     → (m before : List Stretch) (e : Place) → IsNeighbour (padded n st.back) m e before → (e.shown ≡ e.bytes) × AllKept (e.part < k) m
 kept_same st k n settled unsettled order h o moved d m before e there =
     at (by_cases st.settled) where
-      found : AfterPads n st.back m e before
+      found : After (padded n) st.back m e before
       found = cut_padded n st.back m e before there.0
 
       near : IsNeighbour st.back found.rest e before
@@ -157,7 +157,7 @@ kept_since_grows suits s u o (placing p e (places base n b d a)) h = subst IsKep
 kept_since_grows suits s u o (placing p e (drops t mid l w b a)) h = subst IsKeptSince (sym a) (λ m before f there. absurd (none m before f there)) where
   none : (m before : List Stretch) (f : Place) → IsNeighbour (Passed (Shows p.part (Raw p.bytes p.weight)) ∷ Gap 10 ∷ trimmed mid.back) m f before → ⊥
   none m before f there =
-      let found : AfterPassed (Shows p.part (Raw p.bytes p.weight)) (Gap 10 ∷ trimmed mid.back) m f before = cut_passed _ (Gap 10 ∷ trimmed mid.back) m f before there.0 in
+      let found : After (λ x. Passed (Shows p.part (Raw p.bytes p.weight)) ∷ x) (Gap 10 ∷ trimmed mid.back) m f before = cut_passed _ (Gap 10 ∷ trimmed mid.back) m f before there.0 in
       let plain : (is_inked_stretch (Passed (Shows p.part (Raw p.bytes p.weight))) || list_any is_inked_stretch found.rest) ≡ false = subst (λ x. list_any is_inked_stretch x ≡ false) found.is there.2 in
       no_neighbour (trimmed mid.back) found.rest f before
       (found.there, there.1, or_false_right (is_inked_stretch (Passed (Shows p.part (Raw p.bytes p.weight)))) (list_any is_inked_stretch found.rest) plain, subst (λ x. has_newline x ≡ false) found.is there.3)

@@ -10,7 +10,7 @@ use Rattle.bpaf_doc.specs.Console.Layout.{Event, Shows, Opens, Closes, Stretch, 
 use Rattle.bpaf_doc.proofs.lemmas.Console.Layout.State.{State, Piece, Lines, Pads, Begins, first, stays, wraps, Next, raw, break, mark, Grows, padded, trimmed, sat, wrapped, put, passed, dropped, broken, asked_after, pending_after, Suits, IsShallow}
 use Rattle.bpaf_doc.proofs.lemmas.Console.Layout.Back.{EachPlace, each_grows, place_of, fits_of, same_padded, by_mark, by_break, by_grows, Fills, column_back, column_padded, Agrees, IsStarting, begins_column}
 use Rattle.bpaf_doc.proofs.lemmas.Console.Layout.Alone.{place_in}
-use Rattle.bpaf_doc.proofs.lemmas.Console.Layout.Split.{events_back, Earlier, after_lines, Cut, FirstOrLater, here, later, cut_cons, AfterGap, cut_gap, AfterPassed, cut_passed, AfterPads, cut_padded, FromTrimmed, cut_trimmed, has_newline}
+use Rattle.bpaf_doc.proofs.lemmas.Console.Layout.Split.{events_back, Earlier, after_lines, Cut, FirstOrLater, here, later, cut_cons, cut_gap, cut_passed, cut_padded, FromTrimmed, cut_trimmed, has_newline, After}
 
 -- ---- rules
 
@@ -109,12 +109,11 @@ module _ (width : ℕ) (rule : Rule) where
       → InReach (end_of (events_back m) e before) mid
   known_trimmed {st} {mid} h l m before e there run =
       let old : FromTrimmed mid.back m e before = cut_trimmed mid.back m e before there in
-      let chunk : chunk_at old.place ≡ chunk_at e = ap (λ bs. Raw bs old.place.weight) old.bytes ∙ ap (λ (w : ℕ). Raw e.bytes w) old.weight in
-      let event : Shows old.place.part (chunk_at old.place) ≡ Shows e.part (chunk_at e) = ap (λ (k : ℕ). Shows k (chunk_at old.place)) old.part ∙ ap (Shows e.part) chunk in
+      let chunk : chunk_at old.place ≡ chunk_at e = cc old.same in
       let on : IsRun old.rest e = run_on m old.rest e old.events run in
       let known : Known mid old.rest old.place before = known_lines h l old.rest before old.place old.there (ap rule.begins chunk ∙ on.0, on.1) in
       let same : end_of (events_back old.rest) old.place before ≡ end_of (events_back m) e before =
-      ap (λ (x : Event). column_back before + rule.takes x + rule.taken (events_back old.rest)) event ∙ ap (λ es. end_of es e before) old.events in
+      ap (λ (x : Event). column_back before + rule.takes x + rule.taken (events_back old.rest)) old.same ∙ ap (λ es. end_of es e before) old.events in
       subst (λ (end : ℕ). InReach end mid) same known.reach
 
   -- what is known at the chunk that is placed next
@@ -128,7 +127,7 @@ module _ (width : ℕ) (rule : Rule) where
   ready_begins {st} p base start h (first t s) m before e there run = grind (arith, place_in)
   ready_begins p base start h (stays t l w) m before e there run = grind (arith, known_lines)
   ready_begins p base start h (wraps t mid l w b s) m before e there run =
-      let gap : AfterGap 10 (trimmed mid.back) m e before = cut_gap 10 (trimmed mid.back) m e before (subst (λ (x : State). Cut x.back m e before) s there) in
+      let gap : After (λ x. Gap 10 ∷ x) (trimmed mid.back) m e before = cut_gap 10 (trimmed mid.back) m e before (subst (λ (x : State). Cut x.back m e before) s there) in
       let same : events_back gap.rest ≡ events_back m = sym (ap events_back gap.is) in
       let reach : InReach (end_of (events_back m) e before) mid = grind (arith, known_trimmed, run_on) in
       record {
@@ -140,7 +139,7 @@ module _ (width : ℕ) (rule : Rule) where
       → (m before : List Stretch) (e : Place) → Cut (padded n base.back) m e before → IsRun m e
       → Ready p base m e before
   ready_padded p base n start h b m before e there run =
-      let found : AfterPads n base.back m e before = cut_padded n base.back m e before there in
+      let found : After (padded n) base.back m e before = cut_padded n base.back m e before there in
       let same : events_back found.rest ≡ events_back m = sym (ap events_back found.is ∙ same_padded events_back (λ x. refl) n found.rest) in
       let line : has_newline m ≡ has_newline found.rest = ap has_newline found.is ∙ same_padded has_newline (λ x. refl) n found.rest in
       let ready : Ready p base found.rest e before = ready_begins p base start h b found.rest before e found.there (run_on m found.rest e same run) in
@@ -185,10 +184,10 @@ module _ (width : ℕ) (rule : Rule) where
     known_dropped : {st mid : State} (p : Piece) → IsWeighed p → Lines st mid → width < sat (mid.column + columns p.bytes) → IsRoomy st
         → IsRoomy (dropped p.part p.bytes p.weight (wrapped mid))
     known_dropped {mid = mid} p weighed l w h = λ m before e there run. at m before e run (cut_passed (shown p) (Gap 10 ∷ trimmed mid.back) m e before there) where
-      at : (m before : List Stretch) (e : Place) → IsRun m e → AfterPassed (shown p) (Gap 10 ∷ trimmed mid.back) m e before
+      at : (m before : List Stretch) (e : Place) → IsRun m e → After (λ x. Passed (shown p) ∷ x) (Gap 10 ∷ trimmed mid.back) m e before
           → Known (dropped p.part p.bytes p.weight (wrapped mid)) m e before
       at m before e run found =
-          let gap : AfterGap 10 (trimmed mid.back) found.rest e before = cut_gap 10 (trimmed mid.back) found.rest e before found.there in
+          let gap : After (λ x. Gap 10 ∷ x) (trimmed mid.back) found.rest e before = cut_gap 10 (trimmed mid.back) found.rest e before found.there in
           let events : events_back m ≡ shown p ∷ events_back gap.rest = ap events_back found.is ∙ ap (λ es. shown p ∷ es) (ap events_back gap.is) in
           let parts : (rule.follows (shown p) ≡ true) × IsRun gap.rest e = run_parts (shown p) m gap.rest e events run in
           let chunk : (rule.has_chunks ≡ true) × (p.weight ≤ rule.takes (shown p)) × ((columns p.bytes ≤ rule.takes (shown p)) ⊎ (width < rule.takes (shown p))) = sound.chunk p weighed parts.0 in

@@ -47,29 +47,19 @@ pub cut_cons : (x : Stretch) (r m : List Stretch) (e : Place) (before : List Str
 cut_cons x r [] e before h = let a : x ≡ Placed e = cc in let b : r ≡ before = cc in here refl a b
 cut_cons x r (y ∷ m) e before h = let same : x ≡ y = cc in let c : Cut r m e before = cc in later m (ap (λ z. z ∷ m) (sym same)) c
 
--- a byte outside the places is no place
-pub record AfterGap (b : ℕ) (r m : List Stretch) (e : Place) (before : List Stretch) : Type 0 where
+-- what stands before a place, without what stands in front of the page
+pub record After (front : List Stretch → List Stretch) (r m : List Stretch) (e : Place) (before : List Stretch) : Type 0 where
   pub rest : List Stretch
-  pub is : m ≡ Gap b ∷ rest
+  pub is : m ≡ front rest
   pub there : Cut r rest e before
 
-pub cut_gap : (b : ℕ) (r m : List Stretch) (e : Place) (before : List Stretch) → Cut (Gap b ∷ r) m e before → AfterGap b r m e before
+pub cut_gap : (b : ℕ) (r m : List Stretch) (e : Place) (before : List Stretch) → Cut (Gap b ∷ r) m e before → After (λ x. Gap b ∷ x) r m e before
 cut_gap b r m e before h = grind (arith, cut_cons)
 
-pub record AfterPassed (event : Event) (r m : List Stretch) (e : Place) (before : List Stretch) : Type 0 where
-  pub rest : List Stretch
-  pub is : m ≡ Passed event ∷ rest
-  pub there : Cut r rest e before
-
-pub cut_passed : (event : Event) (r m : List Stretch) (e : Place) (before : List Stretch) → Cut (Passed event ∷ r) m e before → AfterPassed event r m e before
+pub cut_passed : (event : Event) (r m : List Stretch) (e : Place) (before : List Stretch) → Cut (Passed event ∷ r) m e before → After (λ x. Passed event ∷ x) r m e before
 cut_passed event r m e before h = grind (arith, cut_cons)
 
-pub record AfterPads (n : ℕ) (r m : List Stretch) (e : Place) (before : List Stretch) : Type 0 where
-  pub rest : List Stretch
-  pub is : m ≡ padded n rest
-  pub there : Cut r rest e before
-
-pub cut_padded : (n : ℕ) (r m : List Stretch) (e : Place) (before : List Stretch) → Cut (padded n r) m e before → AfterPads n r m e before
+pub cut_padded : (n : ℕ) (r m : List Stretch) (e : Place) (before : List Stretch) → Cut (padded n r) m e before → After (padded n) r m e before
 cut_padded zero r m e before h = record { rest = m; is = refl; there = h }
 cut_padded (suc n) r m e before h = grind (arith, cut_padded n r (cut_gap 32 (padded n r) m e before h).rest e before, cut_gap, padded)
 
@@ -78,26 +68,17 @@ pub record FromTrimmed (r m : List Stretch) (e : Place) (before : List Stretch) 
   pub rest : List Stretch
   pub place : Place
   pub there : Cut r rest place before
-  pub part : place.part ≡ e.part
-  pub bytes : place.bytes ≡ e.bytes
-  pub weight : place.weight ≡ e.weight
+  pub same : Shows place.part (chunk_at place) ≡ Shows e.part (chunk_at e)
   pub events : events_back rest ≡ events_back m
 
 same_cut : (r m : List Stretch) (e : Place) (before : List Stretch) → Cut r m e before → FromTrimmed r m e before
-same_cut r m e before h = record { rest = m; place = e; there = h; part = refl; bytes = refl; weight = refl; events = refl }
+same_cut r m e before h = record { rest = m; place = e; there = h; same = refl; events = refl }
 
 past : (x : Stretch) (y : Stretch) (r m : List Stretch) (e : Place) (before : List Stretch)
     → ((rest others : List Stretch) → events_back rest ≡ events_back others → events_back (x ∷ rest) ≡ events_back (y ∷ others))
     → (rest : List Stretch) → m ≡ y ∷ rest → FromTrimmed r rest e before → FromTrimmed (x ∷ r) m e before
-past x y r m e before both rest is f = record {
-  rest = x ∷ f.rest;
-  place = f.place;
-  there = ap (λ z. x ∷ z) f.there;
-  part = f.part;
-  bytes = f.bytes;
-  weight = f.weight;
-  events = both f.rest rest f.events ∙ ap events_back (sym is);
-}
+past x y r m e before both rest is f =
+    record { rest = x ∷ f.rest; place = f.place; there = ap (λ z. x ∷ z) f.there; same = f.same; events = both f.rest rest f.events ∙ ap events_back (sym is) }
 
 -- each cut of t comes from one of r
 abbrev ComesFrom : List Stretch → List Stretch → Type 0
@@ -107,28 +88,20 @@ pub cut_trimmed : (r m : List Stretch) (e : Place) (before : List Stretch) → C
 cut_trimmed r = by_trimmed ComesFrom (same_cut []) gap inked plain (λ event r i. same_cut (Passed event ∷ r)) bare r where
   gap : (b : ℕ) (r t : List Stretch) → ComesFrom r t → ComesFrom (Gap b ∷ r) t
   gap b r t ih m e before h = let f : FromTrimmed r m e before = ih m e before h in
-      record { rest = Gap b ∷ f.rest; place = f.place; there = ap (λ z. Gap b ∷ z) f.there; part = f.part; bytes = f.bytes; weight = f.weight; events = f.events }
+      record { rest = Gap b ∷ f.rest; place = f.place; there = ap (λ z. Gap b ∷ z) f.there; same = f.same; events = f.events }
 
   inked : (g : Place) (r : List Stretch) → is_inked (chunk_at g) ≡ true → ComesFrom (Placed g ∷ r) (Placed (cut g) ∷ r)
   inked g r i m e before h = each (cut_cons (Placed (cut g)) r m e before h) where
     each : FirstOrLater (Placed (cut g)) r m e before → FromTrimmed (Placed g ∷ r) m e before
     each (here a x b) =
-        let same : cut g ≡ e = cc in
-        record {
-          rest = [];
-          place = g;
-          there = ap (λ z. Placed g ∷ z) b;
-          part = ap (λ (p : Place). p.part) same;
-          bytes = ap (λ (p : Place). p.bytes) same;
-          weight = ap (λ (p : Place). p.weight) same;
-          events = ap events_back (sym a);
-        }
+        let is : cut g ≡ e = cc in
+        record { rest = []; place = g; there = ap (λ z. Placed g ∷ z) b; same = ap (λ (p : Place). Shows p.part (chunk_at p)) is; events = ap events_back (sym a) }
     each (later rest a b) = past (Placed g) (Placed (cut g)) r m e before (λ x y s. ap (λ z. Shows g.part (chunk_at g) ∷ z) s) rest a (same_cut r rest e before b)
 
   passes : (x : Stretch) (event : Event) (r t : List Stretch) → ((rest others : List Stretch) → events_back rest ≡ events_back others → events_back (x ∷ rest) ≡ event ∷ events_back others)
       → ComesFrom r t → ComesFrom (x ∷ r) (Passed event ∷ t)
   passes x event r t both ih m e before h =
-      let next : AfterPassed event t m e before = cut_passed event t m e before h in past x (Passed event) r m e before both next.rest next.is (ih next.rest e before next.there)
+      let next : After (λ x. Passed event ∷ x) t m e before = cut_passed event t m e before h in past x (Passed event) r m e before both next.rest next.is (ih next.rest e before next.there)
 
   plain : (g : Place) (r t : List Stretch) → is_inked (chunk_at g) ≡ false → ComesFrom r t → ComesFrom (Placed g ∷ r) (Passed (Shows g.part (chunk_at g)) ∷ t)
   plain g r t i = passes (Placed g) (Shows g.part (chunk_at g)) r t (λ x y s. ap (λ z. Shows g.part (chunk_at g) ∷ z) s)
@@ -147,7 +120,7 @@ pub record Earlier (r m : List Stretch) (e : Place) (before : List Stretch) : Ty
 pub after_lines : {st mid : State} → Lines st mid → (m before : List Stretch) (e : Place) → Cut mid.back m e before → Earlier st.back m e before
 after_lines {st} l = lines_back (λ r. (m before : List Stretch) (e : Place) → Cut r m e before → Earlier st.back m e before)
     (λ r h m before e there.
-    let found : AfterGap 10 r m e before = cut_gap 10 r m e before there in
+    let found : After (λ x. Gap 10 ∷ x) r m e before = cut_gap 10 r m e before there in
     let earlier : Earlier st.back found.rest e before = h found.rest before e found.there in
     record { rest = earlier.rest; there = earlier.there; events = earlier.events ∙ sym (ap events_back found.is) })
     l (λ m before e there. record { rest = m; there = there; events = refl })

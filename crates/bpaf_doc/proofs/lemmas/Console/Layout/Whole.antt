@@ -120,7 +120,7 @@ base_grows {width} suits g b = record {
 
 -- ---- what holds where no empty line of code comes first
 
-pub record Clearly (width : ℕ) (margin_of : ℕ → ℕ) (st : State) : Type 0 where
+pub record Clearly (width deepest : ℕ) (margin_of : ℕ → ℕ) (st : State) : Type 0 where
   pub starting : IsStarting st
   pub at_margin : EachPlace (AtMargin margin_of) st.back
   pub exact : EachPlace (IsExact margin_of) st.back
@@ -128,9 +128,13 @@ pub record Clearly (width : ℕ) (margin_of : ℕ → ℕ) (st : State) : Type 0
   pub pads_only : EachPlace (PadsOnly margin_of) st.back
   pub heavy : IsHeavy st
   pub alone : EachPlace AloneBefore st.back
+  pub room : ComesInOrder st × EachPlace IsAfterAll st.back × BreaksBy width light st × BreaksBy width light_marks st × BreaksBy width (idle deepest) st
 
-clearly_blank : (width : ℕ) (margin_of : ℕ → ℕ) → Clearly width margin_of blank_page
-clearly_blank width margin_of = record {
+breaks_blank : (width : ℕ) (rule : Rule) → BreaksBy width rule blank_page
+breaks_blank width rule = record { roomy = λ m before e h run. nothing_cut m before e h; no_room = tt }
+
+clearly_blank : (width deepest : ℕ) (margin_of : ℕ → ℕ) → Clearly width deepest margin_of blank_page
+clearly_blank width deepest margin_of = record {
   starting = λ o. (refl, refl);
   at_margin = tt;
   exact = tt;
@@ -138,11 +142,16 @@ clearly_blank width margin_of = record {
   pads_only = tt;
   heavy = λ m before e h w n. nothing_cut m before e h;
   alone = tt;
+  room = search (rules, breaks_blank);
 }
 
-clearly_grows : {width : ℕ} {margin_of : ℕ → ℕ} {st after : State} {next : Next} → width < 1_000_000 → Suits margin_of st next → IsClear st next → Grows width st next after
-    → Base width st → Clearly width margin_of st → Clearly width margin_of after
-clearly_grows {width} {margin_of} small suits clear g b c = grind (arith, starting_grows, at_margin_grows, exact_grows, fits_width_grows, pads_only_grows, heavy_grows, alone_grows)
+clearly_grows : {width deepest : ℕ} {margin_of : ℕ → ℕ} {st after : State} {next : Next} → width < 1_000_000 → Suits margin_of st next → IsClear st next → IsShallow deepest next
+    → Grows width st next after → Base width st → Clearly width deepest margin_of st → Clearly width deepest margin_of after
+clearly_grows {width} {deepest} {margin_of} {st} {after} small suits clear shallow g b c =
+    let step : (rule : Rule) → IsSound width deepest rule → BreaksBy width rule st → BreaksBy width rule after = λ rule sound. breaks_grows width rule deepest sound small b.fills c.starting b.agrees suits shallow g in
+    let room : ComesInOrder after × EachPlace IsAfterAll after.back × BreaksBy width light after × BreaksBy width light_marks after × BreaksBy width (idle deepest) after =
+    (in_order_grows suits g c.room.0, after_all_grows suits c.room.0 g c.room.1, step light (light_sound width deepest) c.room.2, step light_marks (light_marks_sound width deepest) c.room.3, step (idle deepest) (idle_sound width deepest small) c.room.4) in
+    grind (arith, starting_grows, at_margin_grows, exact_grows, fits_width_grows, pads_only_grows, heavy_grows, alone_grows)
 
 -- no empty line of code stands before the first byte
 abbrev clear_front : List Event → Bool
@@ -165,6 +174,14 @@ clear_begins (x ∷ xs) h = at (by_cases (is_written x)) (by_cases (is_empty_cod
 clear_next : (before : State) (next : Next) → (is_empty_code (next_event next) ≡ true → has_text before.back ≡ true) → IsClear before next
 clear_next before next h = grind arith
 
+abbrev pub EachNext : (Next → Type 0) → List Next → Type 0
+EachNext Q [] = ⊤
+EachNext Q (x ∷ xs) = Q x × EachNext Q xs
+
+each_snoc : (Q : Next → Type 0) (xs : List Next) (x : Next) → EachNext Q (xs ++ x ∷ []) → EachNext Q xs × Q x
+each_snoc Q [] x h = (tt, h.0)
+each_snoc Q (y ∷ xs) x h = let rest : EachNext Q xs × Q x = each_snoc Q xs x h.1 in ((h.0, rest.0), rest.1)
+
 module _ {width : ℕ} {margin_of : ℕ → ℕ} {clear : State → Next → Type 0} where
   pub written_base : {nexts : List Next} {st : State} → Written width margin_of clear nexts st → Base width st
   written_base (nothing e s) = subst (Base width) (sym s) (base_blank width)
@@ -175,23 +192,17 @@ module _ {width : ℕ} {margin_of : ℕ → ℕ} {clear : State → Next → Typ
   written_text (nothing e s) h = let no : false ≡ true = subst (λ ns. list_any is_written (map next_event ns) ≡ true) e h in absurd cc
   written_text {nexts} {st} (more earlier before next e w suits c g) h = grind (arith, written_text w, map_snoc, list_any-append, text_stays, text_written)
 
-  pub written_clearly : {nexts : List Next} {st : State} → width < 1_000_000 → Written width margin_of clear nexts st → clear_front (map next_event nexts) ≡ true → Clearly width margin_of st
-  written_clearly small (nothing e s) h = subst (Clearly width margin_of) (sym s) (clearly_blank width margin_of)
-  written_clearly small (more earlier before next e w suits c g) h =
-      let parts : clear_front (map next_event earlier ++ next_event next ∷ []) ≡ true = subst (λ es. clear_front es ≡ true) (ap (λ ns. map next_event ns) e ∙ map_snoc earlier next) h in
+  written_clearly : {nexts : List Next} {st : State} (deepest : ℕ) → width < 1_000_000 → Written width margin_of clear nexts st → clear_front (map next_event nexts) ≡ true
+      → EachNext (IsShallow deepest) nexts → Clearly width deepest margin_of st
+  written_clearly deepest small (nothing e s) h shallow = subst (Clearly width deepest margin_of) (sym s) (clearly_blank width deepest margin_of)
+  written_clearly deepest small (more earlier before next e w suits c g) h shallow =
+      let parts : EachNext (IsShallow deepest) earlier × IsShallow deepest next = each_snoc (IsShallow deepest) earlier next (subst (λ ns. EachNext (IsShallow deepest) ns) e shallow) in
+      let front : clear_front (map next_event earlier ++ next_event next ∷ []) ≡ true = subst (λ es. clear_front es ≡ true) (ap (λ ns. map next_event ns) e ∙ map_snoc earlier next) h in
       let both : (clear_front (map next_event earlier) ≡ true) × (is_empty_code (next_event next) ≡ true → list_any is_written (map next_event earlier) ≡ true) =
-      clear_snoc (map next_event earlier) (next_event next) parts in
-      clearly_grows small suits (clear_next before next (λ t. written_text w (both.1 t))) g (written_base w) (written_clearly small w both.0)
+      clear_snoc (map next_event earlier) (next_event next) front in
+      clearly_grows small suits (clear_next before next (λ t. written_text w (both.1 t))) parts.1 g (written_base w) (written_clearly deepest small w both.0 parts.0)
 
 -- ---- the bound
-
-abbrev pub EachNext : (Next → Type 0) → List Next → Type 0
-EachNext Q [] = ⊤
-EachNext Q (x ∷ xs) = Q x × EachNext Q xs
-
-each_snoc : (Q : Next → Type 0) (xs : List Next) (x : Next) → EachNext Q (xs ++ x ∷ []) → EachNext Q xs × Q x
-each_snoc Q [] x h = (tt, h.0)
-each_snoc Q (y ∷ xs) x h = let rest : EachNext Q xs × Q x = each_snoc Q xs x h.1 in ((h.0, rest.0), rest.1)
 
 abbrev pub IsSlim : ℕ → ℕ → Next → Type 0
 IsSlim deepest most next = IsShallow deepest next × IsNarrow most next × WritesNone next
@@ -215,39 +226,6 @@ module _ {width : ℕ} {margin_of : ℕ → ℕ} {clear : State → Next → Typ
         bare = bare_grows parts.1.2 g ih.bare;
         margin = shallow_grows parts.1.0 g ih.margin;
         lines = within_grows width deepest most small b.fills ih.bare b.agrees ih.margin parts.1.2 parts.1.1 g ih.lines;
-      }
-
--- ---- the room in a line
-
-record Spacious (width deepest : ℕ) (st : State) : Type 0 where
-  in_order : ComesInOrder st
-  after_all : EachPlace IsAfterAll st.back
-  by_light : BreaksBy width light st
-  by_marks : BreaksBy width light_marks st
-  by_idle : BreaksBy width (idle deepest) st
-
-breaks_blank : (width : ℕ) (rule : Rule) → BreaksBy width rule blank_page
-breaks_blank width rule = record { roomy = λ m before e h run. nothing_cut m before e h; no_room = tt }
-
-module _ {width : ℕ} {margin_of : ℕ → ℕ} {clear : State → Next → Type 0} where
-  written_spacious : {nexts : List Next} {st : State} (deepest : ℕ) → width < 1_000_000 → Written width margin_of clear nexts st → clear_front (map next_event nexts) ≡ true
-      → EachNext (IsShallow deepest) nexts → Spacious width deepest st
-  written_spacious deepest small (nothing e s) h shallow = subst (Spacious width deepest) (sym s) (search (rules, breaks_blank))
-  written_spacious {st = st} deepest small (more earlier before next e w suits c g) h shallow =
-      let front : clear_front (map next_event earlier ++ next_event next ∷ []) ≡ true = subst (λ es. clear_front es ≡ true) (ap (λ ns. map next_event ns) e ∙ map_snoc earlier next) h in
-      let first : clear_front (map next_event earlier) ≡ true = (clear_snoc (map next_event earlier) (next_event next) front).0 in
-      let parts : EachNext (IsShallow deepest) earlier × IsShallow deepest next = each_snoc (IsShallow deepest) earlier next (subst (λ ns. EachNext (IsShallow deepest) ns) e shallow) in
-      let b : Base width before = written_base w in
-      let c : Clearly width margin_of before = written_clearly small w first in
-      let ih : Spacious width deepest before = written_spacious deepest small w first parts.0 in
-      let step : (rule : Rule) → IsSound width deepest rule → BreaksBy width rule before → BreaksBy width rule st =
-      λ rule sound. breaks_grows width rule deepest sound small b.fills c.starting b.agrees suits parts.1 g in
-      record {
-        in_order = in_order_grows suits g ih.in_order;
-        after_all = after_all_grows suits ih.in_order g ih.after_all;
-        by_light = step light (light_sound width deepest) ih.by_light;
-        by_marks = step light_marks (light_marks_sound width deepest) ih.by_marks;
-        by_idle = step (idle deepest) (idle_sound width deepest small) ih.by_idle;
       }
 
 -- ---- the end of the page
@@ -355,7 +333,7 @@ module _ (width : ℕ) (document : List Part) (st : State) (final : List Stretch
         may_end_line,
       ))) (subst (λ ys. EachPassed NoInk ys) split (grind arith)))
 
-  module _ (clearly : Clearly width (margin document) st) where
+  module _ (clearly : Clearly width (greatest_margin document) (margin document) st) where
     no_ink_front : (before after : List Stretch) (f : Place) → stretches ≡ before ++ Placed f ∷ after → EachPassed NoInk (reverse before)
     no_ink_front before after f s = passed_back NoInk (reverse after) (Placed f ∷ reverse before) (subst (λ ys. EachPassed NoInk ys) (turned_at final before after (Placed f) s) (grind arith))
 
@@ -384,16 +362,16 @@ module _ (width : ℕ) (document : List Part) (st : State) (final : List Stretch
         → IsTrue (list_any is_newline between) → width < column before + rule.takes (Shows e.part (chunk_at e)) + rule.taken (events_back (reverse between)) + columns f.bytes
     over_width rule broken before between e f h run line = grind (arith, law_at (HasNoRoom width rule) broken.no_room before between h.after e f h.order (reverse between) (reverse before) e refl run, any_turned is_newline between, column_is before)
 
-    needed_law : Spacious width (greatest_margin document) st → WrapsOnlyIfNeeded width stretches
-    needed_law spacious = λ before between e f h ordinary second kind line.
+    needed_law : WrapsOnlyIfNeeded width stretches
+    needed_law = λ before between e f h ordinary second kind line.
         let inked : is_inked (chunk_at e) ≡ true = h.first_inked in
         let plain : is_plain (chunk_at e) ≡ true = rw (ordinary, inked) refl in
         let sums : sum_of event_columns (events_back (reverse between)) ≡ sum_by event_columns (events_of between) = sums_turned event_columns between in
         elim kind [
           | inl l ↦ let over : width < column before + columns e.bytes + sum_of event_columns (events_back (reverse between)) + columns f.bytes =
-              over_width light spacious.by_light before between e f h (plain, events_all is_light between ∙ l) line in omega arith
+              over_width light clearly.room.2 before between e f h (plain, events_all is_light between ∙ l) line in omega arith
           | inr l ↦ let over : width < column before + columns e.bytes + sum_of event_columns (events_back (reverse between)) + columns f.bytes =
-              over_width light_marks spacious.by_marks before between e f h (plain, events_all is_light_mark between ∙ l) line in omega arith
+              over_width light_marks clearly.room.3 before between e f h (plain, events_all is_light_mark between ∙ l) line in omega arith
         ]
 
     padding_is : (before : List Stretch) → padding before ≡ pads_back (reverse before)
@@ -424,15 +402,15 @@ module _ (width : ℕ) (document : List Part) (st : State) (final : List Stretch
     alone_law : StandsAlone stretches
     alone_law = λ before between after e f s whole. sym (any_turned is_newline between) ∙ law_at AloneBefore clearly.alone before between after e f s (reverse between) (reverse before) e refl whole
 
-    room_law : Spacious width (greatest_margin document) st → BreaksForRoom document width stretches
-    room_law spacious = λ before between e f h plain quiet line.
+    room_law : BreaksForRoom document width stretches
+    room_law = λ before between e f h plain quiet line.
         let idles : list_all is_idle (events_back (reverse between)) ≡ true =
         idle_all (reverse between) (any_turned is_inked_stretch between ∙ not-true (list_any is_inked_stretch between) plain)
         (events_any asks_newline between ∙ not-true (list_any asks_newline (events_of between)) quiet) in
         let over : width < column before + e.weight + (sum_of room_of (events_back (reverse between)) + allowance (greatest_margin document) (events_back (reverse between))) + columns f.bytes =
-        over_width (idle (greatest_margin document)) spacious.by_idle before between e f h (h.first_inked, idles) line in
+        over_width (idle (greatest_margin document)) clearly.room.4 before between e f h (h.first_inked, idles) line in
         let sums : sum_of room_of (events_back (reverse between)) ≡ sum_by room_of (events_of between) = sums_turned room_of between in
-        let later : IsAfterAll (reverse between ++ Placed e ∷ reverse before) f = law_at IsAfterAll spacious.after_all before between h.after e f h.order in
+        let later : IsAfterAll (reverse between ++ Placed e ∷ reverse before) f = law_at IsAfterAll clearly.room.1 before between h.after e f h.order in
         let most : allowance (greatest_margin document) (events_back (reverse between)) ≤ (if e.part == f.part then 0 else greatest_margin document) =
         allowed (reverse between) (reverse before) e f (by_cases (list_all is_chunk (events_back (reverse between)))) later in
         omega arith where
@@ -476,10 +454,10 @@ layout_of_page document full width nexts st final w events shallow ends same = r
   kept = kept_law width document st final ends base;
   lines = λ small clear. record {
     margin = margin_law width document st final ends base (clearly small clear);
-    needed = needed_law width document st final ends base (clearly small clear) (spacious small clear);
+    needed = needed_law width document st final ends base (clearly small clear);
     fits = fits_law width document st final ends base (clearly small clear);
     padded = padded_law width document st final ends base (clearly small clear);
-    room = room_law width document st final ends base (clearly small clear) (spacious small clear);
+    room = room_law width document st final ends base (clearly small clear);
     alone = alone_law width document st final ends base (clearly small clear);
   };
   bound = λ small refs. bounded small refs;
@@ -487,11 +465,8 @@ layout_of_page document full width nexts st final w events shallow ends same = r
   base : Base width st
   base = written_base w
 
-  clearly : width < 1_000_000 → BeginsClear (shown_events full document) → Clearly width (margin document) st
-  clearly small clear = written_clearly small w (clear_begins (map next_event nexts) (subst BeginsClear (sym events) clear))
-
-  spacious : width < 1_000_000 → BeginsClear (shown_events full document) → Spacious width (greatest_margin document) st
-  spacious small clear = written_spacious (greatest_margin document) small w (clear_begins (map next_event nexts) (subst BeginsClear (sym events) clear)) shallow
+  clearly : width < 1_000_000 → BeginsClear (shown_events full document) → Clearly width (greatest_margin document) (margin document) st
+  clearly small clear = written_clearly (greatest_margin document) small w (clear_begins (map next_event nexts) (subst BeginsClear (sym events) clear)) shallow
 
   bounded : width < 1_000_000 → IsTrue (not (list_any is_ref (shown_events full document))) → IsBounded document width (reverse final)
   bounded small refs =
