@@ -137,34 +137,25 @@ word_is n [] rest others w r e = absurd (w.0 refl)
 word_is n (b ∷ bytes) rest others w r e =
     grind (arith, take_while_append is_word_byte (b ∷ bytes) rest w.1, take_while_false, without_false, without_append is_word_byte (b ∷ bytes) rest w.1, and_right)
 
+nothing_spelled : {form : Form} {chunks : List Chunk} {text : List ℕ} → Spells form chunks text → length text ≤ 0 → chunks ≡ []
+nothing_spelled s h = grind (arith, length-append, empty_len, ticks_some, some_len)
+
 unique : {form : Form} {chunks : List Chunk} {text : List ℕ} → Spells form chunks text → (n : ℕ) → length text ≤ n → chunks ≡ chunks_within n form text
 unfolding chunks_within
-unique {form} {chunks} {text} (nothing ec et) zero h = ec
+unique s zero h = nothing_spelled s h
 unique {form} {chunks} {text} (nothing ec et) (suc n) h = ec ∙ ap (λ t. chunks_within (suc n) form t) (sym et)
-unique {chunks = chunks} {text = text} (code_line line rest others ec et il ir s) zero h = absurd (not_zero text (codes "\n    ") (line ++ rest) et (omega arith) h)
 unique {chunks = chunks} {text = text} (code_line line rest others ec et il ir s) (suc n) h = grind (arith, unique s n, line_of, rest_of, rest_len, length-append)
-unique {text = text} (fence rest others ec et t s) zero h = absurd (not_zero text (codes "\n\n") rest et (omega arith) h)
 unique {text = text} (fence rest others ec et t s) (suc n) h = grind (arith, unique s n, rest_len)
-unique {text = text} (before_code rest others ec et t s) zero h = absurd (not_zero text (codes "\n") rest et (omega arith) h)
 unique {text = text} (before_code rest others ec et t s) (suc n) h = grind (arith, unique s n, rest_len, starts_front)
-unique {text = text} (paragraph rest others ec et t f s) zero h = absurd (not_zero text (codes "\n\n") rest et (omega arith) h)
 unique {text = text} (paragraph rest others ec et t f s) (suc n) h = grind (arith, unique s n, rest_len)
-unique {text = text} (line_break rest others ec et t s) zero h = absurd (not_zero text (codes "\n ") rest et (omega arith) h)
 unique {text = text} (line_break rest others ec et t s) (suc n) h = grind (arith, unique s n, rest_len)
-unique {text = text} (newline rest others ec et t f s) zero h = absurd (not_zero text (codes "\n") rest et (omega arith) h)
 unique {text = text} (newline rest others ec et t f s) (suc n) h = grind (arith, unique s n, rest_len, starts_front)
-unique {text = text} (blank rest others ec et s) zero h = absurd (not_zero text (codes " ") rest et (omega arith) h)
 unique {text = text} (blank rest others ec et s) (suc n) h = grind (arith, unique s n, rest_len)
-unique {text = text} (word bytes rest others ec et w r s) zero h = absurd (empty_len text h (λ none. word_some bytes rest w.0 (sym et ∙ none)))
 unique {text = text} (word bytes rest others ec et w r s) (suc n) h =
     ec ∙ word_is n bytes rest others w r (unique s n (rest_len text bytes rest n et (some_len bytes w.0) h)) ∙ ap (λ t. chunks_within (suc n) Plain t) (sym et)
-unique {text = text} (opening line rest next others ec et some il p s) zero h = absurd (empty_len text h some)
 unique {text = text} (opening line rest next others ec et some il p s) (suc n) h = grind (arith, unique s n (next_len text line rest next n et p h), line_of, rest_of, next_len, opening_is)
-unique {text = text} (later line rest next others ec et some il t p s) zero h = absurd (empty_len text h some)
 unique {text = text} (later line rest next others ec et some il t p s) (suc n) h = grind (arith, unique s n (next_len text line rest next n et p h), line_of, rest_of, next_len, later_is, line_ticks)
-unique {text = text} (closing line rest next others ec et il t f p s) zero h = absurd (empty_len text h (ticks_some text line rest et t))
 unique {text = text} (closing line rest next others ec et il t f p s) (suc n) h = grind (arith, unique s n (next_len text line rest next n et p h), line_of, rest_of, next_len, closing_is, ticks_some, text_ticks)
-unique {text = text} (closing_paragraph line rest others ec et il t f s) zero h = absurd (empty_len text h (ticks_some text line rest et t))
 unique {text = text} (closing_paragraph line rest others ec et il t f s) (suc n) h =
     grind (arith, unique s n (rest_len text line rest n et (grind arith) h), joined, line_of, rest_of, rest_len, closing_paragraph_is, ticks_some, text_ticks, starts_front)
 

@@ -13,7 +13,7 @@ use Rattle.bpaf_doc.proofs.lemmas.Console.Layout.Back.{whole_trim, by_cases, by_
 use Rattle.bpaf_doc.specs.Buffer.Parts.{ink}
 use Rattle.bpaf_doc.specs.Splitter.Chunks.{has_some, IsLine}
 use Rattle.bpaf_doc.specs.Shown.{is_term_ref}
-use Rattle.bpaf_doc.specs.Console.Layout.{Event, Shows, Opens, Closes, Stretch, Gap, Placed, Passed, Place, event_bytes, stretch_bytes}
+use Rattle.bpaf_doc.specs.Console.Layout.{Event, Shows, Opens, Closes, Stretch, Gap, Placed, Passed, Place, event_bytes, stretch_bytes, is_newline}
 use Rattle.bpaf_doc.proofs.lemmas.Console.Layout.State.{has_text, ends_line, ends_blank, trimmed, IsLegible}
 use Rattle.bpaf_doc.proofs.lemmas.Console.Layout.Blank.{text_back, text_back_cons, some_none}
 
@@ -146,32 +146,21 @@ ends_in r x front s e =
 bare_text : (r : List Stretch) (x : Stretch) → has_some (stretch_bytes x) ≡ false → text_back (x ∷ r) ≡ text_back r
 bare_text r x s = text_back_cons x r ∙ ap (λ t. text_back r ++ t) (some_none (stretch_bytes x) s) ∙ append-nil (text_back r)
 
+-- no place and no event ends in a newline
+no_end : (r : List Stretch) (x : Stretch) (front : List ℕ) → IsLegible (x ∷ r) → is_newline x ≡ false → has_some (stretch_bytes x) ≡ true → text_back (x ∷ r) ≡ front ++ 10 ∷ [] → ⊥
+no_end r (Gap b) front h n s e = grind (arith, text_back_cons, same_from_push, nat_tests)
+no_end r (Placed p) front h n s e = let found : (back : List ℕ) × (p.shown ≡ back ++ 10 ∷ []) = ends_in r (Placed p) front s e in line_end_lem found.0 (subst IsLine found.1 (shown_line p h.0.0 h.0.1 h.0.2))
+no_end r (Passed event) front h n s e = let found : (back : List ℕ) × (event_bytes event ≡ back ++ 10 ∷ []) = ends_in r (Passed event) front s e in line_end_lem found.0 (subst IsLine found.1 (grind arith))
+
 -- a text that ends in a newline is one of a page that does
 pub text_ends_line : (r : List Stretch) (front : List ℕ) → IsLegible r → text_back r ≡ front ++ 10 ∷ [] → ends_line r ≡ true
 text_ends_line [] front h e = absurd (snoc_some front (10 ∷ []) refl (sym e))
-text_ends_line (Gap b ∷ r) front h e =
-    let found : (back : List ℕ) × (b ∷ [] ≡ back ++ 10 ∷ []) = ends_in r (Gap b) front refl e in
-    let ten : b ≡ 10 = (same_from_push [] found.0 b 10 found.1).1 in rw ten refl
-text_ends_line (Placed p ∷ r) front h e =
-    by_test (λ b. b ≡ true) (has_some p.shown) false (ends_line r)
-    (λ s. let found : (back : List ℕ) × (p.shown ≡ back ++ 10 ∷ []) = ends_in r (Placed p) front s e in absurd (line_end_lem found.0 (subst IsLine found.1 (shown_line p h.0.0 h.0.1 h.0.2))))
-    (λ s. text_ends_line r front h.1 (sym (bare_text r (Placed p) s) ∙ e))
-text_ends_line (Passed event ∷ r) front h e =
-    by_test (λ b. b ≡ true) (has_some (event_bytes event)) false (ends_line r)
-    (λ s. let found : (back : List ℕ) × (event_bytes event ≡ back ++ 10 ∷ []) = ends_in r (Passed event) front s e in absurd (line_end_lem found.0 (subst IsLine found.1 (grind arith))))
-    (λ s. text_ends_line r front h (sym (bare_text r (Passed event) s) ∙ e))
+text_ends_line (x ∷ r) front h e = grind (arith, text_ends_line r, no_end r x front h, bare_text r x, by_cases)
 
 pub text_ends_blank : (r : List Stretch) (front : List ℕ) → IsLegible r → text_back r ≡ (front ++ 10 ∷ []) ++ 10 ∷ [] → ends_blank r ≡ true
 text_ends_blank [] front h e = absurd (snoc_some (front ++ 10 ∷ []) (10 ∷ []) refl (sym e))
 text_ends_blank (Gap b ∷ r) front h e = grind (arith, text_back_cons, same_from_push, text_ends_line)
-text_ends_blank (Placed p ∷ r) front h e =
-    by_test (λ b. b ≡ true) (has_some p.shown) false (ends_blank r)
-    (λ s. let found : (back : List ℕ) × (p.shown ≡ back ++ 10 ∷ []) = ends_in r (Placed p) (front ++ 10 ∷ []) s e in absurd (line_end_lem found.0 (subst IsLine found.1 (shown_line p h.0.0 h.0.1 h.0.2))))
-    (λ s. text_ends_blank r front h.1 (sym (bare_text r (Placed p) s) ∙ e))
-text_ends_blank (Passed event ∷ r) front h e =
-    by_test (λ b. b ≡ true) (has_some (event_bytes event)) false (ends_blank r)
-    (λ s. let found : (back : List ℕ) × (event_bytes event ≡ back ++ 10 ∷ []) = ends_in r (Passed event) (front ++ 10 ∷ []) s e in absurd (line_end_lem found.0 (subst IsLine found.1 (grind arith))))
-    (λ s. text_ends_blank r front h (sym (bare_text r (Passed event) s) ∙ e))
+text_ends_blank (x ∷ r) front h e = grind (arith, text_ends_blank r, no_end r x (front ++ 10 ∷ []) h, bare_text r x, by_cases)
 
 -- ---- the trimmed page
 

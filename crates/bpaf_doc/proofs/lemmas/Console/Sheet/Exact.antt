@@ -2,7 +2,7 @@
 use Rattle.std.specs.Prelude.{◌≡◌, ℕ, zero, suc, ◌+◌, ◌-◌, ◌^◌, ◌<◌, ◌≤◌, Bool, true, false, not, ◌&&◌, ◌==◌, List, [], ◌∷◌, ◌++◌, length, take, drop, reverse, refl, if◌then◌else◌, slice_get, Some, IfOk, Result, String, string_bytes}
 use Rattle.std.proofs.Common.{sym, ap, arith, inl, inr, ◌∙◌}
 use Rattle.std.proofs.lemmas.Grind.{common_steps}
-use Rattle.std.proofs.lemmas.List.{length-drop, length-reverse}
+use Rattle.std.proofs.lemmas.List.{length-drop, length-reverse, take_at}
 use Rattle.std.proofs.lemmas.Bool.Decides.{nat_tests}
 use Rattle.bpaf_doc.specs.declared.console.pairs.Pairs.{Pairs}
 use Rattle.bpaf_doc.specs.declared.buffer.Block.{Block}
@@ -42,12 +42,8 @@ length_turned m ms = let a : length (reverse (m ∷ ms)) ≡ length (m ∷ ms) =
 pub top_innermost : (s : Sheet) (stack : List ℕ) → s.margins ≡ reverse stack → page.margin_of s ≡ top stack
 top_innermost s stack e = grind (arith, length_turned, reverse_cons, get_last)
 
-take_front : (xs : List ℕ) (m : ℕ) → take (length xs) (xs ++ m ∷ []) ≡ xs
-take_front [] m = refl
-take_front (x ∷ xs) m = ap (λ ys. x ∷ ys) (take_front xs m)
-
 pub popped_margins : (margins stack : List ℕ) → margins ≡ reverse stack → take (length margins - 1) margins ≡ reverse (popped stack)
-popped_margins margins stack e = grind (arith, length_turned, reverse_cons, take_front)
+popped_margins margins stack e = grind (arith, length_turned, reverse_cons, take_at)
 
 -- ---- the chunks of a text that are written
 
@@ -79,6 +75,16 @@ take_next [] zero part rest e = grind arith
 
 small : (document : List Part) → length document < 2 ^ 59 → length document < 2 ^ 64
 small document few = omega arith
+
+-- what the start and the end of a block keep
+opened_keeps : (b : Block) (adjacent : Bool) (s : Sheet) → ((page.opened b adjacent s).tab_stop ≡ s.tab_stop) × ((page.opened b adjacent s).width ≡ s.width) × ((page.opened b adjacent s).page ≡ exact.start_put b s.page)
+unfolding page.opened
+opened_keeps b adjacent s = grind arith
+
+closed_keeps : (b : Block) (s : Sheet)
+    → ((page.closed b s).tab_stop ≡ s.tab_stop) × ((page.closed b s).width ≡ s.width) × ((page.closed b s).page ≡ exact.end_put b s.page) × ((page.closed b s).margins ≡ take (length s.margins - 1) s.margins)
+unfolding page.closed
+closed_keeps b s = (refl, refl, refl, refl)
 
 module _ (full : Bool) (document : List Part) (few : length document < 2 ^ 59) where
   -- these parts are left, from this place on
@@ -144,14 +150,6 @@ module _ (full : Bool) (document : List Part) (few : length document < 2 ^ 59) w
   unfolding page.opened
   opened_margins index b adjacent s stack m t a fits = grind (arith, common_steps, top_innermost, reverse_cons, tab_stop-le)
 
-  opened_tab : (b : Block) (adjacent : Bool) (s : Sheet) → (page.opened b adjacent s).tab_stop ≡ s.tab_stop
-  unfolding page.opened
-  opened_tab b adjacent s = grind arith
-
-  closed_keeps : (b : Block) (s : Sheet) → ((page.closed b s).tab_stop ≡ s.tab_stop) × ((page.closed b s).margins ≡ take (length s.margins - 1) s.margins)
-  unfolding page.closed
-  closed_keeps b s = (refl, refl)
-
   -- a start
   module _ (index : ℕ) (rest : List Part) (b : Block) (pairs : Pairs) (hidden : ℕ) (s : Sheet) (w : Walk index (Start b ∷ rest) pairs hidden s) where
     abbrev next : Pairs
@@ -169,7 +167,7 @@ module _ (full : Bool) (document : List Part) (few : length document < 2 ^ 59) w
         let most : margin document index ≤ 18446744073709551615 = fits index (Start b) rest pairs hidden s w in
         let within : (n : ℕ) → part_shift document index (Start b) ≡ Indent n → top (stack_at document index) + n ≤ 18446744073709551615 = λ n i.
         (let is : margin document index ≡ top (stack_at document index) + n = margin-indent document index (Start b) rest w.here n (shift ∙ i) in omega arith) in
-        walk_on index (Start b) rest pairs hidden s w next (page.opened b (whole.is_adjacent b next) s) start_known.0 (opened_tab b (whole.is_adjacent b next) s)
+        walk_on index (Start b) rest pairs hidden s w next (page.opened b (whole.is_adjacent b next) s) start_known.0 (opened_keeps b (whole.is_adjacent b next) s).0
         (opened_margins index b (whole.is_adjacent b next) s (stack_at document index) w.margins w.tab start_known.1 within ∙ ap (λ (x : Shift). reverse (shifted x (stack_at document index))) (sym shift))
 
     walk_any_start : Walk (index + 1) rest next (hidden_after full hidden (Start b)) (whole.start_put next index b s)
@@ -245,18 +243,6 @@ text_is full width level (Paragraph ∷ chunks) p good = grind (arith, text_is f
 
 -- ---- the parts
 
-opened_page : (b : Block) (adjacent : Bool) (s : Sheet) → (page.opened b adjacent s).page ≡ exact.start_put b s.page
-unfolding page.opened
-opened_page b adjacent s = grind arith
-
-closed_page : (b : Block) (s : Sheet) → (page.closed b s).page ≡ exact.end_put b s.page
-unfolding page.closed
-closed_page b s = refl
-
-kept_width : (b : Block) (adjacent : Bool) (s : Sheet) → ((page.opened b adjacent s).width ≡ s.width) × ((page.closed b s).width ≡ s.width)
-unfolding page.opened page.closed
-kept_width b adjacent s = grind arith
-
 module _ (full : Bool) (document : List Part) (width : ℕ) (few : length document < 2 ^ 59) where
   text_part : (index : ℕ) (rest : List Part) (bytes : List ℕ) (style : Style) (pairs : Pairs) (hidden : ℕ) (s : Sheet) → Walk full document few index (Text bytes style ∷ rest) pairs hidden s
       → s.width ≡ width → (whole.part_put full document index pairs hidden (Text bytes style) s).page ≡ exact.part_put full width document index (Text bytes style) s.page
@@ -269,13 +255,13 @@ module _ (full : Bool) (document : List Part) (width : ℕ) (few : length docume
   part_same : (index : ℕ) (rest : List Part) (part : Part) (pairs : Pairs) (hidden : ℕ) (s : Sheet) → Walk full document few index (part ∷ rest) pairs hidden s → s.width ≡ width
       → (whole.part_put full document index pairs hidden part s).page ≡ exact.part_put full width document index part s.page
   part_same index rest (Text bytes style) pairs hidden s w wide = text_part index rest bytes style pairs hidden s w wide
-  part_same index rest (Start b) pairs hidden s w wide = grind (arith, start_skips full document few index rest b pairs hidden s w, opened_page)
-  part_same index rest (End b) pairs hidden s w wide = grind (arith, end_skips full document few index rest b pairs hidden s w, closed_page)
+  part_same index rest (Start b) pairs hidden s w wide = grind (arith, start_skips full document few index rest b pairs hidden s w, opened_keeps)
+  part_same index rest (End b) pairs hidden s w wide = grind (arith, end_skips full document few index rest b pairs hidden s w, closed_keeps)
 
   same_width : (index : ℕ) (part : Part) (pairs : Pairs) (hidden : ℕ) (s : Sheet) → (whole.part_put full document index pairs hidden part s).width ≡ s.width
   same_width index (Text bytes style) pairs hidden s = grind arith
-  same_width index (Start b) pairs hidden s = grind (arith, kept_width b (whole.is_adjacent b (whole.pairs_at document index b pairs)) s)
-  same_width index (End b) pairs hidden s = grind (arith, kept_width b false s)
+  same_width index (Start b) pairs hidden s = grind (arith, opened_keeps b (whole.is_adjacent b (whole.pairs_at document index b pairs)) s)
+  same_width index (End b) pairs hidden s = grind (arith, closed_keeps b s)
 
   parts_same : (parts : List Part) (index : ℕ) (pairs : Pairs) (hidden : ℕ) (s : Sheet) → Walk full document few index parts pairs hidden s → s.width ≡ width
       → (whole.parts_put full document index pairs hidden parts s).page ≡ exact.parts_put full width document (enumerate_from index parts) s.page
