@@ -13,7 +13,7 @@ use Rattle.std.proofs.lemmas.Str.{IsUtf8-append, IsUtf8-nil, IsCharBoundary-from
 use Rattle.bpaf_doc.specs.declared.buffer.Style.{Style}
 use Rattle.bpaf_doc.specs.declared.buffer.Kind.{Kind}
 use Rattle.bpaf_doc.specs.declared.buffer.PartEnd.{PartEnd}
-use Rattle.bpaf_doc.specs.Buffer.Steps.Ends.{AreEnds, CanMove, IsEnd, MayTake, end_before, end_then_text, is_text_of, moved, part_with, parts_from, text_end, with_last_end, with_text_end}
+use Rattle.bpaf_doc.specs.Buffer.Steps.Ends.{AreEnds, CanMove, IsEnd, end_before, end_then_text, is_text_of, moved, part_with, parts_from, text_end, with_last_end, with_text_end}
 use Rattle.bpaf_doc.specs.declared.buffer.Part as handed
 use Rattle.bpaf_doc.specs.Buffer.View.{part_of}
 use Rattle.bpaf_doc.specs.Buffer.Parts.{Part, Text, HasUtf8Texts, document_bytes, part_bytes}
@@ -30,20 +30,17 @@ left_over start e rest is = omega (arith, length-drop (e.end - start) rest, is.n
 
 -- ---- the texts
 
-taken_bytes : (k : Kind) (n : ℕ) (rest : List ℕ) → MayTake k n → part_bytes (part_with k (take n rest)) ≡ take n rest
-taken_bytes k n rest h = grind arith
-
 -- the texts joined are the payload
 pub document_bytes-parts_from : (start : ℕ) (es : List PartEnd) (rest : List ℕ) → AreEnds start es rest → document_bytes (parts_from start es rest) ≡ rest
 document_bytes-parts_from start [] rest are = sym are
-document_bytes-parts_from start (e ∷ es) rest are = grind (arith, document_bytes-parts_from e.end es (drop (e.end - start) rest), taken_bytes, take-append-drop)
+document_bytes-parts_from start (e ∷ es) rest are = grind (arith, document_bytes-parts_from e.end es (drop (e.end - start) rest), take-append-drop)
 
 pub HasUtf8Texts-parts_from : (start : ℕ) (es : List PartEnd) (rest : List ℕ) → AreEnds start es rest → HasUtf8Texts (parts_from start es rest)
 HasUtf8Texts-parts_from start [] rest are = All-nil (λ part. IsUtf8 (part_bytes part))
 HasUtf8Texts-parts_from start (e ∷ es) rest are =
     let n = e.end - start in
     All-cons (λ part. IsUtf8 (part_bytes part)) (part_with e.kind (take n rest)) (parts_from e.end es (drop n rest))
-    (subst IsUtf8 (sym (taken_bytes e.kind n rest are.0.taken)) are.0.utf8)
+    (subst IsUtf8 (sym (grind (arith, are.0.taken))) are.0.utf8)
     (HasUtf8Texts-parts_from e.end es (drop n rest) are.1)
 
 -- what is cut is a text
@@ -66,16 +63,13 @@ AreEnds-append start (e ∷ es) fs rest more are also = grind (arith, AreEnds-ap
 
 -- ---- a part without bytes
 
-take_none : (n : ℕ) → take n (let none : List ℕ = [] in none) ≡ []
-take_none n = take_all n [] (omega arith)
-
 module _ (start : ℕ) (es : List PartEnd) (rest : List ℕ) (k : Kind) where
   -- behind the other ends
   abbrev empty_end : PartEnd
   empty_end = record { kind = k; end = start + length rest }
 
   pub parts_from-push_empty : AreEnds start es rest → parts_from start (es ++ empty_end ∷ []) rest ≡ parts_from start es rest ++ part_with k [] ∷ []
-  parts_from-push_empty are = grind (arith, append-nil rest, parts_from-append start es (empty_end ∷ []) rest, take_none (start + length rest - (start + length rest)))
+  parts_from-push_empty are = grind (arith, append-nil rest, parts_from-append start es (empty_end ∷ []) rest, take_all)
 
   pub AreEnds-push_empty : AreEnds start es rest → AreEnds start (es ++ empty_end ∷ []) rest
   AreEnds-push_empty are =

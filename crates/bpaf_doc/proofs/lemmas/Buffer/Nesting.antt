@@ -68,18 +68,14 @@ IsWellNested-behind_text (joined (Text before kind ∷ front) back both nested a
 IsWellNested-behind_text (joined (Start b ∷ front) back both nested also) bytes style ps is = let e : Start b ∷ (front ++ back) ≡ Text bytes style ∷ ps = sym both ∙ is in cc
 IsWellNested-behind_text (joined (End b ∷ front) back both nested also) bytes style ps is = let e : End b ∷ (front ++ back) ≡ Text bytes style ∷ ps = sym both ∙ is in cc
 
--- a text, and then others
-text_and_others : (bytes : List ℕ) (style : Style) (others : List Part) → IsWellNested others → IsWellNested (Text bytes style ∷ others)
-text_and_others bytes style others nested = joined (Text bytes style ∷ []) others refl (text bytes style refl) nested
-
 IsWellNested-title : (bytes : List ℕ) (others : List Part) → IsWellNested others → IsWellNested (document_of (title_writes bytes others))
 IsWellNested-title bytes others nested = either (list_any is_newline bytes) where
   either : (some : Bool)
       → IsWellNested (document_of (if some then emphasis (before_first is_newline bytes) ∷ inside block.Section3 (plain (after_first is_newline bytes) ∷ write.parts others ∷ []) else emphasis bytes ∷ write.parts others ∷ []))
   either true =
       IsWellNested-inside block.Section3 (Text (before_first is_newline bytes) style.Emphasis ∷ []) (plain (after_first is_newline bytes) ∷ write.parts others ∷ []) (text (before_first is_newline bytes) style.Emphasis refl)
-      (text_and_others (after_first is_newline bytes) style.Text others nested)
-  either false = text_and_others bytes style.Emphasis others nested
+      (joined (Text (after_first is_newline bytes) style.Text ∷ []) others refl (text (after_first is_newline bytes) style.Text refl) nested)
+  either false = joined (Text bytes style.Emphasis ∷ []) others refl (text bytes style.Emphasis refl) nested
 
 pub IsWellNested-em_doc : (ps d : List Part) → IsWellNested ps → IsWellNested d → IsWellNested (with_writes ps (inside block.InlineBlock (titled d)))
 IsWellNested-em_doc ps d nested also = grind (arith, IsWellNested-inside, IsWellNested-title, IsWellNested-behind_text)
@@ -94,7 +90,7 @@ IsWellNested-pairs (pair ∷ pairs) ps nested = IsWellNested-pairs pairs (with_t
 
 line_and_others : (some : Bool) (front bytes : List ℕ) (style : Style) (others : List Part) → IsWellNested others → IsWellNested (if some then Text front style ∷ [] else Text bytes style ∷ others)
 line_and_others true front bytes style others nested = text front style refl
-line_and_others false front bytes style others nested = text_and_others bytes style others nested
+line_and_others false front bytes style others nested = joined (Text bytes style ∷ []) others refl (text bytes style refl) nested
 
 pub IsWellNested-leading_texts : (ps : List Part) → IsWellNested (leading_texts ps)
 IsWellNested-leading_texts (Text bytes style ∷ ps) = line_and_others (list_any is_newline bytes) (before_first is_newline bytes) bytes style (leading_texts ps) (IsWellNested-leading_texts ps)

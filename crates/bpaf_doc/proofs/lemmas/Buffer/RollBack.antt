@@ -66,15 +66,12 @@ module _ (k : Kind) (n : ℕ) (rest : List ℕ) where
   pub IsCutBack : Part → Type 0
   IsCutBack p = (length (part_bytes p) ≤ n) × (part_with k (take (length (part_bytes p)) rest) ≡ p) × (take (length (part_bytes p)) rest ≡ part_bytes p) × MayTake k (length (part_bytes p))
 
-text_kind : (k : Kind) (n : ℕ) (rest bytes : List ℕ) (style : Style) → part_with k (take n rest) ≡ Text bytes style → (k ≡ kind.Text style) × (take n rest ≡ bytes)
-text_kind k n rest bytes style h = grind arith
-
 front_is : (n : ℕ) (rest bytes more : List ℕ) → take n rest ≡ bytes ++ more → (length bytes ≤ n) × (take (length bytes) rest ≡ bytes)
 front_is n rest bytes more is = grind (arith, length-append bytes more, length-take n rest, take-take (length bytes) n rest, take_at bytes more (length bytes) refl)
 
 cut_back : (k : Kind) (n : ℕ) (rest : List ℕ) (p : Part) → IsLonger p (part_with k (take n rest)) → IsCutBack k n rest p
 unfolding IsLonger IsCutBack
-cut_back k n rest (Text bytes style) (more, is) = grind (arith, text_kind k n rest (bytes ++ more) style is, front_is n rest bytes more)
+cut_back k n rest (Text bytes style) (more, is) = grind (arith, front_is n rest bytes more)
 cut_back s n rest t is = grind arith
 
 -- the ends and the payload cut back to a document, of which `last` is the end

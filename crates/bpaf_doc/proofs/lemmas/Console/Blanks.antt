@@ -14,12 +14,10 @@ use Rattle.bpaf_doc.proofs.lemmas.Splitter.Ink.{ink-append}
 
 -- ---- blanks
 
-blank_utf8 : IsUtf8 (32 ∷ [])
-blank_utf8 = IsUtf8-from_ascii (32 ∷ []) (search rules)
-
 blanks_ink : (n : ℕ) → ink (replicate n 32 ++ 32 ∷ []) ≡ []
 blanks_ink zero = ink-blank
-blanks_ink (suc n) = ink-append (32 ∷ []) (replicate n 32 ++ 32 ∷ []) blank_utf8 ∙ ap₂ (λ i j. i ++ j) ink-blank (blanks_ink n)
+blanks_ink (suc n) =
+    ink-append (32 ∷ []) (replicate n 32 ++ 32 ∷ []) (IsUtf8-from_ascii (32 ∷ []) (search rules)) ∙ ap₂ (λ i j. i ++ j) ink-blank (blanks_ink n)
 
 some_blank : (xs : List ℕ) → (length (xs ++ 32 ∷ []) == 0) ≡ false
 some_blank [] = grind (arith, nat_tests)

@@ -1,7 +1,7 @@
 -- A text that ends in a printable ASCII character has no White_Space at its end.
 use Rattle.std.proofs.lemmas.Grind.{common_steps}
 use Rattle.std.specs.Char.{is_ascii_graphic, is_whitespace, is_not_whitespace}
-use Rattle.std.specs.Str.{chars, trim_end}
+use Rattle.std.specs.Str.{trim_end}
 use Rattle.std.proofs.Common.{ap, arith, ◌∙◌, ◌≡◌, ℕ, ◌<◌, true, false, List, [], ◌∷◌, ◌++◌, refl, filter, IsUtf8}
 use Rattle.std.proofs.lemmas.Bool.Decides.{nat_tests}
 use Rattle.std.proofs.lemmas.Str.{chars-IsAscii, encodes-chars, IsUtf8-from_ascii, IsUtf8-string_bytes, encode_ascii}
@@ -18,15 +18,12 @@ small b h = grind (arith, nat_tests)
 dark : (b : ℕ) → is_ascii_graphic b ≡ true → is_whitespace b ≡ false
 dark b h = grind (arith, nat_tests)
 
-one_char : (b : ℕ) → is_ascii_graphic b ≡ true → chars (b ∷ []) ≡ b ∷ []
-one_char b h = chars-IsAscii (b ∷ []) (grind arith)
-
 trim_one : (b : ℕ) → is_ascii_graphic b ≡ true → trim_end (b ∷ []) ≡ b ∷ []
 unfolding trim_end
-trim_one b h = grind (arith, dark, one_char, encodes-chars, IsUtf8-from_ascii, small)
+trim_one b h = grind (arith, dark, chars-IsAscii, encodes-chars, IsUtf8-from_ascii, small)
 
 one_ink : (b : ℕ) → is_ascii_graphic b ≡ true → has_some (ink (b ∷ [])) ≡ true
-one_ink b h = ap (λ cs. has_some (filter is_not_whitespace cs)) (one_char b h) ∙ rw (dark b h) refl
+one_ink b h = ap (λ cs. has_some (filter is_not_whitespace cs)) (chars-IsAscii (b ∷ []) (grind arith)) ∙ rw (dark b h) refl
 
 pub graphic_end : (text front : List ℕ) (b : ℕ) → text ≡ front ++ b ∷ [] → IsUtf8 text → is_ascii_graphic b ≡ true → trim_end text ≡ text
 graphic_end text front b e u h = grind (arith, common_steps, utf8_cut front (b ∷ []), small b h, trim_some front (b ∷ []), one_ink b h, trim_one b h)

@@ -1,20 +1,17 @@
 -- Counting the inline blocks that have to end before texts are shown again comes to what the definition of hidden texts says.
-use Rattle.std.specs.Prelude.{◌≡◌, ℕ, zero, suc, Bool, false, not, ◌&&◌, ◌||◌, ◌==◌, List, [], ◌∷◌, ◌++◌, refl, nat_le}
+use Rattle.std.specs.Prelude.{◌≡◌, ℕ, zero, suc, Bool, false, not, ◌&&◌, ◌||◌, ◌==◌, List, [], ◌∷◌, ◌++◌, nat_le}
 use Rattle.std.proofs.Common.{sym, ◌∙◌, ap, arith, append_assoc}
 use Rattle.std.proofs.lemmas.List.{append-nil}
 use Rattle.std.proofs.lemmas.Bool.Decides.{nat_tests}
 use Rattle.std.proofs.Math.Bool.{or-false}
 use Rattle.bpaf_doc.specs.declared.buffer.Block.{Block}
-use Rattle.bpaf_doc.specs.Buffer.Parts.{Part, Start, End}
+use Rattle.bpaf_doc.specs.Buffer.Parts.{Part, Start}
 use Rattle.bpaf_doc.proofs.lemmas.Lists.Opening.{closed, stays_open_is}
 use Rattle.bpaf_doc.specs.Shown.{stays_open, is_inline_start, is_inline_end, breaks_off, is_hidden}
 use Rattle.bpaf_doc.specs.Console.Steps.Hiding.{is_inline, hidden_after}
 
 start_is : (b : Block) → is_inline_start (Start b) ≡ is_inline b
 start_is b = grind arith
-
-end_is : (b : Block) → is_inline_end (End b) ≡ is_inline b
-end_is b = grind arith
 
 -- how many of the inline blocks that are open before some parts they end
 abbrev ended : List Part → ℕ
@@ -28,9 +25,6 @@ abbrev stays_hidden : ℕ → List Part → Bool
 stays_hidden zero parts = false
 stays_hidden (suc more) parts = nat_le (ended parts) more
 
-or_assoc : (a b c : Bool) → (a || (b || c)) ≡ ((a || b) || c)
-or_assoc a b c = grind arith
-
 pub not_zero : (more : ℕ) → (suc more == 0) ≡ false
 not_zero more = grind (arith, nat_tests)
 
@@ -38,7 +32,7 @@ abbrev IsKept : ℕ → Part → List Part → Type 0
 IsKept hidden part parts = (stays_hidden hidden (part ∷ parts) || (breaks_off part && stays_open is_inline_start is_inline_end parts)) ≡ stays_hidden (hidden_after false hidden part) parts
 
 kept : (hidden : ℕ) (part : Part) (parts : List Part) → IsKept hidden part parts
-kept hidden part parts = grind (arith, open_is, not_zero, nat_tests, start_is, or-false, end_is)
+kept hidden part parts = grind (arith, open_is, not_zero, nat_tests, start_is, or-false)
 
 -- ---- the count after a front
 
@@ -47,11 +41,8 @@ kept hidden part parts = grind (arith, open_is, not_zero, nat_tests, start_is, o
 abbrev pub Counts : ℕ → List Part → Type 0
 Counts hidden before = (between : List Part) → is_hidden (before ++ between) ≡ (stays_hidden hidden between || is_hidden between)
 
-pub Counts-nil : Counts 0 []
-Counts-nil between = refl
-
 pub Counts-more : (hidden : ℕ) (before : List Part) (part : Part) → Counts hidden before → Counts (hidden_after false hidden part) (before ++ part ∷ [])
-Counts-more hidden before part counts between = grind (arith, append_assoc, or_assoc, kept)
+Counts-more hidden before part counts between = grind (arith, append_assoc, kept)
 
 -- and a text that follows is hidden unless the count is 0
 pub is_hidden-Counts : (hidden : ℕ) (before : List Part) → Counts hidden before → is_hidden before ≡ not (hidden == 0)

@@ -56,13 +56,9 @@ top_after : (ss : List Shift) (stack : List ℕ) → top (stack_after ss stack) 
 top_after [] stack = (grind arith) ∙ sym (add-zero (get_or stack 0 0))
 top_after (x ∷ ss) stack = grind (arith, top_after ss, open_is, nat_tests, add-one)
 
--- from an empty stack on it is the sum of the indents in force
-pub top-stack_after : (ss : List Shift) → top (stack_after ss []) ≡ indents_in_force ss
-top-stack_after ss = top_after ss [] ∙ zero-add (indents_in_force ss)
-
 -- after the part at place j the top is the margin there
 pub top-margin : (document : List Part) (j : ℕ) → top (stack_at document (j + 1)) ≡ margin document j
-top-margin document j = top-stack_after (take (j + 1) (shifts document))
+top-margin document j = top_after (take (j + 1) (shifts document)) [] ∙ zero-add (indents_in_force (take (j + 1) (shifts document)))
 
 -- ---- one part after another
 
@@ -97,15 +93,12 @@ falls_after (Level ∷ ss) stack h = falls_after ss stack h
 
 -- the stack after the part at place j by that before it
 module _ (document : List Part) (j : ℕ) (part : Part) (rest : List Part) (here : drop j document ≡ part ∷ rest) where
-  margin_here : margin document j ≡ top (shifted (shift_at document j part) (stack_at document j))
-  margin_here = sym (top-margin document j) ∙ ap top (stack_at-more document j part rest here)
-
   -- the margin stays at a text, in a skipped pair and at a mark that does nothing to it
   pub margin-level : shift_at document j part ≡ Level → margin document j ≡ top (stack_at document j)
-  margin-level e = margin_here ∙ ap (λ s. top (shifted s (stack_at document j))) e
+  margin-level e = sym (top-margin document j) ∙ ap top (stack_at-more document j part rest here) ∙ ap (λ s. top (shifted s (stack_at document j))) e
 
   pub margin-indent : (n : ℕ) → shift_at document j part ≡ Indent n → margin document j ≡ top (stack_at document j) + n
-  margin-indent n e = margin_here ∙ ap (λ s. top (shifted s (stack_at document j))) e
+  margin-indent n e = sym (top-margin document j) ∙ ap top (stack_at-more document j part rest here) ∙ ap (λ s. top (shifted s (stack_at document j))) e
 
 -- which shift a part has
 pub shift_at-skipped : (document : List Part) (j : ℕ) (part : Part) → is_skipped document j ≡ true → shift_at document j part ≡ Level
@@ -120,7 +113,7 @@ shift_at-text document j bytes style = grind arith
 -- a block end never raises the margin, skipped or not
 pub margin-end : (document : List Part) (j : ℕ) (b : Block) (rest : List Part) → drop j document ≡ End b ∷ rest → margin document j ≤ top (stack_at document j)
 margin-end document j b rest here =
-    grind (arith, margin-level, shift_at-skipped, margin_here, falls_after, shift_at-shown)
+    grind (arith, margin-level, top-margin, top, stack_at-more, falls_after, shift_at-shown)
 
 -- ---- bounds
 
@@ -131,7 +124,7 @@ greatest_le most (n ∷ ns) a l = grind (arith, greatest_le most ns, nat_tests)
 pub tab_stop-le : (document : List Part) → tab_stop document ≤ 28
 tab_stop-le document = let l : greatest (filter (λ n. nat_le n 24) (term_lengths document)) ≤ 24 = greatest_le 24 (term_lengths document) 0 (omega arith) in omega arith
 
-in_force-le : (document : List Part) (j k : ℕ) (parts : List Part) → indents_in_force (take j (map (λ (i, part). shift_at document i part) (enumerate_from k parts))) ≤ 30 * j
+pub in_force-le : (document : List Part) (j k : ℕ) (parts : List Part) → indents_in_force (take j (map (λ (i, part). shift_at document i part) (enumerate_from k parts))) ≤ 30 * j
 in_force-le document (suc j) k (part ∷ parts) = grind (arith, in_force-le document j (k + 1) parts, tab_stop-le)
 in_force-le document x k y = grind arith
 

@@ -177,10 +177,7 @@ module _ (document : List Part) where
     at : ((i : ℕ) × SkipsAt document i × ((index ≡ after_section4 document i) ⊎ (index ≡ after_section4 document i + 1)))
         → (pairs.has_pair ≡ true) × (block ≡ blocks.Block) × (pairs.end < index) × (index ≤ pairs.end + 2)
     at (i, skips, place) =
-        let later : i + 2 ≤ after_section4 document i = omega arith in
-        let near : i < index + 1 = grind arith in
-        let is : block ≡ blocks.Block = is_block index i block skips.1 place mark in
-        elim (knows.earlier i near skips) [ inl g ↦ (g.1, is, grind arith, grind arith) | inr g ↦ absurd (grind arith) ]
+        elim (knows.earlier i (grind arith) skips) [ inl g ↦ (g.1, (is_block index i block skips.1 place mark), grind arith, grind arith) | inr g ↦ absurd (grind arith) ]
 
   pub skipped-known : (index : ℕ) (pairs : Pairs) → KnowsPairs document (index + 1) pairs → pairs.has_pair ≡ true → pairs.end < index → index ≤ pairs.end + 2 → is_skipped document index ≡ true
   skipped-known index pairs knows h l m = grind (arith, skipped_from)

@@ -8,14 +8,15 @@ use Rattle.std.proofs.lemmas.List.Folds.{list_all-append}
 use Rattle.std.proofs.Math.Bool.{and-false}
 use Rattle.bpaf_doc.specs.Splitter.Chunks.{Chunk, Raw, IsLine, chunks_of, columns, is_paragraph}
 use Rattle.bpaf_doc.specs.Splitter.Promises.{IsText}
-use Rattle.bpaf_doc.specs.Splitter.Steps.Runs.{IsLettered, is_lettered, letters}
+use Rattle.bpaf_doc.specs.Splitter.Steps.Runs.{IsLettered, is_lettered, letters, begins}
 use Rattle.bpaf_doc.specs.Console.Steps.Hiding.{hides}
 use Rattle.bpaf_doc.specs.Console.Exact.{PageSoFar, NoBreak, saturated}
 use Rattle.bpaf_doc.specs.Console.Steps.Page.{Sheet, IsWithinLine, has_no_room, wraps, room_made, columns_of, raw_put, chunks_put, text_put}
 use Rattle.bpaf_doc.proofs.lemmas.Splitter.Facts.{text_chunks}
-use Rattle.bpaf_doc.proofs.lemmas.Splitter.Letters.{letters-append, lettered_columns}
+use Rattle.bpaf_doc.proofs.lemmas.Splitter.Letters.{lettered_columns}
 use Rattle.bpaf_doc.proofs.lemmas.Splitter.Runs.{AreWords, no_words, a_word, words_of_line}
 use Rattle.bpaf_doc.proofs.lemmas.Splitter.Spelling.{and_left, and_right}
+use Rattle.std.proofs.lemmas.List.Sums.{sum_by-append}
 
 -- ---- what words leave of a page
 
@@ -51,11 +52,10 @@ module _ (width margin : ℕ) (small : width ≤ 18446744073709551615) where
       let back : IsLettered more = and_right (list_all is_lettered bytes) (list_all is_lettered more) both in
       let texts : All IsText (Raw bytes (columns bytes) ∷ others) = subst (λ cs. All IsText cs) ec us in
       let wide : letters bytes ≡ columns bytes = lettered_columns bytes (All-head IsText (Raw bytes (columns bytes)) others texts) front in
-      let sizes : letters run ≡ letters bytes + letters more = ap letters et ∙ letters-append bytes more in
-      let first : column + columns bytes ≤ width = omega (arith, wide, sizes, h) in
+      let sizes : letters run ≡ letters bytes + letters more = ap letters et ∙ (sum_by-append (λ b. if begins b then 1 else 0) bytes more) in
       let whole : column + columns bytes + letters more ≡ column + letters run = omega (arith, wide, sizes) in
       ap (λ cs. chunks_put width margin full (cs ++ rest) (page_at text column)) ec
-      ∙ ap (λ s. chunks_put width margin full (others ++ rest) s) (word_put text bytes column (columns bytes) refl level first)
+      ∙ ap (λ s. chunks_put width margin full (others ++ rest) s) (word_put text bytes column (columns bytes) refl level (omega (arith, wide, sizes, h)))
       ∙ words_put w (All-tail IsText (Raw bytes (columns bytes)) others texts) back (text ++ bytes) (column + columns bytes) (omega (arith, level)) (omega (arith, whole, h)) full rest
       ∙ ap₂ (λ o n. chunks_put width margin full rest (page_at o n)) (append_assoc text bytes more ∙ ap (λ t. text ++ t) (sym et)) whole
 

@@ -8,11 +8,11 @@ use Rattle.std.proofs.lemmas.List.Sums.{sum_by-cons, take_while-cons}
 use Rattle.std.proofs.lemmas.Bool.Decides.{nat_tests}
 use Rattle.std.proofs.Math.Bool.{and-false, and-true, or-false}
 use Rattle.std.proofs.Math.Nat.{zero-add}
-use Rattle.bpaf_doc.proofs.lemmas.Manpage.LookingBack.{after_last-append}
 use Rattle.bpaf_doc.specs.declared.buffer.Block.TheVariants as blocks
 use Rattle.bpaf_doc.specs.Buffer.Parts.{Part, Text, Start, End}
 use Rattle.bpaf_doc.specs.Splitter.Chunks.{columns}
 use Rattle.bpaf_doc.specs.Console.Margin.{is_term_start, is_term_end, text_columns, term_length, tab_stop}
+use Rattle.std.proofs.lemmas.List.{drop-append-le, drop_all, reverse-append}
 
 -- ---- the walk
 
@@ -50,11 +50,11 @@ abbrev is_in_term : List Part → Bool
 is_in_term before = list_any is_term_start before && not (list_any is_term_end (after_last is_term_start before))
 
 is_in_term-push : (before : List Part) (part : Part) → is_in_term (before ++ part ∷ []) ≡ (if is_term_start part then true else is_in_term before && not (is_term_end part))
-is_in_term-push before part = grind (arith, list_any-append, or-false, after_last-append)
+is_in_term-push before part = grind (arith, list_any-append, or-false, reverse-append, drop_all, drop-append-le, length-append)
 
 term_length-push : (before : List Part) (part : Part)
     → term_length (before ++ part ∷ []) ≡ (if is_term_start part then 0 else term_length before + (if is_in_term before then text_columns part else 0))
-term_length-push before part = grind (arith, list_any-append, or-false, after_last-append, first_columns-push)
+term_length-push before part = grind (arith, list_any-append, or-false, reverse-append, drop_all, drop-append-le, length-append, first_columns-push)
 
 -- ---- all parts
 

@@ -57,11 +57,8 @@ cut_soon p (Start blocks.Header ∷ fs) h = rw h refl
 cut_soon p (End blocks.Header ∷ fs) h = rw h refl
 cut_soon p (f ∷ fs) h = quiet_soon (snippets_of p f) (cut_from (page_after p f) fs) (ap (list_any asks_break) (step-fragments p f)) (cut_soon (page_after p f) fs (grind arith))
 
-no_ink_in_nothing : (weight : ℕ) → is_inked (Raw [] weight) ≡ false
-no_ink_in_nothing weight = ap (λ cs. has_some (filter is_not_whitespace cs)) chars-nil
-
 inked_is_text : (bytes : List ℕ) (weight : ℕ) (fresh : Bool) → is_inked (Raw bytes weight) ≡ true → (fresh && is_empty bytes) ≡ false
-inked_is_text [] weight fresh h = absurd (false≢true (sym (no_ink_in_nothing weight) ∙ h))
+inked_is_text [] weight fresh h = absurd (false≢true (sym (ap (λ cs. has_some (filter is_not_whitespace cs)) chars-nil) ∙ h))
 inked_is_text (b ∷ bs) weight fresh h = and-false fresh
 
 implied : (a b : Bool) → (a ≡ true → b ≡ true) → (not a || b) ≡ true

@@ -14,9 +14,6 @@ use Rattle.bpaf_doc.proofs.lemmas.Html.Text.{plain_spelled}
 use Rattle.bpaf_doc.proofs.lemmas.Html.Breaks.{breaks_of, touching_of}
 use Rattle.bpaf_doc.proofs.lemmas.Html.Nests.{nests_html, nests_tags}
 
-shown_nests : (document : List Part) (full : Bool) → IsWellNested document → Nests (shown_fragments full document)
-shown_nests document full nested = subst Nests (walked full document) (walk_nests nested full 0)
-
 pub shown_lines : (document : List Part) (full : Bool) → list_all fragment_is_line (shown_fragments full document) ≡ true
 shown_lines document full = ap (list_all fragment_is_line) (sym (walked full document)) ∙ walk_lines full 0 document
 
@@ -30,13 +27,13 @@ page_meets document full answer nested e =
     let fs : List Fragment = shown_fragments full document in
     let whole : answer ≡ spelled (cut_from blank_page fs) = e ∙ page-spelled blank_page fs in
     record {
-      nested = subst IsWellNestedHtml (sym whole) (nests_html (shown_nests document full nested) blank_page);
+      nested = subst IsWellNestedHtml (sym whole) (nests_html (subst Nests (walked full document) (walk_nests nested full 0)) blank_page);
       text = page_text document full answer e;
       cut = cut_from blank_page fs;
       spelling = whole;
       fragments = cut-fragments blank_page fs;
       breaks = breaks_of blank_page fs;
       touching = touching_of blank_page fs;
-      tags = nests_tags (shown_nests document full nested) blank_page;
+      tags = nests_tags (subst Nests (walked full document) (walk_nests nested full 0)) blank_page;
       styles = cut-styles blank_page fs;
     }

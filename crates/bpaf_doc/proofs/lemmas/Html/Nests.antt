@@ -45,18 +45,16 @@ chunks_blocks : (p : Written) (style : Style) (chunks : List Chunk) → SameBloc
 chunks_blocks p style [] = (refl, refl)
 chunks_blocks p style (c ∷ cs) = grind (arith, chunks_blocks (page_after p (Shown style c)) style cs)
 
-heading_blocks : (p : Written) (b : Block) → SameBlocks p (with_heading p b)
-heading_blocks p b = (grind arith, grind arith)
-
 start_outer : (p : Written) (b : Block) → (page_after p (Start b)).outer ≡ p.in_list ∷ p.outer
-start_outer p b = let same : SameBlocks p (with_heading p b) = heading_blocks p b in ap (λ x. x ∷ (with_heading p b).outer) same.0 ∙ ap (λ x. p.in_list ∷ x) same.1
+start_outer p b =
+    let same : SameBlocks p (with_heading p b) = (grind arith, grind arith) in ap (λ x. x ∷ (with_heading p b).outer) same.0 ∙ ap (λ x. p.in_list ∷ x) same.1
 
 nests_blocks : {fs : List Fragment} → Nests fs → (p : Written) → SameBlocks p (page_after_all p fs)
 nests_blocks (nothing e) p = subst (λ x. SameBlocks p (page_after_all p x)) (sym e) (refl, refl)
 nests_blocks (text style chunks e) p = grind (arith, page-append, chunks_blocks)
 nests_blocks (hidden e) p = subst (λ x. SameBlocks p (page_after_all p x)) (sym e) (refl, refl)
 nests_blocks (enclosed b inner e h) p =
-    grind (arith, nests_blocks h (page_after p (Start b)), page-append, heading_blocks, start_outer)
+    grind (arith, nests_blocks h (page_after p (Start b)), page-append, start_outer)
 nests_blocks (joined front back e h k) p = grind (arith, nests_blocks h p, nests_blocks k (page_after_all p front), page-append)
 
 -- ---- the tags of blocks

@@ -8,11 +8,9 @@ use Rattle.bpaf_doc.specs.Html.Fragments.{Shown}
 use Rattle.bpaf_doc.specs.Html.Steps.Page.{Written, with_words, page_after_all}
 use Rattle.bpaf_doc.proofs.lemmas.Splitter.Runs.{AreWords, no_words, a_word, words_of_line}
 
-words_nothing : (p : Written) → with_words p [] ≡ p
-words_nothing p = ap₂ (λ x y. record p { bytes = x; fresh = y }) (append-nil p.bytes) (and-true p.fresh)
-
 words_page : {chunks : List Chunk} {text : List ℕ} → AreWords chunks text → (p : Written) (style : Style) → page_after_all p (map (Shown style) chunks) ≡ with_words p text
-words_page (no_words ec et) p style = ap (λ cs. page_after_all p (map (Shown style) cs)) ec ∙ sym (ap (with_words p) et ∙ words_nothing p)
+words_page (no_words ec et) p style =
+    ap (λ cs. page_after_all p (map (Shown style) cs)) ec ∙ sym (ap (with_words p) et ∙ (ap₂ (λ x y. record p { bytes = x; fresh = y }) (append-nil p.bytes) (and-true p.fresh)))
 words_page (a_word bytes rest others ec et w) p style = grind (arith, words_page w, ap₂, append_assoc, flat_map-append)
 
 -- the page after the chunks of a run

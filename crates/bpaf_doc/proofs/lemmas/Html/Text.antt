@@ -13,12 +13,9 @@ use Rattle.bpaf_doc.proofs.lemmas.Html.Cut.{spelled}
 abbrev pub plain : List ℕ → List ℕ
 plain text = filter is_line_byte (erased text)
 
-plain_character : (b : ℕ) (rest : List ℕ) → is_line_byte b ≡ true → plain (escaped_character b ++ rest) ≡ escaped_character b ++ plain rest
-plain_character b rest l = grind (arith, l)
-
 plain_words : (bytes rest : List ℕ) → list_all is_line_byte bytes ≡ true → plain (flat_map escaped_character bytes ++ rest) ≡ flat_map escaped_character bytes ++ plain rest
 plain_words [] rest h = refl
-plain_words (b ∷ bs) rest h = grind (arith, plain_words bs rest, and_parts, append_assoc, plain_character)
+plain_words (b ∷ bs) rest h = grind (arith, plain_words bs rest, and_parts, append_assoc)
 
 pub plain_spelled : (snippets : List HtmlSnippet) → list_all fragment_is_line (fragments_in snippets) ≡ true → plain (spelled snippets) ≡ flat_map fragment_text (fragments_in snippets)
 plain_spelled [] h = refl

@@ -26,9 +26,6 @@ use Rattle.bpaf_doc.proofs.lemmas.Manpage.PageRead.{end_calls, place_calls, page
 start_same : (b : Block) → flat_map pieces_of (control_calls (start_name b)) ≡ start_pieces b
 start_same b = grind arith
 
-text_same : (how : Style) (strip : Bool) (bytes : List ℕ) → flat_map pieces_of (control_calls (style_name how) ++ TextCall strip (font_of how) bytes ∷ []) ≡ style_pieces how ++ text_pieces strip ((font_of how, bytes) ∷ [])
-text_same how strip bytes = grind arith
-
 -- ---- one part more
 
 -- the draft is the text of the page and of the pieces of the parts so far, and knows what looking back from here gives
@@ -37,10 +34,6 @@ record Holds (page : List (Piece Escape)) (by_page : Bool) (done : List Part) (d
   strips : draft.strips ≡ strips_newlines by_page done
   captures : draft.captures ≡ last_is_start is_section_mark done
   heading : draft.heading ≡ captured_texts done
-
--- no piece more
-none_more : (page : List (Piece Escape)) (by_page : Bool) (done : List Part) (part : Part) → [] ≡ part_pieces by_page (done, part) → page ++ document_pieces by_page done ≡ page ++ document_pieces by_page (done ++ part ∷ [])
-none_more page by_page done part same = ap (λ t. page ++ t) (sym (append-nil (document_pieces by_page done)) ∙ ap (λ t. document_pieces by_page done ++ t) same ∙ sym (grind (arith, places-append, flat_map-append, append-nil)))
 
 -- the pieces of one part more
 one_more : (page : List (Piece Escape)) (text : RoffText) (by_page : Bool) (done : List Part) (part : Part) (more : List (Piece Escape)) → text ≡ text_of Handle (page ++ document_pieces by_page done) → more ≡ part_pieces by_page (done, part)
@@ -56,14 +49,17 @@ strips-append by_page before part = ap (λ parts. start_or by_page (find is_term
 -- a text, by whether it is captured
 text_by : (captures : Bool) (page : List (Piece Escape)) (by_page : Bool) (done : List Part) (so_far : RoffText) (strips : Bool) (heading text : List ℕ) (how : Style) → Holds page by_page done (record { page = so_far; strips = strips; heading = heading; captures = captures })
     → Holds page by_page (done ++ Text text how ∷ []) (after_text (record { page = so_far; strips = strips; heading = heading; captures = captures }) text how)
-text_by true page by_page done so_far strips heading text how h = grind (arith, none_more, strips-append, last_is_start-append, captured_texts-append)
+text_by true page by_page done so_far strips heading text how h =
+    grind (arith, append-nil, document_pieces, places-append, flat_map-append, strips-append, last_is_start-append, captured_texts-append)
 text_by false page by_page done so_far strips heading text how h =
     let written = sym h.captures in
     record {
-      text = one_more page so_far by_page done (Text text how) (flat_map pieces_of (control_calls (style_name how) ++ TextCall strips (font_of how) text ∷ [])) h.text (rw written (text_same how strips text ∙ ap (λ strip. style_pieces how ++ text_pieces strip ((font_of how, text) ∷ [])) h.strips));
+      text =
+          one_more page so_far by_page done (Text text how) (flat_map pieces_of (control_calls (style_name how) ++ TextCall strips (font_of how) text ∷ [])) h.text (rw written ((grind arith) ∙ ap (λ strip. style_pieces how ++ text_pieces strip ((font_of how, text) ∷ [])) h.strips));
       strips = h.strips ∙ sym (strips-append by_page done (Text text how));
       captures = h.captures ∙ sym (last_is_start-append is_section_mark done (Text text how));
-      heading = h.heading ∙ sym (append-nil (captured_texts done)) ∙ ap (λ x. captured_texts done ++ (if x then text else [])) h.captures ∙ sym (captured_texts-append done (Text text how));
+      heading =
+          h.heading ∙ sym (append-nil (captured_texts done)) ∙ ap (λ x. captured_texts done ++ (if x then text else [])) h.captures ∙ sym (captured_texts-append done (Text text how));
     }
 
 start_holds : (page : List (Piece Escape)) (by_page : Bool) (done : List Part) (draft : Draft) (b : Block) → Holds page by_page done draft → Holds page by_page (done ++ Start b ∷ []) (after_start draft b)
@@ -122,7 +118,7 @@ exact_page page begun written document text begins on e = grind (arith, written_
 
 kept_parts : (ps : List (List Part × Part)) → flat_map (part_pieces false) ps ≡ flat_map pieces_of (flat_map place_calls ps)
 kept_parts [] = refl
-kept_parts (place ∷ ps) = grind (arith, kept_parts ps, text_same, start_same, flat_map-append)
+kept_parts (place ∷ ps) = grind (arith, kept_parts ps, start_same, flat_map-append)
 
 -- A page that takes a document is, with the document on it, read as the document's events.
 pub taken_page : (page : Script) (document : List Part) (text : List ℕ) → TakesDocument page → text ≡ roff_page page document → IsPageOf page document text

@@ -1,6 +1,5 @@
 -- What looking back from a place gives after one more part: what a loop over the parts keeps.
 use Rattle.std.specs.Prelude.{◌≡◌, Bool, List, [], ◌∷◌, ◌++◌, Some, find, if◌then◌else◌, refl}
-use Rattle.std.specs.List.{after_last}
 use Rattle.std.proofs.Common.{ap, ◌∙◌, append_assoc, arith}
 use Rattle.std.proofs.lemmas.List.{append-nil, reverse-append, drop-append-le, drop_all, length-append}
 use Rattle.std.proofs.lemmas.List.Concat.{flat_map-append}
@@ -16,10 +15,6 @@ pub places-append : (done before : List Part) (part : Part) → places done (bef
 places-append done [] part = rw (append-nil done) refl
 places-append done (p ∷ before) part = rw (places-append (done ++ p ∷ []) before part, append_assoc done (p ∷ []) before) refl
 
--- what stands after the last that passes, after one more
-pub after_last-append : {X : Type 0} (p : X → Bool) (xs : List X) (x : X) → after_last p (xs ++ x ∷ []) ≡ (if p x then [] else after_last p xs ++ x ∷ [])
-after_last-append {X = X} p xs x = grind (arith, reverse-append, drop_all, drop-append-le, length-append)
-
 -- the captured texts since the last section end, after one more part
 pub captured_texts-append : (before : List Part) (part : Part) → captured_texts (before ++ part ∷ []) ≡ (if is_section_end part then [] else captured_texts before ++ captured_text (before, part))
-captured_texts-append before part = grind (arith, places-append, after_last-append, flat_map-append, append-nil)
+captured_texts-append before part = grind (arith, places-append, reverse-append, drop_all, drop-append-le, length-append, flat_map-append, append-nil)

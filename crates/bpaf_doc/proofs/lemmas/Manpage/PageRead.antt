@@ -48,12 +48,9 @@ AreCalls-append : (cs ds : List Call) → AllByRecursion IsCall cs → AllByRecu
 AreCalls-append [] ds h k = k
 AreCalls-append (c ∷ cs) ds h k = (h.0, AreCalls-append cs ds h.1 k)
 
-two_letters : (b c : ℕ) → b ≢ 32 → b ≢ 10 → c ≢ 32 → c ≢ 10 → IsName (b ∷ c ∷ [])
-two_letters b c b32 b10 c32 c10 = ((b32, b10), ((c32, c10), tt))
-
 are_calls : (ps : List (List Part × Part)) → AllByRecursion IsCall (flat_map place_calls ps)
 are_calls [] = tt
-are_calls (place ∷ ps) = AreCalls-append (place_calls place) (flat_map place_calls ps) (grind (arith, two_letters)) (are_calls ps)
+are_calls (place ∷ ps) = AreCalls-append (place_calls place) (flat_map place_calls ps) (grind (arith)) (are_calls ps)
 
 -- A page that takes a document, with the pieces of the document's calls after its own, is rendered to the page of the document.
 pub page_read : (page : Script) → TakesDocument page → (document : List Part) → IsPageOf page document (rendering Handle (page.pieces ++ flat_map pieces_of (page_calls document)))
@@ -67,14 +64,16 @@ pub title_page_takes_document : (arguments : List (List ℕ)) → TakesDocument 
 title_page_takes_document arguments = record { keeps_newlines = refl; at_line_start = at_line_start }
   where
     at_line_start : is_line_start (escaped Handle (control_pieces (codes "TH") arguments)) ≡ true
-    at_line_start = rw (control_written (codes "TH") arguments [] (two_letters 84 72 (omega arith) (omega arith) (omega arith) (omega arith))) (control_ends (codes "TH") arguments [])
+    at_line_start =
+        rw (control_written (codes "TH") arguments [] ((((omega arith), (omega arith)), (((omega arith), (omega arith)), tt)))) (control_ends (codes "TH") arguments [])
 
 -- the title line is read as the title
 title_read : (arguments : List (List ℕ)) (steps : List Step) (t : List ℕ) → Reads AtLineStart t (events_of_steps steps) → Reads AtLineStart (escaped Handle (control_pieces (codes "TH") arguments) ++ t) (Control (codes "TH") (map word_of arguments) ∷ events_of_steps steps)
-title_read arguments steps t r = subst (λ line. Reads AtLineStart (line ++ t) (Control (codes "TH") (map word_of arguments) ∷ events_of_steps steps)) (sym (control_written (codes "TH") arguments [] named)) (control_read (codes "TH") arguments [] true refl named steps t r)
+title_read arguments steps t r =
+    subst (λ line. Reads AtLineStart (line ++ t) (Control (codes "TH") (map word_of arguments) ∷ events_of_steps steps)) (sym (control_written (codes "TH") arguments [] named)) (control_read (codes "TH") arguments [] true refl named steps t r)
   where
     named : IsName (codes "TH")
-    named = two_letters 84 72 (omega arith) (omega arith) (omega arith) (omega arith)
+    named = (((omega arith), (omega arith)), (((omega arith), (omega arith)), tt))
 
 -- A page with a title line and a document is a manual page.
 pub titled_page_is_manual_page : (arguments : List (List ℕ)) (document : List Part) (text : List ℕ) → IsPageOf (title_page arguments) document text → IsManualPageOf (Control (codes "TH") (map word_of arguments)) document text

@@ -196,9 +196,6 @@ marks_then before marks rest e = spelled-append before marks rest ∙ ap (λ fs.
 pub new_line_marks : (bytes : List ℕ) → fragments_in (new_line_snippets bytes) ≡ []
 new_line_marks bytes = grind arith
 
-pub open_marks : (in_code : Bool) → fragments_in (open_snippets in_code) ≡ []
-open_marks in_code = grind arith
-
 pub open-spelled : (before : List Fragment) (p : Marked) → (open_code p).bytes ≡ p.bytes ++ spelled before (open_snippets p.in_code)
 open-spelled before p = grind (arith, append-nil p.bytes)
 
@@ -206,7 +203,8 @@ close-spelled : (before : List Fragment) (p : Marked) → (close_code p (codes "
 close-spelled before p = grind (arith, append-nil p.bytes)
 
 raw-spelled : (before : List Fragment) (p : Marked) (style : Style) (bytes : List ℕ) (weight : ℕ) → SameMono before p → (with_raw p bytes weight).bytes ≡ p.bytes ++ spelled before (raw_snippets p style bytes weight)
-raw-spelled before p style bytes weight mono = grind (arith, common_steps, by_weight, new_line-spelled, new_line_marks, fence_is_whole, open-spelled, open_marks, code_is_whole, and-true, close-spelled, append_assoc, append-nil, marks_then, whole_text)
+raw-spelled before p style bytes weight mono =
+    grind (arith, common_steps, by_weight, new_line-spelled, new_line_marks, fence_is_whole, open-spelled, code_is_whole, and-true, close-spelled, append_assoc, append-nil, marks_then, whole_text)
 
 start-spelled : (before : List Fragment) (p : Marked) (b : Block) → (own_after p (Start b)).bytes ≡ p.bytes ++ spelled before (start_snippets p b)
 start-spelled before p b = grind (arith, append_assoc, marks_then, new_line-spelled, new_line_marks, append-nil)

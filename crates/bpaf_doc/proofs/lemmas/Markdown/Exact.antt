@@ -10,7 +10,7 @@ use Rattle.bpaf_doc.specs.Markdown.Page.{IsMarkdownOf, is_header_start, is_in_li
 use Rattle.bpaf_doc.specs.Markdown.Exact.{new_line, blank_line, indented_line, decides_code, begins_with_code_line, is_in_code, raw_markdown, item_mark, fragment_markdown, markdown_after, markdown_page}
 use Rattle.bpaf_doc.specs.Markdown.Steps.Page.{Marked, blank_text, with_new_line, with_blank_line, with_item, with_raw, is_term_end, marked_after, marked_after_all}
 use Rattle.bpaf_doc.proofs.lemmas.Markdown.Cut.{by_weight, flags, item-flags, step-flags, code_next, item-code, step-code}
-use Rattle.bpaf_doc.proofs.lemmas.Markdown.Mind.{Agrees, Room, begins_is, after_empty_is, agrees_after, rooms_next, same_mono}
+use Rattle.bpaf_doc.proofs.lemmas.Markdown.Mind.{Agrees, Room, after_empty_is, agrees_after, rooms_next, same_mono}
 use Rattle.bpaf_doc.proofs.lemmas.Markdown.Meets.{room_for, at_start, markdown_meets}
 use Rattle.bpaf_doc.proofs.lemmas.Markdown.Runs.{marked-append}
 
@@ -26,10 +26,6 @@ record Looks (before : List Fragment) (p : Marked) : Type 0 where
   in_list : p.in_list ≡ is_in_list before
   mono : nat_lt p.ends p.starts ≡ is_in_mono before
   code : p.in_code ≡ is_in_code before
-
--- at the start of a body
-empty_looks : (before : List Fragment) (p : Marked) → Agrees before (flags p) → (with_item p false).empty_item ≡ is_after_empty_item before
-empty_looks before p h = ap (λ s. s.empty_item) (item-flags p false) ∙ sym (after_empty_is h.item)
 
 -- ---- the bytes of a step
 
@@ -55,7 +51,7 @@ abbrev waiting : Bool → List Fragment → List ℕ
 waiting pending after = if pending then item_mark after else []
 
 item_put : (p : Marked) (f : Fragment) (fs : List Fragment) → (with_item p (is_term_end f)).bytes ≡ p.bytes ++ waiting p.pending (f ∷ fs)
-item_put p f fs = grind (arith, append-nil p.bytes, begins_is f fs)
+item_put p f fs = grind (arith, append-nil p.bytes)
 
 last_item_put : (p : Marked) → (with_item p false).bytes ≡ p.bytes ++ waiting p.pending []
 last_item_put p = grind (arith, append-nil p.bytes)
@@ -75,7 +71,7 @@ texts_same before p (f ∷ fs) h code room =
     ∙ ap (λ text. markdown_after text (before ++ f ∷ []) fs) (step_put before p f fs (grind (arith, item-flags, same_mono, item-code)) (empty f) ∙ ap (λ text. text ++ fragment_markdown text before f fs) (item_put p f fs))
   where
     empty : (f : Fragment) → is_term_end f ≡ false → (with_item p (is_term_end f)).empty_item ≡ is_after_empty_item before
-    empty f e = ap (λ b. (with_item p b).empty_item) e ∙ empty_looks before p h
+    empty f e = ap (λ b. (with_item p b).empty_item) e ∙ (ap (λ s. s.empty_item) (item-flags p false) ∙ sym (after_empty_is h.item))
 
 -- the text that the code writes of a document
 pub text_exact : (document : List Part) (full : Bool) → length document < 2 ^ 64 → (with_item (marked_after_all blank_text (shown_fragments full document)) false).bytes ≡ markdown_after [] [] (shown_fragments full document)

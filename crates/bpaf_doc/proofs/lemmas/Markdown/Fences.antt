@@ -32,14 +32,11 @@ well_fenced = passes may_stand fence_next
 abbrev fence_after : Bool → List MarkdownSnippet → Bool
 fence_after = state_after may_stand fence_next
 
-closed-cons : (s : MarkdownSnippet) (ss : List MarkdownSnippet) → closed_fences (s ∷ ss) ≡ one_if (is_fence s) + closed_fences ss
-closed-cons s ss = count_by-cons is_fence s ss
-
 fences_counted : (q : Bool) (ss : List MarkdownSnippet) → well_fenced q ss ≡ true → one_if q + opened_fences ss ≡ closed_fences ss + one_if (fence_after q ss)
-fences_counted false (Put TextFence ∷ ss) h = omega (arith, count_by-cons, closed-cons (Put TextFence) ss, fences_counted true ss h)
-fences_counted true (Put Fence ∷ ss) h = omega (arith, count_by-cons, closed-cons (Put Fence) ss, fences_counted false ss h)
+fences_counted false (Put TextFence ∷ ss) h = omega (arith, count_by-cons, is_fence, fences_counted true ss h)
+fences_counted true (Put Fence ∷ ss) h = omega (arith, count_by-cons, is_fence, fences_counted false ss h)
 fences_counted q (s ∷ ss) h =
-    grind (arith, fences_counted q ss, false≢true, passes_first, count_by-cons, closed-cons, passes, and_parts)
+    grind (arith, fences_counted q ss, false≢true, passes_first, count_by-cons, is_fence, passes, and_parts)
 fences_counted x y h = grind (arith, false≢true, passes_first)
 
 -- ---- the steps

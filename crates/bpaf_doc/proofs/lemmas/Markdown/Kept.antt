@@ -1,12 +1,12 @@
 -- What stays of the snippets under a test.
-use Rattle.std.proofs.Common.{◌≡◌, Bool, false, List, [], ◌∷◌, map, arith, filter, flat_map, if◌then◌else◌}
+use Rattle.std.proofs.Common.{◌≡◌, Bool, false, List, [], ◌∷◌, arith, filter, flat_map, if◌then◌else◌}
 use Rattle.std.proofs.lemmas.List.Elements.{filter-append}
 use Rattle.bpaf_doc.specs.declared.buffer.Block.TheVariants as blocks
 use Rattle.bpaf_doc.specs.Html.Fragments.{Fragment, Start}
-use Rattle.bpaf_doc.specs.Markdown.Page.{Mark, Heading, SecondHeading, ThirdHeading, Dash, LongDash, styled_snippets, is_heading, is_style_mark}
-use Rattle.bpaf_doc.specs.Snippets.{Put, fragments_in, is_mark_or_fragment}
+use Rattle.bpaf_doc.specs.Markdown.Page.{Mark, Heading, SecondHeading, ThirdHeading, Dash, LongDash, styled_snippets, is_style_mark}
+use Rattle.bpaf_doc.specs.Snippets.{fragments_in, is_mark_or_fragment}
 use Rattle.bpaf_doc.specs.Markdown.Steps.Page.{Marked, marked_after}
-use Rattle.bpaf_doc.proofs.lemmas.Markdown.Cut.{item_snippets, snippets_of, cut_from, item_marks}
+use Rattle.bpaf_doc.proofs.lemmas.Markdown.Cut.{snippets_of, cut_from, item_marks}
 use Rattle.bpaf_doc.proofs.lemmas.Snippets.{fragments-append}
 
 -- the heading or list mark that a fragment writes of its own
@@ -19,9 +19,6 @@ own_heading p f = []
 -- the mark of an item that waited for it
 abbrev pub item_heading : Bool → Bool → List Mark
 item_heading pending empty = if pending then (if empty then [] else (Dash ∷ [])) else []
-
-pub item-headings : (pending empty : Bool) → filter (is_mark_or_fragment is_heading) (item_snippets pending empty) ≡ map Put (item_heading pending empty)
-item-headings pending empty = grind arith
 
 pub step-fragments : (p : Marked) (f : Fragment) → fragments_in (snippets_of p f) ≡ f ∷ []
 step-fragments p f = grind (arith, fragments-append, item_marks)

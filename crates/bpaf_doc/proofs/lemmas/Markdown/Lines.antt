@@ -14,7 +14,7 @@ use Rattle.bpaf_doc.specs.Markdown.Page.{mark_text, MarkdownSnippet, fragment_te
 use Rattle.bpaf_doc.specs.Snippets.{Put, Of, fragments_in}
 use Rattle.bpaf_doc.specs.Markdown.Steps.Page.{Marked, put, starts_line, with_new_line, open_code, with_chunk, marked_after}
 use Rattle.bpaf_doc.proofs.lemmas.Lists.Passing.{passes}
-use Rattle.bpaf_doc.proofs.lemmas.Markdown.Cut.{raw_cut, by_weight, spelled, own_snippets, snippets_of, cut_from, item_snippets, open_snippets, close_snippets, line_snippets, new_line_snippets, flags, step-flags, step-code, item_marks, step-spelled, new_line-spelled, open-spelled, new_line_marks, open_marks}
+use Rattle.bpaf_doc.proofs.lemmas.Markdown.Cut.{raw_cut, by_weight, spelled, own_snippets, snippets_of, cut_from, item_snippets, open_snippets, close_snippets, line_snippets, new_line_snippets, flags, step-flags, step-code, item_marks, step-spelled, new_line-spelled, open-spelled, new_line_marks}
 use Rattle.bpaf_doc.proofs.lemmas.Markdown.Kept.{step-fragments}
 use Rattle.bpaf_doc.proofs.lemmas.Markdown.Mind.{Agrees, Room, agrees_after, rooms_next, same_mono}
 
@@ -95,20 +95,16 @@ other_stands : (before : List Fragment) (text : List ℕ) (ss : List MarkdownSni
 other_stands before text (Put mark ∷ ss) f e o = other_stands before (text ++ mark_text mark) ss f e o
 other_stands before text x f e o = grind (arith, false≢true, marks_stand)
 
--- a line after a text that ends in blanks
-line_stands : (before : List Fragment) (text : List ℕ) (f : Fragment) → EndsInBlankLine text → LinesStand before text (line_snippets f)
-line_stands before text f h = (λ _. one_blank (text ++ 32 ∷ []) (one_blank text h), tt)
-
 raw_stands : (before : List Fragment) (p : Marked) (style : Style) (bytes : List ℕ) (weight : ℕ) → (p.in_code ≡ true → EndsInBlankLine p.bytes) → LinesStand before p.bytes (own_snippets p (Shown style (Raw bytes weight)))
 raw_stands before p style bytes weight h =
     let f : Fragment = Shown style (Raw bytes weight) in
     by_weight weight (λ t c. LinesStand before p.bytes (raw_cut t c p f))
     (λ e c. after_marks (new_line_snippets p.bytes) (new_line_marks p.bytes) (subst EndsInBlankLine (new_line-spelled before p) (new_line_blank p)))
-    (λ e k. after_marks (open_snippets p.in_code) (open_marks p.in_code) (subst EndsInBlankLine (open-spelled before p) (open_blank p h)))
+    (λ e k. after_marks (open_snippets p.in_code) (grind arith) (subst EndsInBlankLine (open-spelled before p) (open_blank p h)))
     (λ e k. other_stands before p.bytes (close_snippets p.in_code ++ Of f ∷ []) f (grind arith) (ap (λ c. c || (weight == fence_weight)) k ∙ e))
   where
     after_marks : (marks : List MarkdownSnippet) → fragments_in marks ≡ [] → EndsInBlankLine (p.bytes ++ spelled before marks) → LinesStand before p.bytes (marks ++ line_snippets (Shown style (Raw bytes weight)))
-    after_marks marks none k = search (rules, lines_both, marks_stand, line_stands)
+    after_marks marks none k = search (rules, lines_both, marks_stand, one_blank)
 
 -- ---- texts of a document: where chunks stand between a start and an end
 
@@ -133,15 +129,11 @@ Keeps true p = (p.pending ≡ false) × (p.in_code ≡ true → EndsInBlankLine 
 never : {X : Type 0} (b : Bool) → b ≡ false → b ≡ true → X
 never b e h = absurd (false≢true (sym e ∙ h))
 
--- what the step of a chunk is where no item waits
-chunk_step : (p : Marked) (style : Style) (chunk : Chunk) → p.pending ≡ false → marked_after p (Shown style chunk) ≡ with_chunk p chunk
-chunk_step p style chunk e = ap (λ b. with_chunk (if b then record p { bytes = p.bytes ++ codes "- "; pending = false; empty_item = false } else p) chunk) e
-
 pending_after : (p : Marked) (f : Fragment) → is_item_start f ≡ false → (marked_after p f).pending ≡ false
 pending_after p f e = ap (λ s. s.pending) (step-flags p f) ∙ ap (λ b. if b then true else false) e
 
 chunk_next : (p : Marked) (style : Style) (chunk : Chunk) → Keeps true p → Keeps true (marked_after p (Shown style chunk))
-chunk_next p style chunk keeps = grind (arith, common_steps, chunk_step, by_weight, one_blank, blank_newline)
+chunk_next p style chunk keeps = grind (arith, common_steps, with_chunk, codes, false, by_weight, one_blank, blank_newline)
 
 step_stands : (t : Bool) (before : List Fragment) (p : Marked) (f : Fragment) → may_come t f ≡ true → Keeps t p → LinesStand before p.bytes (snippets_of p f)
 step_stands t before p f h1 h2 = grind (arith, raw_stands, false≢true, other_stands, step-fragments)

@@ -5,8 +5,8 @@ use Rattle.bpaf_doc.specs.declared.buffer.Style.{Style}
 use Rattle.bpaf_doc.specs.Buffer.Parts.{Part, Text, Start as PartStart, End as PartEnd}
 use Rattle.bpaf_doc.specs.Splitter.Chunks.{Chunk, chunks_of, starts}
 use Rattle.bpaf_doc.specs.Html.Fragments.{Fragment, TextStart, Shown, TextEnd, Hidden, shown_fragments}
-use Rattle.bpaf_doc.specs.Markdown.Page.{IsMarkdownOf, MarkdownSnippet, Newline, text_after, EndsInBlankLine, is_mono_start, is_mono_end}
-use Rattle.bpaf_doc.specs.Snippets.{Put, Of}
+use Rattle.bpaf_doc.specs.Markdown.Page.{IsMarkdownOf, text_after, EndsInBlankLine, is_mono_start, is_mono_end}
+use Rattle.bpaf_doc.specs.Snippets.{Of}
 use Rattle.bpaf_doc.specs.Html.Steps.Walk.{visible, text_rest, part_walk, walk, depth_after}
 use Rattle.bpaf_doc.specs.Markdown.Steps.Page.{blank_text, with_item, marked_after_all}
 use Rattle.bpaf_doc.proofs.lemmas.Lists.Counting.{one_if, count_by-cons, count_by-append}
@@ -85,8 +85,7 @@ markdown_meets document full answer few e =
       unfenced = unfenced_of blank_text fs refl;
       lines = λ before after a c whole. (
         subst EndsInBlankLine (sym (places-spelled [] before)) (blank_before blank_text fs form refl at_start room before after a c whole),
-        (let next : (rest : List MarkdownSnippet) × (after ≡ Put Newline ∷ rest) = newline_after blank_text fs before after a c whole in
-            subst (λ ss. IsTrue (starts (text_after (before ++ Of a ∷ []) ss) (codes "\n"))) (sym next.1) refl),
+        (subst (λ ss. IsTrue (starts (text_after (before ++ Of a ∷ []) ss) (codes "\n"))) (sym (newline_after blank_text fs before after a c whole).1) refl),
       );
       touching = touching_of blank_text fs;
       paragraphs = λ before between after a b c _ _ any. paragraphs_of blank_text fs before between after a b c any;

@@ -10,20 +10,15 @@ use Rattle.bpaf_doc.specs.Html.Fragments.{Fragment}
 use Rattle.bpaf_doc.specs.Markdown.Page.{Mark, MarkdownSnippet, is_mono_start, is_mono_end, is_header_start, is_item_start, begins_with_term_end, is_in_list, is_after_empty_item, headings_of, headed_snippets, flat_map_places_from, is_heading}
 use Rattle.bpaf_doc.specs.Snippets.{Put, Of, is_mark_or_fragment}
 use Rattle.bpaf_doc.specs.Markdown.Steps.Page.{Marked, with_item, is_term_end, marked_after, marked_after_all, one_more}
-use Rattle.bpaf_doc.proofs.lemmas.Lists.Counting.{one_if, count_by-cons, count_by-push}
-use Rattle.bpaf_doc.proofs.lemmas.Markdown.Cut.{Flags, flags, flags_next, item-flags, step-flags, is_list_start, is_list_end, SameMono, spelled, spelled-append, step-spelled, cut_from, snippets_of, item-spelled}
-use Rattle.bpaf_doc.proofs.lemmas.Markdown.Kept.{own_heading, item_heading, item-headings, step-fragments}
+use Rattle.bpaf_doc.proofs.lemmas.Lists.Counting.{one_if, count_by-cons, count_by-append}
+use Rattle.bpaf_doc.proofs.lemmas.Markdown.Cut.{Flags, flags, flags_next, item-flags, step-flags, SameMono, spelled, spelled-append, step-spelled, cut_from, snippets_of, item-spelled}
+use Rattle.bpaf_doc.proofs.lemmas.Markdown.Kept.{own_heading, item_heading, step-fragments}
+use Rattle.std.proofs.Math.Nat.{zero-add}
 
 -- ---- one fragment more before
 
-any-push : (p : Fragment → Bool) (fs : List Fragment) (f : Fragment) → list_any p (fs ++ f ∷ []) ≡ (if p f then true else list_any p fs)
-any-push p fs f = list_any-append p fs (f ∷ []) ∙ grind arith
-
 suffix-push : (q : Fragment → Bool) (fs : List Fragment) (f : Fragment) → suffix_len q (fs ++ f ∷ []) ≡ cond (q f) (1 + suffix_len q fs) 0
 suffix-push q fs f = ap (λ xs. prefix_len q xs) (reverse-append fs (f ∷ []))
-
-after_last-past : (p : Fragment → Bool) (fs : List Fragment) (f : Fragment) → p f ≡ false → after_last p (fs ++ f ∷ []) ≡ after_last p fs ++ f ∷ []
-after_last-past p fs f e = grind (arith, suffix-push, length-append, drop-append-le)
 
 -- ---- items
 
@@ -33,27 +28,26 @@ pub data Item : List Fragment → Bool → Bool → Type 0 where
   waiting : {before : List Fragment} {pending empty : Bool} → list_any is_item_start before ≡ true → after_last is_item_start before ≡ [] → pending ≡ true → Item before pending empty
   past : {before : List Fragment} {pending empty : Bool} (g : Fragment) (rest : List Fragment) → list_any is_item_start before ≡ true → after_last is_item_start before ≡ g ∷ rest → pending ≡ false → empty ≡ is_term_end g → Item before pending empty
 
-pub begins_is : (g : Fragment) (rest : List Fragment) → begins_with_term_end (g ∷ rest) ≡ is_term_end g
-begins_is g rest = grind arith
-
 pub after_empty_is : {before : List Fragment} {pending empty : Bool} → Item before pending empty → is_after_empty_item before ≡ (if pending then false else empty)
-after_empty_is h = grind (arith, begins_is)
+after_empty_is h = grind (arith)
 
 item_next : {before : List Fragment} {pending empty : Bool} (f : Fragment) → Item before pending empty
     → Item (before ++ f ∷ []) (if is_item_start f then true else false) (if is_item_start f then false else (if pending then is_term_end f else empty))
 item_next {before} {pending} {empty} f item =
     (elim (is_item_start f) as (λ b. is_item_start f ≡ b → Item (before ++ f ∷ []) (if b then true else false) (if b then false else (if pending then is_term_end f else empty))) [
-      | true ↦ λ e. waiting (any-push is_item_start before f ∙ ap (λ b. if b then true else list_any is_item_start before) e) (grind (arith, suffix-push, drop_all)) refl
+      | true ↦ λ e. waiting ((list_any-append is_item_start before (f ∷ []) ∙ grind arith) ∙ ap (λ b. if b then true else list_any is_item_start before) e) (grind (arith, suffix-push, drop_all)) refl
       | false ↦ λ e. stays e item
     ]) refl
   where
     any_same : is_item_start f ≡ false → list_any is_item_start (before ++ f ∷ []) ≡ list_any is_item_start before
-    any_same e = any-push is_item_start before f ∙ ap (λ b. if b then true else list_any is_item_start before) e
+    any_same e = list_any-append is_item_start before (f ∷ []) ∙ grind arith ∙ ap (λ b. if b then true else list_any is_item_start before) e
 
     stays : is_item_start f ≡ false → Item before pending empty → Item (before ++ f ∷ []) false (if pending then is_term_end f else empty)
     stays e (none any p h) = none (any_same e ∙ any) refl (ap (λ b. if b then is_term_end f else empty) p ∙ h)
-    stays e (waiting any last p) = past f [] (any_same e ∙ any) (after_last-past is_item_start before f e ∙ ap (λ x. x ++ f ∷ []) last) refl (ap (λ b. if b then is_term_end f else empty) p)
-    stays e (past g rest any last p h) = past g (rest ++ f ∷ []) (any_same e ∙ any) (after_last-past is_item_start before f e ∙ ap (λ x. x ++ f ∷ []) last) refl (ap (λ b. if b then is_term_end f else empty) p ∙ h)
+    stays e (waiting any last p) =
+        past f [] (any_same e ∙ any) ((grind (arith, suffix-push, length-append, drop-append-le)) ∙ ap (λ x. x ++ f ∷ []) last) refl (ap (λ b. if b then is_term_end f else empty) p)
+    stays e (past g rest any last p h) =
+        past g (rest ++ f ∷ []) (any_same e ∙ any) ((grind (arith, suffix-push, length-append, drop-append-le)) ∙ ap (λ x. x ++ f ∷ []) last) refl (ap (λ b. if b then is_term_end f else empty) p ∙ h)
 
 -- ---- all of it
 
@@ -68,26 +62,18 @@ pub record Agrees (before : List Fragment) (s : Flags) : Type 0 where
 abbrev pub Room : List Fragment → List Fragment → Type 0
 Room before rest = (count_by is_mono_start before + count_by is_mono_start rest < 2 ^ 64) × (count_by is_mono_end before + count_by is_mono_end rest < 2 ^ 64)
 
-list-push : (before : List Fragment) (f : Fragment) → is_in_list (before ++ f ∷ []) ≡ (if is_list_start f then true else (if is_list_end f then false else is_in_list before))
-list-push before f = grind (arith, reverse-append)
-
 counted : (p : Fragment → Bool) (before : List Fragment) (f : Fragment) (n : ℕ) → count_by p before ≡ n → count_by p before + one_if (p f) < 2 ^ 64 → count_by p (before ++ f ∷ []) ≡ (if p f then one_more n else n)
-counted p before f n e room = grind (arith, count_by-push p before f)
-
-room_here : (p : Fragment → Bool) (before : List Fragment) (f : Fragment) (fs : List Fragment) → count_by p before + count_by p (f ∷ fs) < 2 ^ 64 → count_by p before + one_if (p f) < 2 ^ 64
-room_here p before f fs room = omega (arith, room, count_by-cons p f fs)
+counted p before f n e room = grind (arith, count_by-append, count_by, zero-add, one_if)
 
 room_next : (p : Fragment → Bool) (before : List Fragment) (f : Fragment) (fs : List Fragment) → count_by p before + count_by p (f ∷ fs) < 2 ^ 64 → count_by p (before ++ f ∷ []) + count_by p fs < 2 ^ 64
-room_next p before f fs room = omega (arith, room, count_by-cons p f fs, count_by-push p before f)
-
-agrees_next : (before : List Fragment) (s : Flags) (f : Fragment) (fs : List Fragment) → Agrees before s → Room before (f ∷ fs) → Agrees (before ++ f ∷ []) (flags_next s f)
-agrees_next before s f fs h room = grind (arith, common_steps, any-push, list-push, item_next, counted, room_here)
+room_next p before f fs room = omega (arith, room, count_by-cons p f fs, count_by-append, count_by, zero-add, one_if)
 
 pub rooms_next : (before : List Fragment) (f : Fragment) (fs : List Fragment) → Room before (f ∷ fs) → Room (before ++ f ∷ []) fs
 rooms_next before f fs room = (room_next is_mono_start before f fs room.0, room_next is_mono_end before f fs room.1)
 
 pub agrees_after : (before : List Fragment) (p : Marked) (f : Fragment) (fs : List Fragment) → Agrees before (flags p) → Room before (f ∷ fs) → Agrees (before ++ f ∷ []) (flags (marked_after p f))
-agrees_after before p f fs h room = subst (λ s. Agrees (before ++ f ∷ []) s) (sym (step-flags p f)) (agrees_next before (flags p) f fs h room)
+agrees_after before p f fs h room =
+    subst (λ s. Agrees (before ++ f ∷ []) s) (sym (step-flags p f)) (grind (arith, common_steps, list_any-append, reverse-append, item_next, counted, count_by-cons))
 
 pub same_mono : (before : List Fragment) (p : Marked) → Agrees before (flags p) → SameMono before p
 same_mono before p h = ap (λ n. nat_lt n (count_by is_mono_start before)) h.ends ∙ ap (λ n. nat_lt p.ends n) h.starts
@@ -112,17 +98,17 @@ heading_is before p f fs h = grind (arith, item-flags, append-nil, after_empty_i
 
 pub all-headings : (before : List Fragment) (p : Marked) (fs : List Fragment) → Agrees before (flags p) → Room before fs
     → filter (is_mark_or_fragment is_heading) (cut_from p fs) ≡ map Put (item_heading p.pending (begins_with_term_end fs)) ++ flat_map_places_from headed_snippets before fs
-all-headings before p [] h room = item-headings p.pending false ∙ sym (append-nil (map Put (item_heading p.pending false)))
+all-headings before p [] h room = grind arith ∙ sym (append-nil (map Put (item_heading p.pending false)))
 all-headings before p (f ∷ fs) h room =
     let next : Marked = marked_after p f in
     let first : List MarkdownSnippet = map Put (item_heading p.pending (is_term_end f)) in
     let own : List Mark = own_heading (with_item p (is_term_end f)) f in
     let later : List MarkdownSnippet = flat_map_places_from headed_snippets (before ++ f ∷ []) fs in
     filter-append (is_mark_or_fragment is_heading) (snippets_of p f) (cut_from next fs)
-    ∙ ap (λ x. x ++ filter (is_mark_or_fragment is_heading) (cut_from next fs)) (grind (arith, filter-append, item-headings))
+    ∙ ap (λ x. x ++ filter (is_mark_or_fragment is_heading) (cut_from next fs)) (grind (arith, filter-append))
     ∙ ap (λ x. (first ++ Of f ∷ map Put own) ++ x) (all-headings (before ++ f ∷ []) next fs (agrees_after before p f fs h room) (rooms_next before f fs room))
     ∙ ap (λ s. (first ++ Of f ∷ map Put own) ++ (map Put (item_heading s.pending (begins_with_term_end fs)) ++ later)) (step-flags p f)
     ∙ append_assoc first (Of f ∷ map Put own) (map Put (item_heading (flags_next (flags p) f).pending (begins_with_term_end fs)) ++ later)
     ∙ ap (λ x. first ++ Of f ∷ x) (sym (append_assoc (map Put own) (map Put (item_heading (flags_next (flags p) f).pending (begins_with_term_end fs))) later))
     ∙ ap (λ x. first ++ Of f ∷ (x ++ later)) (sym (map-append Put own (item_heading (flags_next (flags p) f).pending (begins_with_term_end fs))) ∙ ap (λ x. map Put x) (heading_is before p f fs h))
-    ∙ ap (λ x. map Put (item_heading p.pending x) ++ (headed_snippets before f fs ++ later)) (sym (begins_is f fs))
+    ∙ ap (λ x. map Put (item_heading p.pending x) ++ (headed_snippets before f fs ++ later)) (sym (grind arith))

@@ -8,7 +8,7 @@ use Rattle.bpaf_doc.specs.Splitter.Chunks.{Chunk, Raw, chunks_of, code_weight, c
 use Rattle.bpaf_doc.specs.Splitter.Steps.Runs.{IsRun}
 use Rattle.bpaf_doc.specs.Html.Fragments.{Fragment, Shown}
 use Rattle.bpaf_doc.specs.Markdown.Page.{escaped_character}
-use Rattle.bpaf_doc.specs.Markdown.Steps.Page.{Marked, put, with_item, close_code, with_line, with_words, with_raw, marked_after, marked_after_all}
+use Rattle.bpaf_doc.specs.Markdown.Steps.Page.{Marked, put, with_item, close_code, with_line, with_words, marked_after, marked_after_all}
 use Rattle.bpaf_doc.proofs.lemmas.Splitter.Runs.{AreWords, no_words, a_word, words_of_line}
 use Rattle.bpaf_doc.proofs.lemmas.Splitter.Widths.{columns_few}
 
@@ -34,15 +34,12 @@ put_on p a b = ap (λ x. record p { bytes = x }) (append_assoc p.bytes a b)
 abbrev IsSettled : Marked → Type 0
 IsSettled p = (p.pending ≡ false) × (p.in_code ≡ false)
 
--- a raw chunk that is no line of code
-raw_words : (p : Marked) (bytes : List ℕ) (weight : ℕ) → weight < 1_000_000 → with_raw p bytes weight ≡ with_words p bytes
-raw_words p bytes weight few = grind (arith, ne_eqb)
-
 -- what follows words
 words_more : {chunks : List Chunk} {text : List ℕ} → AreWords chunks text → length text ≤ 300_000 → (p : Marked) (style : Style) → IsSettled p
     → marked_after_all p (map (Shown style) chunks) ≡ put p (spelled p.ends p.starts text)
 words_more (no_words ec et) le p style s = grind (arith, append-nil)
-words_more {chunks} {text} (a_word bytes rest others ec et w) le p style s = grind (arith, words_more w (omega (arith, (ap length et ∙ length-append bytes rest), le)) (put p (spelled p.ends p.starts bytes)) style, length-append, columns_few, raw_words, put_on, spelled_on)
+words_more {chunks} {text} (a_word bytes rest others ec et w) le p style s =
+    grind (arith, words_more w (omega (arith, (ap length et ∙ length-append bytes rest), le)) (put p (spelled p.ends p.starts bytes)) style, length-append, columns_few, ne_eqb, put_on, spelled_on)
 
 -- ---- words where something may wait
 
@@ -57,22 +54,18 @@ run_marked p style run is = at (words_of_line run is.line) where
   at {chunks} (a_word bytes rest others ec et w) =
       let q = with_item p false in
       let t = close_code q (codes "\n  ```\n") in
-      let sizes : length run ≡ length bytes + length rest = ap length et ∙ length-append bytes rest in
-      let few : columns bytes < 1_000_000 = columns_few bytes (omega (arith, sizes, is.short)) in
+      let few : columns bytes < 1_000_000 = columns_few bytes (omega (arith, (ap length et ∙ length-append bytes rest), is.short)) in
       let same = closed_settled q (grind arith) in
       let first : marked_after p (Shown style (Raw bytes (columns bytes))) ≡ put t (spelled t.ends t.starts bytes)
-      = raw_words q bytes (columns bytes) few ∙ ap (λ b. put t (if b then flat_map escaped_character bytes else bytes)) (sym same.1) in
+      = grind (arith, ne_eqb) ∙ ap (λ b. put t (if b then flat_map escaped_character bytes else bytes)) (sym same.1) in
       ap (λ cs. marked_after_all p (map (Shown style) cs)) ec
       ∙ ap (λ m. marked_after_all m (map (Shown style) others)) first
-      ∙ words_more w (omega (arith, sizes, is.short)) (put t (spelled t.ends t.starts bytes)) style same.0
+      ∙ words_more w (omega (arith, (ap length et ∙ length-append bytes rest), is.short)) (put t (spelled t.ends t.starts bytes)) style same.0
       ∙ put_on t (spelled t.ends t.starts bytes) (spelled t.ends t.starts rest)
       ∙ ap (put t) (spelled_on t.ends t.starts bytes rest ∙ ap (spelled t.ends t.starts) (sym et))
       ∙ ap (λ b. put t (if b then flat_map escaped_character run else run)) same.1
 
 -- ---- a line of code in a code block that is open
 
-no_item : (p : Marked) → p.pending ≡ false → with_item p false ≡ p
-no_item p e = ap (λ b. if b then record p { bytes = p.bytes ++ codes "- "; pending = false; empty_item = false } else p) e
-
 pub code_line_more : (p : Marked) (style : Style) (line : List ℕ) → p.in_code ≡ true → p.pending ≡ false → marked_after p (Shown style (Raw line code_weight)) ≡ with_line p line
-code_line_more p style line opened settled = grind (arith, no_item)
+code_line_more p style line opened settled = grind (arith, codes, false)

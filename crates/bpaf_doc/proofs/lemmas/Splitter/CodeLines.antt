@@ -13,8 +13,7 @@ whole text front = sym (take-append-drop 5 text) ∙ ap (λ x. x ++ drop 5 text)
 pub code_cut : (text : List ℕ) → IsUtf8 text → take 5 text ≡ codes "\n    " → IsCharBoundary text 5
 unfolding lib.Utf8.encode
 code_cut text utf8 front =
-    let long : 5 ≤ length text = omega (arith, length-take 5 text, ap (λ x. length x) front) in
-    IsCharBoundary-from_take text 5 utf8 long (rw front (codes "\n    ", (refl, refl)))
+    IsCharBoundary-from_take text 5 utf8 (omega (arith, length-take 5 text, ap (λ x. length x) front)) (rw front (codes "\n    ", (refl, refl)))
 
 pub code_first : (text code line rest : List ℕ) (left : List Chunk) → take 5 text ≡ codes "\n    " → code ≡ drop 5 text → code ≡ line ++ rest → IsLine line → IsLineEnd rest → left ≡ chunks_of rest
     → chunks_in Plain text ≡ Raw line code_weight ∷ left

@@ -17,12 +17,9 @@ use Rattle.bpaf_doc.specs.Splitter.Chunks.{is_line_byte, is_word_byte, IsLine, I
 abbrev pub is_cut : ℕ → Bool
 is_cut c = char_set_contains (10 ∷ 32 ∷ []) c
 
-all_at : (test : ℕ → Bool) (bytes : List ℕ) → ((i : ℕ) → i < length bytes → test (get_or bytes i 0) ≡ true) → IsTrue (list_all test bytes)
+pub all_at : (test : ℕ → Bool) (bytes : List ℕ) → ((i : ℕ) → i < length bytes → test (get_or bytes i 0) ≡ true) → IsTrue (list_all test bytes)
 all_at test [] h = refl
-all_at test (b ∷ bytes) h =
-    let here : test b ≡ true = h 0 (omega arith) in
-    let after : IsTrue (list_all test bytes) = all_at test bytes (λ i l. h (suc i) (omega (arith, l))) in
-    rw here after
+all_at test (b ∷ bytes) h = rw (h 0 (omega arith)) (all_at test bytes (λ i l. h (suc i) (omega (arith, l))))
 
 word_byte : (b : ℕ) → is_cut b ≡ false → is_word_byte b ≡ true
 word_byte b e = grind (arith, nat_tests)
@@ -32,7 +29,7 @@ word_byte_above : (b : ℕ) → 128 ≤ b → is_word_byte b ≡ true
 word_byte_above b h = word_byte b (grind (arith, nat_tests))
 
 -- what a search for a newline finds
-no_newline : (b : ℕ) → ¬ is_byte 10 b ≡ true → is_line_byte b ≡ true
+pub no_newline : (b : ℕ) → ¬ is_byte 10 b ≡ true → is_line_byte b ≡ true
 no_newline b f = grind arith
 
 pub is_newline : (b : ℕ) → is_byte 10 b ≡ true → b ≡ 10

@@ -1,5 +1,5 @@
 -- What holds of the chunks of each text.
-use Rattle.std.specs.Prelude.{◌≡◌, ℕ, List, [], ◌++◌, refl, length, slice_range}
+use Rattle.std.specs.Prelude.{◌≡◌, ℕ, List, [], ◌++◌, refl, length}
 use Rattle.std.specs.List.{All, flat_map}
 use Rattle.std.specs.Str.{IsUtf8}
 use Rattle.std.proofs.Common.{sym, ◌∙◌, ap, subst, arith, append_assoc, append-nil, take_at, drop_at, length-append}
@@ -9,15 +9,15 @@ use Rattle.bpaf_doc.specs.Buffer.Parts.{ink}
 use Rattle.bpaf_doc.specs.Splitter.Chunks.{Chunk, chunk_ink, chunks_of}
 use Rattle.bpaf_doc.specs.Splitter.Promises.{IsGap, IsOneLine, IsPlace, IsSpelledOnce, IsText, StandInOrder, StandsFor, is_gap_byte}
 use Rattle.bpaf_doc.proofs.lemmas.Splitter.Spelling.{spells_its_chunks, only_its_chunks, spells_in}
-use Rattle.bpaf_doc.proofs.lemmas.Splitter.Pieces.{Pieces, none, piece, pieces, stands_ink, IsUtf8-blank}
-use Rattle.bpaf_doc.proofs.lemmas.Splitter.Ink.{ink-nil, ink-append, ink_after_gap}
+use Rattle.bpaf_doc.proofs.lemmas.Splitter.Pieces.{Pieces, none, piece, pieces, IsUtf8-blank}
+use Rattle.bpaf_doc.proofs.lemmas.Splitter.Ink.{ink-nil, ink-append, ink_after_gap, gap_ink}
 use Rattle.bpaf_doc.proofs.lemmas.Splitter.FirstChunk.{chunks_of-plain}
 
 -- ---- ink
 
 ink_of_pieces : {chunks : List Chunk} {text : List ℕ} → Pieces chunks text → IsUtf8 text → flat_map chunk_ink chunks ≡ ink text
 ink_of_pieces (none ec et) u = ap (λ cs. flat_map chunk_ink cs) ec ∙ sym (ap ink et ∙ ink-nil)
-ink_of_pieces (piece gap there after rest chunk others ec et g h t l w s) u = grind (arith, ink_of_pieces s, stands_ink, ink_after_gap, ink-append)
+ink_of_pieces (piece gap there after rest chunk others ec et g h t l w s) u = grind (arith, ink_of_pieces s, gap_ink, ink_after_gap, ink-append)
 
 -- the chunks of a UTF-8 text have together its ink
 pub ink_of_chunks : (text : List ℕ) → IsUtf8 text → flat_map chunk_ink (chunks_of text) ≡ ink text
@@ -43,17 +43,10 @@ text_chunks text u = texts_of_pieces (pieces (spells_its_chunks text)) u
 
 -- ---- places
 
-IsGap-append : (a b : List ℕ) → IsGap a → IsGap b → IsGap (a ++ b)
-IsGap-append a b g h = list_all-append is_gap_byte a b ∙ rw g h
-
--- what stands in the middle of a text
-middle : (a b c : List ℕ) → slice_range (a ++ (b ++ c)) (length a) (length (a ++ b)) ≡ b
-middle a b c = grind (arith, length-append, drop_at, take_at)
-
 -- a chunk that stands after a gap
 place_after : (text front gap there back : List ℕ) (chunk : Chunk) → text ≡ (front ++ gap) ++ (there ++ back) → IsGap gap → StandsFor chunk there
     → IsPlace text (length front) chunk (length (front ++ gap)) (length ((front ++ gap) ++ there))
-place_after text front gap there back chunk e g t = grind (arith, length-append, append_assoc, middle)
+place_after text front gap there back chunk e g t = grind (arith, length-append, append_assoc, drop_at, take_at)
 
 in_order_of_pieces : {chunks : List Chunk} {rest : List ℕ} → Pieces chunks rest → (text front pending : List ℕ) → text ≡ front ++ (pending ++ rest) → IsGap pending
     → StandInOrder text (length front) chunks
@@ -61,7 +54,7 @@ in_order_of_pieces {rest = rest} (none ec et) text front pending e g = grind (ar
 in_order_of_pieces (piece gap there after rest chunk others ec et g h t l w s) text front pending e p =
     let whole : text ≡ (front ++ (pending ++ gap)) ++ (there ++ (after ++ rest)) = grind (arith, append_assoc) in
     let on : text ≡ ((front ++ (pending ++ gap)) ++ there) ++ (after ++ rest) = whole ∙ sym (append_assoc (front ++ (pending ++ gap)) there (after ++ rest)) in
-    let place = place_after text front (pending ++ gap) there (after ++ rest) chunk whole (IsGap-append pending gap p g) t in
+    let place = place_after text front (pending ++ gap) there (after ++ rest) chunk whole (list_all-append is_gap_byte pending gap ∙ rw p g) t in
     let more = in_order_of_pieces s text ((front ++ (pending ++ gap)) ++ there) after on h in
     subst (λ cs. StandInOrder text (length front) cs) (sym ec) (length (front ++ (pending ++ gap)), length ((front ++ (pending ++ gap)) ++ there), place, more)
 

@@ -1,17 +1,13 @@
 -- The ink of a text in parts.
 use Rattle.std.specs.Char.{is_not_whitespace}
 use Rattle.std.specs.Str.{IsUtf8, chars}
-use Rattle.std.proofs.Common.{sym, ◌∙◌, ap, arith, append-nil, ◌≡◌, ℕ, true, ◌⊎◌, List, [], ◌∷◌, ◌++◌, refl, filter}
+use Rattle.std.proofs.Common.{sym, ◌∙◌, ap, arith, append-nil, ◌≡◌, ℕ, ◌⊎◌, List, [], ◌∷◌, ◌++◌, refl, filter}
 use Rattle.std.proofs.lemmas.Bool.Decides.{nat_tests}
 use Rattle.std.proofs.lemmas.List.Elements.{filter-append}
 use Rattle.std.proofs.lemmas.Str.{chars-append, chars-nil}
 use Rattle.bpaf_doc.specs.Buffer.Parts.{ink}
-use Rattle.bpaf_doc.specs.Splitter.Promises.{IsGap, is_gap_byte}
+use Rattle.bpaf_doc.specs.Splitter.Promises.{IsGap}
 use Rattle.bpaf_doc.proofs.lemmas.Splitter.Spelling.{and_left, and_right}
-
--- a newline or a blank
-pub gap_is : (b : ℕ) → is_gap_byte b ≡ true → (b ≡ 10) ⊎ (b ≡ 32)
-gap_is b e = grind (arith, nat_tests)
 
 newline_chars : (rest : List ℕ) → chars (10 ∷ rest) ≡ 10 ∷ chars rest
 unfolding chars
@@ -27,7 +23,7 @@ ink-nil = ap (λ cs. filter is_not_whitespace cs) chars-nil
 -- a gap has no ink
 pub ink_after_gap : (gap rest : List ℕ) → IsGap gap → ink (gap ++ rest) ≡ ink rest
 ink_after_gap [] rest g = refl
-ink_after_gap (b ∷ gap) rest g = grind (arith, ink_after_gap gap rest, gap_is, and_left, and_right, newline_chars, blank_chars)
+ink_after_gap (b ∷ gap) rest g = grind (arith, ink_after_gap gap rest, nat_tests, and_left, and_right, newline_chars, blank_chars)
 
 pub gap_ink : (gap : List ℕ) → IsGap gap → ink gap ≡ []
 gap_ink gap g = ap ink (sym (append-nil gap)) ∙ ink_after_gap gap [] g ∙ ink-nil
@@ -35,6 +31,3 @@ gap_ink gap g = ap ink (sym (append-nil gap)) ∙ ink_after_gap gap [] g ∙ ink
 -- the ink of a UTF-8 text and what follows it
 pub ink-append : (front rest : List ℕ) → IsUtf8 front → ink (front ++ rest) ≡ ink front ++ ink rest
 ink-append front rest u = ap (λ cs. filter is_not_whitespace cs) (chars-append front rest u) ∙ filter-append is_not_whitespace (chars front) (chars rest)
-
-pub ink_before_gap : (front gap : List ℕ) → IsUtf8 front → IsGap gap → ink (front ++ gap) ≡ ink front
-ink_before_gap front gap u g = ink-append front gap u ∙ ap (λ cs. ink front ++ cs) (gap_ink gap g) ∙ append-nil (ink front)

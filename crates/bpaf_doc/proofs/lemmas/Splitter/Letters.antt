@@ -102,9 +102,6 @@ letter_is c h = elim (cases_lt c 128) [
 
 -- ---- a text of such characters
 
-pub letters-append : (xs ys : List ℕ) → letters (xs ++ ys) ≡ letters xs + letters ys
-letters-append xs ys = sum_by-append (λ b. if begins b then 1 else 0) xs ys
-
 record AreLetters (cs : List ℕ) : Type 0 where
   simple : list_all is_simple cs ≡ true
   counted : sum_by (width_or_zero false) cs ≡ letters (encodes cs)
@@ -115,13 +112,12 @@ are_letters (c ∷ cs) h =
     let both = and_parts (list_all is_lettered (encode c)) (list_all is_lettered (encodes cs)) (sym (list_all-append is_lettered (encode c) (encodes cs)) ∙ h) in
     let one = letter_is c both.0 in
     let narrow = and_parts (is_simple c) (width_or_zero false c == 1) one.narrow in
-    let wide : width_or_zero false c ≡ 1 = eqb-true (width_or_zero false c) 1 narrow.1 in
     let more = are_letters cs both.1 in
     record {
       simple = rw (narrow.0) more.simple;
       counted =
-          sum_by-cons (width_or_zero false) c cs ∙ ap₂ (λ a b. a + b) (wide ∙ sym one.one) more.counted
-          ∙ sym (letters-append (encode c) (encodes cs));
+          sum_by-cons (width_or_zero false) c cs ∙ ap₂ (λ a b. a + b) ((eqb-true (width_or_zero false c) 1 narrow.1) ∙ sym one.one) more.counted
+          ∙ sym (sum_by-append (λ b. if begins b then 1 else 0) (encode c) (encodes cs));
     }
 
 pub lettered_columns : (bytes : List ℕ) → IsUtf8 bytes → list_all is_lettered bytes ≡ true → letters bytes ≡ columns bytes
@@ -137,7 +133,7 @@ pub lettered_more : (text : List ℕ) (i : ℕ) → i < length text → IsLetter
 lettered_more text i lt h one = list_all_more is_lettered text i 0 lt ∙ rw (h) one
 
 pub letters_more : (text : List ℕ) (i : ℕ) → i < length text → letters (take (i + 1) text) ≡ letters (take i text) + letters (get_or text i 0 ∷ [])
-letters_more text i lt = ap letters (take_more text i 0 lt) ∙ letters-append (take i text) (get_or text i 0 ∷ [])
+letters_more text i lt = ap letters (take_more text i 0 lt) ∙ (sum_by-append (λ b. if begins b then 1 else 0) (take i text) (get_or text i 0 ∷ []))
 
 lettered_line_byte : (b : ℕ) → is_lettered b ≡ true → is_line_byte b ≡ true
 lettered_line_byte b h = grind (arith, nat_tests)

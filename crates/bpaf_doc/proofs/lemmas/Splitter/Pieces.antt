@@ -6,11 +6,10 @@ use Rattle.std.specs.List.{list_all}
 use Rattle.std.proofs.Common.{sym, ◌∙◌, ap, subst, inl, inr, arith, lit<, get_or}
 use Rattle.std.proofs.lemmas.List.{append-nil, get_or_at, take_at, drop_at, length-append}
 use Rattle.std.proofs.lemmas.Str.{IsUtf8-nil, IsUtf8-append, IsUtf8-encode, encode_ascii, IsUtf8-take, IsUtf8-drop, IsCharBoundary-before_ascii, IsCharBoundary-after_ascii}
-use Rattle.bpaf_doc.specs.Buffer.Parts.{ink}
-use Rattle.bpaf_doc.specs.Splitter.Chunks.{Chunk, Raw, Paragraph, LineBreak, Form, Spells, nothing, code_line, fence, before_code, paragraph, line_break, newline, blank, word, opening, later, closing, closing_paragraph, chunk_ink, is_word_byte, IsLine, IsLineEnd, IsPastNewline}
+use Rattle.bpaf_doc.specs.Splitter.Chunks.{Chunk, Raw, Paragraph, LineBreak, Form, Spells, nothing, code_line, fence, before_code, paragraph, line_break, newline, blank, word, opening, later, closing, closing_paragraph, is_word_byte, IsLine, IsLineEnd, IsPastNewline}
 use Rattle.bpaf_doc.specs.Splitter.Promises.{IsGap, IsOneLine, StandsFor, is_gap_byte}
-use Rattle.bpaf_doc.proofs.lemmas.Splitter.Ink.{gap_is, gap_ink}
 use Rattle.bpaf_doc.proofs.lemmas.Splitter.Spelling.{and_left, and_right, starts_front}
+use Rattle.std.proofs.lemmas.Bool.Decides.{nat_tests}
 
 -- ---- UTF-8 at a cut
 
@@ -27,18 +26,13 @@ IsEnd (b ∷ rest) = b < 128
 pub utf8_cut : (front rest : List ℕ) → IsEnd rest → IsUtf8 (front ++ rest) → IsUtf8 front × IsUtf8 rest
 utf8_cut front [] e u = (subst (λ text. IsUtf8 text) (append-nil front) u, IsUtf8-nil)
 utf8_cut front (b ∷ rest) e u =
-    let within : length front < length (front ++ b ∷ rest) = omega (arith, length-append front (b ∷ rest)) in
     let small : get_or (front ++ b ∷ rest) (length front) 0 < 128 = rw (get_or_at front b rest 0 (length front) refl) e in
-    let cut = IsCharBoundary-before_ascii (front ++ b ∷ rest) (length front) within small in (
+    let cut = IsCharBoundary-before_ascii (front ++ b ∷ rest) (length front) (omega (arith, length-append front (b ∷ rest))) small in (
       subst (λ text. IsUtf8 text) (take_at front (b ∷ rest) (length front) refl) (IsUtf8-take (front ++ b ∷ rest) (length front) u cut),
       subst (λ text. IsUtf8 text) (drop_at front (b ∷ rest) (length front) refl) (IsUtf8-drop (front ++ b ∷ rest) (length front) u cut),
     )
 
 -- ---- what stands in the text
-
--- a chunk has the ink of what it stands for
-pub stands_ink : (chunk : Chunk) (there : List ℕ) → StandsFor chunk there → chunk_ink chunk ≡ ink there
-stands_ink chunk there h = grind (arith, gap_ink)
 
 -- an ASCII character by itself
 utf8_alone : (b : ℕ) → b < 128 → IsScalar b → IsUtf8 (b ∷ [])
@@ -48,7 +42,7 @@ utf8_alone b small s = subst (λ t. IsUtf8 t) (encode_ascii b small) (IsUtf8-enc
 utf8_gap : (gap rest : List ℕ) → IsGap gap → IsUtf8 (gap ++ rest) → IsUtf8 gap × IsUtf8 rest
 utf8_gap [] rest g u = (IsUtf8-nil, u)
 utf8_gap (b ∷ gap) rest g u =
-    let is : (b ≡ 10) ⊎ (b ≡ 32) = gap_is b (and_left (is_gap_byte b) (list_all is_gap_byte gap) g) in
+    let is : (b ≡ 10) ⊎ (b ≡ 32) = grind (arith, nat_tests, (and_left (is_gap_byte b) (list_all is_gap_byte gap) g)) in
     let more : IsUtf8 gap × IsUtf8 rest = utf8_gap gap rest (and_right (is_gap_byte b) (list_all is_gap_byte gap) g) (utf8_after b (gap ++ rest) (ascii b is) u) in
     (IsUtf8-append (b ∷ []) gap (alone b is) more.0, more.1) where
       ascii : (b : ℕ) → (b ≡ 10) ⊎ (b ≡ 32) → b < 128

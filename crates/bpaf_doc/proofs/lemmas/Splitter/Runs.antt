@@ -75,20 +75,14 @@ blank_ends text i lt e = subst (λ t. IsWordEnd t) (sym (drop-cons text i 0 lt))
 pub line_ends : (rest : List ℕ) → IsLineEnd rest → IsWordEnd rest
 line_ends rest h = grind arith
 
-is_blank : (b : ℕ) → is_byte 32 b ≡ true → b ≡ 32
-is_blank b e = grind (arith, nat_tests)
-
 -- up to a newline, the end, or a blank in a line
 module _ (text window : List ℕ) (n : ℕ) (le : n ≤ length text) (is : window ≡ take n text) where
   inside : (k : ℕ) → k < length window → k < n
   inside k lt = omega (arith, lt, ap length is, length-take n text)
 
-  front_same : (k : ℕ) → k ≤ n → take k text ≡ take k window
-  front_same k le = sym (ap (take k) is ∙ take-take k n text le)
-
   -- a place where a byte ends a word
   ended_at : (k b : ℕ) → k < length window → get_or window k 0 ≡ b → (b ≡ 10) ⊎ (b ≡ 32) → IsLine (take k window) → IsRunEnd text k
-  ended_at k b lt e ends line = grind (arith, inside k lt, front_same k, drop-cons text k 0, get_or-take)
+  ended_at k b lt e ends line = grind (arith, inside k lt, take, take-take, drop-cons text k 0, get_or-take)
 
   line_front : (k : ℕ) → IsLine window → IsLine (take k window)
   line_front k line = grind (arith, and_left (list_all is_line_byte (take k window)) (list_all is_line_byte (drop k window)), list_all-append is_line_byte (take k window) (drop k window), take-append-drop k window)
@@ -97,7 +91,7 @@ module _ (text window : List ℕ) (n : ℕ) (le : n ≤ length text) (is : windo
   newline_run k first passes = ended_at k 10 first.high (is_newline (get_or window k 0) passes) (inl refl) (line_before_newline window k first)
 
   pub blank_run : (k : ℕ) → Nowhere (Passes (is_byte 10) window) 0 (length window) → NoneAfter (Passes (is_byte 32) window) 0 (length window) k → Passes (is_byte 32) window k → IsRunEnd text k
-  blank_run k none last passes = ended_at k 32 last.high (is_blank (get_or window k 0) passes) (inr refl) (line_front k (line_from_no_newline window none))
+  blank_run k none last passes = ended_at k 32 last.high (grind (arith, nat_tests)) (inr refl) (line_front k (line_from_no_newline window none))
 
   pub whole_run : length text ≤ n → Nowhere (Passes (is_byte 10) window) 0 (length window) → IsRunEnd text (length text)
   whole_run all none = grind (arith, take_all, line_from_no_newline, drop_all)

@@ -34,9 +34,6 @@ take_while_false test b bytes e = rw (take_while-cons test b bytes, e) refl
 drop_more : (k b : ℕ) (bytes : List ℕ) → drop (1 + k) (b ∷ bytes) ≡ drop k bytes
 drop_more k b bytes = let e : 1 + k ≡ suc k = omega arith in rw e refl
 
-without_false : (test : ℕ → Bool) (b : ℕ) (bytes : List ℕ) → test b ≡ false → without_front test (b ∷ bytes) ≡ b ∷ bytes
-without_false test b bytes e = rw e refl
-
 length_without : (test : ℕ → Bool) (bytes : List ℕ) → length (without_front test bytes) ≤ length bytes
 length_without test bytes = rw (length-drop (prefix_len test bytes) bytes) (omega arith)
 
@@ -46,11 +43,11 @@ front_passes test (b ∷ bytes) = elim (cases_Bool (test b)) [ inl e ↦ rw (tak
 
 line_end : (bytes : List ℕ) → IsLineEnd (without_front is_line_byte bytes)
 line_end [] = tt
-line_end (b ∷ bytes) = grind (arith, line_end bytes, cases_Bool, drop_more, without_false, nat_tests)
+line_end (b ∷ bytes) = grind (arith, line_end bytes, cases_Bool, drop_more, nat_tests)
 
 word_end : (bytes : List ℕ) → IsWordEnd (without_front is_word_byte bytes)
 word_end [] = tt
-word_end (b ∷ bytes) = grind (arith, word_end bytes, cases_Bool, drop_more, without_false, nat_tests)
+word_end (b ∷ bytes) = grind (arith, word_end bytes, cases_Bool, drop_more, nat_tests)
 
 past_newline : (rest : List ℕ) → IsLineEnd rest → IsPastNewline rest (drop 1 rest)
 past_newline rest h = grind arith
@@ -73,7 +70,7 @@ without_append test [] rest h e = e
 without_append test (b ∷ front) rest h e = grind (arith, without_append test front rest, drop_more, and_left, and_right)
 
 line_stops : (rest : List ℕ) → IsLineEnd rest → (take_while is_line_byte rest ≡ []) × (without_front is_line_byte rest ≡ rest)
-line_stops rest h = grind (arith, take_while_false, without_false)
+line_stops rest h = grind (arith, take_while_false)
 
 next_len : (text line rest next : List ℕ) (n : ℕ) → text ≡ line ++ rest → IsPastNewline rest next → length text ≤ suc n → length next ≤ n
 next_len text line rest next n h1 h2 h3 = grind (arith, length-append)
@@ -135,7 +132,7 @@ word_is : (n : ℕ) (bytes rest : List ℕ) (others : List Chunk) → IsWord byt
 unfolding chunks_within
 word_is n [] rest others w r e = absurd (w.0 refl)
 word_is n (b ∷ bytes) rest others w r e =
-    grind (arith, take_while_append is_word_byte (b ∷ bytes) rest w.1, take_while_false, without_false, without_append is_word_byte (b ∷ bytes) rest w.1, and_right)
+    grind (arith, take_while_append is_word_byte (b ∷ bytes) rest w.1, take_while_false, without_append is_word_byte (b ∷ bytes) rest w.1, and_right)
 
 nothing_spelled : {form : Form} {chunks : List Chunk} {text : List ℕ} → Spells form chunks text → length text ≤ 0 → chunks ≡ []
 nothing_spelled s h = grind (arith, length-append, empty_len, ticks_some, some_len)
@@ -167,9 +164,6 @@ SpelledTo n = (form : Form) (text : List ℕ) → length text ≤ n → (chunks 
 length_dropped : (k n : ℕ) (rest : List ℕ) → length rest ≤ n → length (drop k rest) ≤ n
 length_dropped k n rest h = rw (length-drop k rest) (omega arith)
 
-length_next : (n b : ℕ) (rest : List ℕ) → length rest ≤ n → length (drop 1 (without_front is_line_byte (b ∷ rest))) ≤ n
-length_next n b rest h = rw (length-drop 1 (without_front is_line_byte (b ∷ rest))) (omega (arith, h, length_without is_line_byte (b ∷ rest)))
-
 module _ (n : ℕ) (ih : SpelledTo n) where
   from_newline : (rest : List ℕ) → length rest ≤ n → (chunks : List Chunk) × Spells Plain chunks (10 ∷ rest)
   from_newline rest h = elim (cases_Bool (starts rest (codes "    "))) [
@@ -183,10 +177,9 @@ module _ (n : ℕ) (ih : SpelledTo n) where
       | inl q ↦ two_newlines rest h (starts_front (codes "\n") rest q)
       | inr q ↦ elim (cases_Bool (starts rest (codes " "))) [
         | inl r ↦
-            let front : rest ≡ 32 ∷ drop 1 rest = starts_front (codes " ") rest r in
-            let three : starts (32 ∷ drop 1 rest) (codes "    ") ≡ false = subst (λ xs. starts xs (codes "    ") ≡ false) front f in
+            let three : starts (32 ∷ drop 1 rest) (codes "    ") ≡ false = subst (λ xs. starts xs (codes "    ") ≡ false) (starts_front (codes " ") rest r) f in
             let s = ih Plain (drop 1 rest) (length_dropped 1 n rest h) in
-            (LineBreak ∷ s.0, line_break (drop 1 rest) s.0 refl (ap (λ xs. 10 ∷ xs) front) (not_true _ three) s.1)
+            (LineBreak ∷ s.0, line_break (drop 1 rest) s.0 refl (ap (λ xs. 10 ∷ xs) (starts_front (codes " ") rest r)) (not_true _ three) s.1)
         | inr r ↦ let s = ih Plain rest h in (Raw (codes " ") 1 ∷ s.0, newline rest s.0 refl refl (not_true _ q) (not_true _ r) s.1)
       ]
     ]
@@ -223,7 +216,7 @@ module _ (n : ℕ) (ih : SpelledTo n) where
   from_opening : (b : ℕ) (rest : List ℕ) → length rest ≤ n → (chunks : List Chunk) × Spells Opening chunks (b ∷ rest)
   from_opening b rest h =
       let back : List ℕ = without_front is_line_byte (b ∷ rest) in
-      let s = ih Later (drop 1 back) (length_next n b rest h) in
+      let s = ih Later (drop 1 back) (rw (length-drop 1 (without_front is_line_byte (b ∷ rest))) (omega (arith, h, length_without is_line_byte (b ∷ rest)))) in
       (Raw (take_while is_line_byte (b ∷ rest)) fence_weight ∷ s.0, opening (take_while is_line_byte (b ∷ rest)) back (drop 1 back) s.0 refl (front_split is_line_byte (b ∷ rest)) (λ none. cc) (front_passes is_line_byte (b ∷ rest)) (past_newline back (line_end (b ∷ rest))) s.1)
 
   from_later : (b : ℕ) (rest : List ℕ) → length rest ≤ n → (chunks : List Chunk) × Spells Later chunks (b ∷ rest)
@@ -240,11 +233,11 @@ module _ (n : ℕ) (ih : SpelledTo n) where
               let s = ih Plain back (rest_len text line back n whole (grind (arith, line_ticks text e)) (omega (arith, h))) in
               (Raw line fence_weight ∷ s.0, closing_paragraph line back s.0 refl whole all (line_ticks text e) f s.1)
           | inr f ↦
-              let s = ih Plain (drop 1 back) (length_next n b rest h) in
+              let s = ih Plain (drop 1 back) (rw (length-drop 1 (without_front is_line_byte (b ∷ rest))) (omega (arith, h, length_without is_line_byte (b ∷ rest)))) in
               (Raw line fence_weight ∷ s.0, closing line back (drop 1 back) s.0 refl whole all (line_ticks text e) (not_true _ f) past s.1)
         ]
         | inr e ↦
-            let s = ih Later (drop 1 back) (length_next n b rest h) in
+            let s = ih Later (drop 1 back) (rw (length-drop 1 (without_front is_line_byte (b ∷ rest))) (omega (arith, h, length_without is_line_byte (b ∷ rest)))) in
             (Raw line fence_weight ∷ s.0, later line back (drop 1 back) s.0 refl whole (λ none. cc) all (λ t. not_true _ e (text_ticks text line back whole t)) past s.1)
       ]
 

@@ -7,7 +7,7 @@ use Rattle.bpaf_doc.specs.Console.Exact.{NoBreak}
 use Rattle.bpaf_doc.proofs.lemmas.Console.Layout.State.{State, Piece, Lines, Pads, Begins, first, stays, wraps, places, drops, Next, raw, mark, Grows, placing, breaking, passing, padded, put, Suits}
 use Rattle.bpaf_doc.proofs.lemmas.Console.Layout.Back.{by_cases, EachPlace, each_grows, place_of, fits_of, by_lines, same_padded, by_mark, Fills, column_back, column_padded, Agrees, EachPassed, NoInk, ink_text, IsStarting, begins_column, begins_margin, or_false_right}
 use Rattle.bpaf_doc.proofs.lemmas.Console.Layout.Pads.{pads_back, HasNoPads, pads_begins}
-use Rattle.bpaf_doc.proofs.lemmas.Console.Layout.Split.{events_back, Cut, FirstOrLater, here, later, cut_cons, cut_gap, cut_passed, cut_padded, has_newline, inked_line, inked_since, ink_at, Earlier, after_lines, After}
+use Rattle.bpaf_doc.proofs.lemmas.Console.Layout.Split.{events_back, Cut, FirstOrLater, here, later, cut_cons, cut_gap, cut_passed, cut_padded, has_newline, inked_line, inked_since, ink_at, after_lines, After}
 
 -- ---- only marks since the last ink
 
@@ -38,10 +38,7 @@ IsAtStart st = (m before : List Stretch) (e : Place) (k : ℕ) → Cut st.back m
 
 -- after what was asked for, directly after an inked chunk, nothing was written
 last_lines : {st mid : State} → IsLast st → Lines st mid → (m before : List Stretch) (e : Place) → Cut mid.back m e before → is_inked (chunk_at e) ≡ true → events_back m ≡ [] → m ≡ []
-last_lines {st} {mid} h l m before e there i none =
-    let earlier : Earlier st.back m e before = after_lines l m before e there in
-    let same : mid ≡ st = grind arith in
-    (h m before e (subst (λ (x : State). Cut x.back m e before) same there) i none).0
+last_lines {st} {mid} h l m before e there i none = grind (arith, after_lines l m before e there, there)
 
 start_put : {width : ℕ} {st : State} (p : Piece) (base : State) (n : ℕ) → EachPlace Fills st.back → EachPassed NoInk st.back → IsLast st → Begins width st p base
     → IsAtStart (put n p.part p.bytes p.weight base)
@@ -70,10 +67,7 @@ start_grows f q l suits (placing p e (places base n b d a)) h = subst IsAtStart 
 start_grows f q l suits (placing p e (drops t mid y w b a)) h = subst IsAtStart (sym a) (λ m before g k there i blank line. refl)
 start_grows f q l suits (breaking k chunk e a) h = subst IsAtStart (sym a) (λ m before g j there i blank line. refl)
 start_grows {st = st} {next = next} f q l suits (passing event margin e a) h = subst IsAtStart (sym a) (λ m before g k there i blank line.
-    let found : After (λ x. Passed event ∷ x) st.back m g before = cut_passed event st.back m g before there in
-    let events : event ∷ events_back found.rest ≡ Shows k (Raw (codes " ") 1) ∷ [] = sym (ap events_back found.is) ∙ blank in
-    let same : event ≡ Shows k (Raw (codes " ") 1) = cc in
-    absurd (not_shown st next event margin k (Raw (codes " ") 1) suits e same))
+    absurd (not_shown st next event margin k (Raw (codes " ") 1) suits e (cc (sym (ap events_back (cut_passed event st.back m g before there).is) ∙ blank))))
 
 -- ---- the law
 
@@ -95,8 +89,7 @@ module _ (margin_of : ℕ → ℕ) where
   exact_grows {width} {st} {after} {next} small f q start agrees none h suits g all = each_grows IsExact (λ r p i x. x) core g all where
     core : (p : Piece) (base : State) (n : ℕ) → next ≡ raw p → Begins width st p base → Pads base n → IsExact (padded n base.back) (place_of p)
     core p base n is b d = λ line kind.
-        let here_line : inked_line base.back ≡ false = sym (same_padded inked_line (λ x. refl) n base.back) ∙ line in
-        let back_zero : column_back base.back ≡ 0 = zero_at here_line kind in
+        let back_zero : column_back base.back ≡ 0 = zero_at (sym (same_padded inked_line (λ x. refl) n base.back) ∙ line) kind in
         let column : base.column ≡ 0 = begins_column small f start agrees b ∙ back_zero in
         let in_force : base.margin ≡ margin_of p.part = (begins_margin b).0 ∙ (fits_of suits is).margin_is in
         let pads : n ≡ margin_of p.part = grind arith in

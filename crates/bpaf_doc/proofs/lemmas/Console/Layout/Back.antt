@@ -72,9 +72,6 @@ begins_back P more wrap z h = grind (arith, lines_back)
 pub each_trimmed : (P : List Stretch → Place → Type 0) → KeepsCut P → (r : List Stretch) → EachPlace P r → EachPlace P (trimmed r)
 each_trimmed P keeps = by_trimmed (λ r t. EachPlace P r → EachPlace P t) (λ h. h) (λ b r t ih h. ih h) (λ e r i h. (keeps r e i h.0, h.1)) (λ e r t i ih h. ih h.1) (λ event r i h. h) (λ event r t i ih h. ih h)
 
-pub each_lines : (P : List Stretch → Place → Type 0) {st mid : State} → Lines st mid → EachPlace P st.back → EachPlace P mid.back
-each_lines P l h = lines_back (EachPlace P) (λ r x. x) l h
-
 pub each_begins : (P : List Stretch → Place → Type 0) → KeepsCut P → {width : ℕ} {st : State} {p : Piece} {base : State} → Begins width st p base
     → EachPlace P st.back → EachPlace P base.back
 each_begins P keeps b h = begins_back (EachPlace P) (λ r x. x) (each_trimmed P keeps) b h
@@ -100,7 +97,7 @@ pub each_grows : (P : List Stretch → Place → Type 0) → KeepsCut P → {wid
     → Grows width st next after → EachPlace P st.back → EachPlace P after.back
 each_grows P keeps core g h = by_grows (λ s. EachPlace P s.back) g
     (λ p base n e b d. (core p base n e b d, by_padded (EachPlace P) (λ x y. y) n base.back (each_begins P keeps b h)))
-    (λ p mid e l w b. each_trimmed P keeps mid.back (each_lines P l h)) (λ k chunk e. h) (λ event margin e. h)
+    (λ p mid e l w b. each_trimmed P keeps mid.back (lines_back (EachPlace P) (λ r x. x) l h)) (λ k chunk e. h) (λ event margin e. h)
 
 -- what suits a chunk that is placed
 pub fits_of : {margin_of : ℕ → ℕ} {st : State} {next : Next} {p : Piece} → Suits margin_of st next → next ≡ raw p → Fits margin_of st p
@@ -220,23 +217,15 @@ NoInk event = is_inked_event event ≡ false
 pub no_ink_trimmed : (r : List Stretch) → EachPassed NoInk r → EachPassed NoInk (trimmed r)
 no_ink_trimmed = by_trimmed (λ r t. EachPassed NoInk r → EachPassed NoInk t) (λ h. h) (λ b r t ih h. ih h) (λ e r i h. h) (λ e r t i ih h. (i, ih h)) (λ event r i h. h) (λ event r t i ih h. (h.0, ih h.1))
 
-pub no_ink_lines : {st mid : State} → Lines st mid → EachPassed NoInk st.back → EachPassed NoInk mid.back
-no_ink_lines l h = lines_back (EachPassed NoInk) (λ r x. x) l h
-
-pub no_ink_begins : {width : ℕ} {st : State} {p : Piece} {base : State} → Begins width st p base → EachPassed NoInk st.back → EachPassed NoInk base.back
-no_ink_begins b h = begins_back (EachPassed NoInk) (λ r x. x) no_ink_trimmed b h
-
-blank_ink : (k weight : ℕ) → is_inked_event (Shows k (Raw (codes " ") weight)) ≡ false
+pub blank_ink : (k weight : ℕ) → is_inked_event (Shows k (Raw (codes " ") weight)) ≡ false
 unfolding chars
 blank_ink k weight = refl
 
-pub no_ink_blank : (k weight : ℕ) (bytes : List ℕ) → bytes ≡ codes " " → is_inked_event (Shows k (Raw bytes weight)) ≡ false
-no_ink_blank k weight bytes e = rw e (blank_ink k weight)
-
 pub no_ink_grows : {width : ℕ} {margin_of : ℕ → ℕ} {st after : State} {next : Next} → Suits margin_of st next
     → Grows width st next after → EachPassed NoInk st.back → EachPassed NoInk after.back
-no_ink_grows suits g h = by_grows (λ s. EachPassed NoInk s.back) g (λ p base n e b d. by_padded (EachPassed NoInk) (λ x y. y) n base.back (no_ink_begins b h))
-    (λ p mid e l w b. (no_ink_blank p.part p.weight p.bytes b, no_ink_trimmed mid.back (no_ink_lines l h)))
+no_ink_grows suits g h =
+    by_grows (λ s. EachPassed NoInk s.back) g (λ p base n e b d. by_padded (EachPassed NoInk) (λ x y. y) n base.back (begins_back (EachPassed NoInk) (λ r x. x) no_ink_trimmed b h))
+    (λ p mid e l w b. ((rw b (blank_ink p.part p.weight)), no_ink_trimmed mid.back (lines_back (EachPassed NoInk) (λ r x. x) l h)))
     (λ k chunk e. (by_break (λ c j. is_inked_event (Shows j c) ≡ false) suits e (λ j l m. refl) (λ j l m. refl), h))
     (λ event margin e. (by_mark (λ x m. is_inked_event x ≡ false) suits e (λ b m l u. refl) (λ b m l u. refl), h))
 
@@ -264,13 +253,9 @@ or_false_right a b h = grind arith
 pub or_true_right : (a b : Bool) → b ≡ true → (a || b) ≡ true
 or_true_right a b h = grind arith
 
--- a page that goes on after some text has text
-pub text_lines : {st mid : State} → Lines st mid → has_text st.back ≡ true → has_text mid.back ≡ true
-text_lines l h = lines_back (λ r. has_text r ≡ true) (λ r x. refl) l h
-
 starting_put : {width : ℕ} {margin_of : ℕ → ℕ} (st : State) (p : Piece) (base : State) (n : ℕ)
     → Fits margin_of st p → IsClear st (raw p) → Begins width st p base → has_text (put n p.part p.bytes p.weight base).back ≡ true
-starting_put st p base n fits clear h = grind (arith, fits.filled, clear, or_true_right, by_padded, text_lines)
+starting_put st p base n fits clear h = grind (arith, fits.filled, clear, or_true_right, by_padded, lines_back, has_text, true)
 
 pub starting_grows : {width : ℕ} {margin_of : ℕ → ℕ} {st after : State} {next : Next}
     → Suits margin_of st next → IsClear st next → Grows width st next after → IsStarting st → IsStarting after
@@ -279,9 +264,7 @@ starting_grows {st = st} suits clear g h = by_grows IsStarting g
     (λ p mid e l w b none. absurd cc) (λ k chunk e none. absurd cc)
     (λ event margin e none.
     let before : (st.column ≡ 0) × (has_place st.back ≡ false) = h (or_false_right (has_some (event_bytes event)) (has_text st.back) none) in
-    let bare : length (event_bytes event) ≡ 0 = no_bytes (event_bytes event) (or_false_left (has_some (event_bytes event)) (has_text st.back) none) in
-    let zero_column : st.column ≡ 0 = before.0 in
-    (omega arith, before.1))
+    (omega (arith, no_bytes (event_bytes event) (or_false_left (has_some (event_bytes event)) (has_text st.back) none)), before.1))
 
 -- ---- what is written stays
 

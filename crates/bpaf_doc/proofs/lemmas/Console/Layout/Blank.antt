@@ -142,17 +142,11 @@ blank_between : (m : List Stretch) (e : Place) (before : List Stretch) → HasNo
 blank_between [] e before none some h = let no : false ≡ true = rw some at h in absurd cc
 blank_between (x ∷ m) e before none some h = grind (arith, common_steps, blank_between m, eqb-true, and_parts, line_between, text_back_cons, append_assoc, append-nil, or_false_right, some_none)
 
-blank_longer : (m : List Stretch) (x : Stretch) → HasBlankLine (text_back m) → HasBlankLine (text_back (x ∷ m))
-blank_longer m x h = grind (arith, text_back_cons x m, append_assoc)
-
 blank_padded : (n : ℕ) (m : List Stretch) → HasBlankLine (text_back m) → HasBlankLine (text_back (padded n m))
 blank_padded zero m h = h
-blank_padded (suc n) m h = blank_longer (padded n m) (Gap 32) (blank_padded n m h)
+blank_padded (suc n) m h = grind (arith, text_back_cons (Gap 32) (padded n m), append_assoc, (blank_padded n m h))
 
 -- ---- the law
-
-raw_padded : (n : ℕ) (m : List Stretch) → HasNoRaw (padded n m) → HasNoRaw m
-raw_padded n m h = subst (λ es. list_any is_raw_event es ≡ false) (same_padded events_back (λ x. refl) n m) h
 
 last_between : (m : List Stretch) (e : Place) (before : List Stretch) → HasNoRaw m → is_inked (chunk_at e) ≡ true → last_raw_inked (m ++ Placed e ∷ before) ≡ true
 last_between [] e before none i = i
@@ -190,10 +184,7 @@ module _ (width : ℕ) where
   blank_begins {st = st} f q h z (first t s) c m before e there i o = grind (arith, ink_at, ink_text)
   blank_begins f q h z (stays t l w) c m before e there i o = lines_blank h (sym (owed_lines l) ∙ o) l
   blank_begins {st = st} f q h z (wraps t mid l w b s) c m before e there i o =
-      let kept : owes_blank (trimmed mid.back) ≡ true = subst (λ (x : State). owes_blank x.back ≡ true) s o in
-      let owed : owes_blank st.back ≡ true = sym (owed_lines l) ∙ (owes_trimmed mid.back).1 kept in
-      let zero_column : mid.column ≡ 0 = lines_zero f h z owed l in
-      absurd (omega arith)
+      absurd (omega (arith, lines_zero f h z (sym (owed_lines l) ∙ (owes_trimmed mid.back).1 (subst (λ (x : State). owes_blank x.back ≡ true) s o)) l))
 
   pub blank_before_grows : {st after : State} {next : Next} → EachPlace Fills st.back → EachPassed NoInk st.back → IsAskedBlank st → IsFreshAtZero st
       → Grows width st next after → EachPlace HasBlankBefore st.back → EachPlace HasBlankBefore after.back
@@ -201,13 +192,12 @@ module _ (width : ℕ) where
     core : (p : Piece) (base : State) (n : ℕ) → next ≡ raw p → Begins width st p base → Pads base n → HasBlankBefore (padded n base.back) (place_of p)
     core p base n is b d = λ m before e there i none asks fits.
         let cut_there : After (padded n) base.back m e before = cut_padded n base.back m e before there in
-        let bare : HasNoRaw cut_there.rest = raw_padded n cut_there.rest (subst HasNoRaw cut_there.is none) in
+        let bare : HasNoRaw cut_there.rest = subst (λ es. list_any is_raw_event es ≡ false) (same_padded events_back (λ x. refl) n cut_there.rest) (subst HasNoRaw cut_there.is none) in
         let asked : list_any asks_blank_line (events_back cut_there.rest) ≡ true = subst (λ es. list_any asks_blank_line es ≡ true) (ap events_back cut_there.is ∙ same_padded events_back (λ x. refl) n cut_there.rest) asks in
         let owed : owes_blank base.back ≡ true = subst (λ x. owes_blank x ≡ true) (sym cut_there.there) (owes_between cut_there.rest e before bare i asked) in
         let ends : ends_blank base.back ≡ true = blank_begins f q h z b fits cut_there.rest before e cut_there.there i owed in
         let shown : has_some e.shown ≡ true = inked_shown cut_there.rest e before (subst (λ x. EachPlace Fills x) cut_there.there (fills_begins b f)) i in
-        let line : HasBlankLine (text_back cut_there.rest) = blank_between cut_there.rest e before bare shown (subst (λ x. ends_blank x ≡ true) cut_there.there ends) in
-        subst (λ x. HasBlankLine (text_back x)) (sym cut_there.is) (blank_padded n cut_there.rest line) where
+        subst (λ x. HasBlankLine (text_back x)) (sym cut_there.is) (blank_padded n cut_there.rest (blank_between cut_there.rest e before bare shown (subst (λ x. ends_blank x ≡ true) cut_there.there ends))) where
           inked_shown : (m : List Stretch) (e : Place) (before : List Stretch) → EachPlace Fills (m ++ Placed e ∷ before) → is_inked (chunk_at e) ≡ true → has_some e.shown ≡ true
           inked_shown [] e before f i = f.0 ∙ inked_some e.bytes i
           inked_shown (Gap b ∷ m) e before f i = inked_shown m e before f i

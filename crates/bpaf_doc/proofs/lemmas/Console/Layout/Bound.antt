@@ -37,10 +37,10 @@ within_trimmed bound = by_trimmed (λ r t. EachPassed IsBare r → EachFront (Wi
 within_lines : (bound : ℕ) {st mid : State} → Lines st mid → EachFront (Within bound) st.back → EachFront (Within bound) mid.back
 within_lines bound l h = lines_back (EachFront (Within bound)) (λ r x. (omega arith, x)) l h
 
-bare_lines : {st mid : State} → Lines st mid → EachPassed IsBare st.back → EachPassed IsBare mid.back
+pub bare_lines : {st mid : State} → Lines st mid → EachPassed IsBare st.back → EachPassed IsBare mid.back
 bare_lines l h = lines_back (EachPassed IsBare) (λ r x. x) l h
 
-bare_trimmed : (r : List Stretch) → EachPassed IsBare r → EachPassed IsBare (trimmed r)
+pub bare_trimmed : (r : List Stretch) → EachPassed IsBare r → EachPassed IsBare (trimmed r)
 bare_trimmed = by_trimmed (λ r t. EachPassed IsBare r → EachPassed IsBare t) (λ h. h) (λ b r t ih h. ih h) (λ e r i h. h) (λ e r t i ih h. (refl, ih h)) (λ event r i h. h) (λ event r t i ih h. (h.0, ih h.1))
 
 -- what comes writes no backquote

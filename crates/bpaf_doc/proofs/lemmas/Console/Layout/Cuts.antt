@@ -5,7 +5,7 @@ use Rattle.std.proofs.Common.{sym, subst, inl, inr, ◌∙◌, arith}
 use Rattle.bpaf_doc.specs.Splitter.Chunks.{has_some}
 use Rattle.bpaf_doc.specs.Console.Layout.{Stretch, Gap, Placed, Passed, event_bytes}
 use Rattle.bpaf_doc.proofs.lemmas.Console.Layout.State.{State, Lines, Next, Grows, padded, trimmed, wrapped}
-use Rattle.bpaf_doc.proofs.lemmas.Console.Layout.Back.{EachPlace, each_lines, lines_back, by_trimmed, by_padded, by_grows, Fills, inked_trim, inked_some}
+use Rattle.bpaf_doc.proofs.lemmas.Console.Layout.Back.{EachPlace, lines_back, by_trimmed, by_padded, by_grows, Fills, inked_trim, inked_some}
 
 -- what may stand where the text after it begins with a newline, or where nothing is known of it
 abbrev pub MayEnd : Bool → List Stretch → Type 0
@@ -40,6 +40,6 @@ whole_wrapped mid f h = (inr refl, may_end_trimmed mid.back false f h)
 
 pub whole_grows : {width : ℕ} {st after : State} {next : Next} → EachPlace Fills st.back → Grows width st next after → IsWhole st → IsWhole after
 whole_grows {st = st} f g h = by_grows IsWhole g
-    (λ p base n e b d. (inl refl, subst (λ (x : Bool). MayEnd x (padded n base.back)) (sym (grind arith)) (by_padded (MayEnd false) (λ x y. (inl refl, y)) n base.back (grind (arith, whole_lines, whole_wrapped, each_lines)))))
-    (λ p mid e l w b. whole_wrapped mid (each_lines Fills l f) (whole_lines l h)) (λ k chunk e. (inr refl, may_end_line st.back h))
+    (λ p base n e b d. (inl refl, subst (λ (x : Bool). MayEnd x (padded n base.back)) (sym (grind arith)) (by_padded (MayEnd false) (λ x y. (inl refl, y)) n base.back (grind (arith, whole_lines, whole_wrapped, lines_back)))))
+    (λ p mid e l w b. whole_wrapped mid (lines_back (EachPlace Fills) (λ r x. x) l f) (whole_lines l h)) (λ k chunk e. (inr refl, may_end_line st.back h))
     (λ event margin e. subst (λ (x : Bool). MayEnd x st.back) (sym (grind arith)) h)

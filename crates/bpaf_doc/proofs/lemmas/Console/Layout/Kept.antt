@@ -2,10 +2,10 @@
 use Rattle.std.specs.Prelude.{◌≡◌, ◌≢◌, ℕ, zero, suc, ◌<◌, ◌≤◌, ⊤, true, false, ◌||◌, List, [], ◌∷◌, refl, ◌⊎◌}
 use Rattle.std.specs.List.{list_any}
 use Rattle.std.proofs.Common.{sym, subst, arith, inl, inr}
-use Rattle.bpaf_doc.specs.Splitter.Chunks.{Chunk, Raw, is_inked}
-use Rattle.bpaf_doc.specs.Console.Layout.{Event, Shows, Stretch, Gap, Placed, Passed, Place, chunk_at, is_inked_stretch, is_inked_event, is_raw_event}
-use Rattle.bpaf_doc.proofs.lemmas.Console.Layout.State.{State, Piece, Lines, Pads, Begins, first, stays, wraps, places, drops, Next, raw, break, Grows, placing, breaking, passing, padded, trimmed, put, passed, Suits}
-use Rattle.bpaf_doc.proofs.lemmas.Console.Layout.Back.{each_back, by_cases, EachPlace, each_grows, each_begins, each_trimmed, each_lines, place_of, fits_of, by_lines, by_padded, same_padded, by_mark, by_break, by_grows, or_false_right, begins_margin, lines_margin, no_ink_blank}
+use Rattle.bpaf_doc.specs.Splitter.Chunks.{Raw, is_inked}
+use Rattle.bpaf_doc.specs.Console.Layout.{Shows, Stretch, Gap, Placed, Passed, Place, chunk_at, is_inked_stretch, is_inked_event, is_raw_event}
+use Rattle.bpaf_doc.proofs.lemmas.Console.Layout.State.{State, Piece, Lines, Pads, Begins, first, stays, wraps, places, drops, Next, raw, Grows, placing, breaking, passing, padded, trimmed, put, Suits}
+use Rattle.bpaf_doc.proofs.lemmas.Console.Layout.Back.{each_back, by_cases, EachPlace, each_grows, each_begins, each_trimmed, place_of, fits_of, by_lines, by_padded, same_padded, by_mark, by_break, by_grows, or_false_right, begins_margin, blank_ink, lines_back}
 use Rattle.bpaf_doc.proofs.lemmas.Console.Layout.Split.{Cut, FirstOrLater, here, later, cut_cons, cut_gap, cut_passed, cut_padded, has_newline, inked_line, inked_since, After}
 
 -- ---- parts come in order
@@ -20,14 +20,11 @@ each_later a b l (x ∷ r) h = grind (arith, each_later a b l r)
 abbrev pub InOrder : State → Type 0
 InOrder st = EachPlace (NotAfter st.latest) st.back
 
-broken_order : {margin_of : ℕ → ℕ} (st : State) (next : Next) (k : ℕ) (chunk : Chunk) → Suits margin_of st next → next ≡ break k chunk → st.latest ≤ k
-broken_order st next k chunk suits e = by_break (λ c j. st.latest ≤ j) suits e (λ j l m. l) (λ j l m. l)
-
 pub order_grows : {width : ℕ} {margin_of : ℕ → ℕ} {st after : State} {next : Next} → Suits margin_of st next → Grows width st next after → InOrder st → InOrder after
 order_grows {st = st} {next = next} suits g h = by_grows InOrder g
     (λ p base n e b d. (omega arith, by_padded (EachPlace (NotAfter p.part)) (λ x y. y) n base.back (each_begins (NotAfter p.part) (λ r f i x. x) b (each_later st.latest p.part (fits_of suits e).order st.back h))))
-    (λ p mid e l w b. each_trimmed (NotAfter p.part) (λ r f i x. x) mid.back (each_lines (NotAfter p.part) l (each_later st.latest p.part (fits_of suits e).order st.back h)))
-    (λ k chunk e. each_later st.latest k (broken_order st next k chunk suits e) st.back h) (λ event margin e. h)
+    (λ p mid e l w b. each_trimmed (NotAfter p.part) (λ r f i x. x) mid.back (lines_back (EachPlace (NotAfter p.part)) (λ r x. x) l (each_later st.latest p.part (fits_of suits e).order st.back h)))
+    (λ k chunk e. each_later st.latest k (by_break (λ c j. st.latest ≤ j) suits e (λ j l m. l) (λ j l m. l)) st.back h) (λ event margin e. h)
 
 -- ---- where a chunk was placed last, its margin is reached
 
@@ -41,15 +38,12 @@ IsUnsettled st = st.settled ≡ false → (inked_line st.back ≡ false) ⊎ (st
 abbrev pub IsSmall : State → Type 0
 IsSmall st = st.margin ≤ 18446744073709551615
 
-pub small_grows : {width : ℕ} {margin_of : ℕ → ℕ} {st after : State} {next : Next} → Suits margin_of st next → Grows width st next after → IsSmall st → IsSmall after
-small_grows suits g h = grind (arith, by_grows, begins_margin, lines_margin, by_mark)
-
 pub settled_grows : {width : ℕ} {st after : State} {next : Next} → IsSmall st → Grows width st next after → IsSettled st → IsSettled after
 settled_grows small g h = grind (arith, by_grows, begins_margin)
 
 pub unsettled_grows : {width : ℕ} {st after : State} {next : Next} → Grows width st next after → IsUnsettled st → IsUnsettled after
 unsettled_grows g h = by_grows IsUnsettled g (λ p base n e b d o. absurd cc)
-    (λ p mid e l w b o. let plain : is_inked_event (Shows p.part (Raw p.bytes p.weight)) ≡ false = no_ink_blank p.part p.weight p.bytes b in inl (rw plain refl))
+    (λ p mid e l w b o. let plain : is_inked_event (Shows p.part (Raw p.bytes p.weight)) ≡ false = rw b (blank_ink p.part p.weight) in inl (rw plain refl))
     (λ k chunk e o. inl refl) (λ event margin e o. inr refl)
 
 -- ---- what stands since the last inked chunk of the line
@@ -143,13 +137,9 @@ kept_put p base n y b d = λ m before e there. at m before e there (cut_cons (Pl
   at m before e there (here none is rest) = grind arith
   at m before e there (later rest is cut_there) =
       let plain : (is_inked_stretch (Placed (place_of p)) || list_any is_inked_stretch rest) ≡ false = subst (λ x. list_any is_inked_stretch x ≡ false) is there.2 in
-      let bare : has_newline rest ≡ false = subst (λ x. has_newline x ≡ false) is there.3 in
       let found : (e.shown ≡ e.bytes) × AllKept (e.part < p.part) rest = kept_begins n y b d rest before e
-      (cut_there, there.1, or_false_right (is_inked_stretch (Placed (place_of p))) (list_any is_inked_stretch rest) plain, bare) in
+      (cut_there, there.1, or_false_right (is_inked_stretch (Placed (place_of p))) (list_any is_inked_stretch rest) plain, (subst (λ x. has_newline x ≡ false) is there.3)) in
       (found.0, subst (λ x. AllKept (e.part < p.part) x) (sym is) (refl, found.1))
-
-kept_passed : (event : Event) (margin : ℕ) (st : State) → is_raw_event event ≡ false → IsKeptSince st → IsKeptSince (passed event margin st)
-kept_passed event margin st plain_mark h = grind (arith, cut_passed event st.back, or_false_right)
 
 pub kept_since_grows : {width : ℕ} {margin_of : ℕ → ℕ} {st after : State} {next : Next} → Suits margin_of st next → IsSettled st → IsUnsettled st → InOrder st
     → Grows width st next after → IsKeptSince st → IsKeptSince after
@@ -164,7 +154,7 @@ kept_since_grows suits s u o (placing p e (drops t mid l w b a)) h = subst IsKep
 kept_since_grows {st = st} suits s u o (breaking k chunk e a) h =
     subst IsKeptSince (sym a) (λ m before f there. absurd (no_neighbour (Passed (Shows k chunk) ∷ st.back) m f before there))
 kept_since_grows {st = st} suits s u o (passing event margin e a) h =
-    subst IsKeptSince (sym a) (kept_passed event margin st (by_mark (λ x m. is_raw_event x ≡ false) suits e (λ b m l v. refl) (λ b m l v. refl)) h)
+    subst IsKeptSince (sym a) (grind (arith, cut_passed event st.back, or_false_right, (by_mark (λ x m. is_raw_event x ≡ false) suits e (λ b m l v. refl) (λ b m l v. refl))))
 
 -- ---- the law
 

@@ -18,6 +18,3 @@ light_marks = record { begins = is_plain; follows = is_light_mark; has_chunks = 
 
 pub light_sound : (width deepest : ℕ) → IsSound width deepest light
 light_sound width deepest = grind (arith, and_parts)
-
-pub light_marks_sound : (width deepest : ℕ) → IsSound width deepest light_marks
-light_marks_sound width deepest = grind (arith, and_parts)

@@ -31,9 +31,6 @@ pads_padded (suc n) r = let ih : pads_back (padded n r) ≡ n + pads_back r = pa
 pub pads_begins : {width : ℕ} {st : State} {p : Piece} {base : State} → Begins width st p base → HasNoPads st → HasNoPads base
 pads_begins b h = begins_back (λ r. pads_back r ≡ 0) (λ r x. refl) (λ r x. refl) b h
 
-pub no_pads_grows : {width : ℕ} {st after : State} {next : Next} → Grows width st next after → HasNoPads st → HasNoPads after
-no_pads_grows g h = by_grows HasNoPads g (λ p base n e b d. refl) (λ p mid e l w b. refl) (λ k chunk e. refl) (λ event margin e. omega arith)
-
 -- ---- chunks that fit
 
 -- a place or a backquote stands in the last line
@@ -125,7 +122,7 @@ module _ (margin_of : ℕ → ℕ) where
   pads_only_cut : KeepsCut PadsOnly
   pads_only_cut r f i h = h
 
-  pads_only : (n : ℕ) (base : State) (m : ℕ) → base.margin ≡ m → base.column ≡ column_back base.back → HasNoPads base → IsPending base → Pads base n
+  pub pads_only : (n : ℕ) (base : State) (m : ℕ) → base.margin ≡ m → base.column ≡ column_back base.back → HasNoPads base → IsPending base → Pads base n
       → 0 < pads_back (padded n base.back) → (column_back (padded n base.back) ≡ m) ⊎ ((pads_back (padded n base.back) ≡ 2) × (body_back (padded n base.back) ≡ true))
   pads_only n base m a c none pending h some = grind (arith, column_padded, pads_padded, by_padded)
 

@@ -10,7 +10,7 @@ use Rattle.bpaf_doc.specs.Console.Layout.{Event, Shows, Opens, Closes, Stretch, 
 use Rattle.bpaf_doc.proofs.lemmas.Console.Layout.State.{State, Piece, Lines, Pads, Begins, first, stays, wraps, Next, raw, break, mark, Grows, padded, trimmed, sat, wrapped, put, passed, dropped, broken, asked_after, pending_after, Suits, IsShallow}
 use Rattle.bpaf_doc.proofs.lemmas.Console.Layout.Back.{EachPlace, each_grows, place_of, fits_of, same_padded, by_mark, by_break, by_grows, Fills, column_back, column_padded, Agrees, IsStarting, begins_column}
 use Rattle.bpaf_doc.proofs.lemmas.Console.Layout.Alone.{place_in}
-use Rattle.bpaf_doc.proofs.lemmas.Console.Layout.Split.{events_back, Earlier, after_lines, Cut, FirstOrLater, here, later, cut_cons, cut_gap, cut_passed, cut_padded, FromTrimmed, cut_trimmed, has_newline, After}
+use Rattle.bpaf_doc.proofs.lemmas.Console.Layout.Split.{events_back, after_lines, Cut, FirstOrLater, here, later, cut_cons, cut_gap, cut_passed, cut_padded, FromTrimmed, cut_trimmed, has_newline, After}
 
 -- ---- rules
 
@@ -92,29 +92,19 @@ module _ (width : ℕ) (rule : Rule) where
   run_on : (m others : List Stretch) (e : Place) → events_back others ≡ events_back m → IsRun m e → IsRun others e
   run_on m others e same run = (run.0, subst (λ es. list_all rule.follows es ≡ true) (sym same) run.1)
 
-  run_parts : (event : Event) (m rest : List Stretch) (e : Place) → events_back m ≡ event ∷ events_back rest → IsRun m e
-      → (rule.follows event ≡ true) × IsRun rest e
-  run_parts event m rest e events run = grind (arith, and_parts)
-
   known_lines : {st mid : State} → IsRoomy st → Lines st mid → (m before : List Stretch) (e : Place) → Cut mid.back m e before → IsRun m e
       → Known mid m e before
-  known_lines {st} {mid} h l m before e there run =
-      let earlier : Earlier st.back m e before = after_lines l m before e there in
-      let old : Known st earlier.rest e before = h earlier.rest before e earlier.there (run_on m earlier.rest e earlier.events run) in
-      let is : mid ≡ st = grind arith in
-      subst (λ (x : State). Known x m e before) (sym is) (h m before e (subst (λ (x : State). Cut x.back m e before) is there) run)
+  known_lines {st} {mid} h l m before e there run = grind (arith, after_lines l m before e there, there)
 
   -- the page without its blank end
   known_trimmed : {st mid : State} → IsRoomy st → Lines st mid → (m before : List Stretch) (e : Place) → Cut (trimmed mid.back) m e before → IsRun m e
       → InReach (end_of (events_back m) e before) mid
   known_trimmed {st} {mid} h l m before e there run =
       let old : FromTrimmed mid.back m e before = cut_trimmed mid.back m e before there in
-      let chunk : chunk_at old.place ≡ chunk_at e = cc old.same in
       let on : IsRun old.rest e = run_on m old.rest e old.events run in
-      let known : Known mid old.rest old.place before = known_lines h l old.rest before old.place old.there (ap rule.begins chunk ∙ on.0, on.1) in
       let same : end_of (events_back old.rest) old.place before ≡ end_of (events_back m) e before =
       ap (λ (x : Event). column_back before + rule.takes x + rule.taken (events_back old.rest)) old.same ∙ ap (λ es. end_of es e before) old.events in
-      subst (λ (end : ℕ). InReach end mid) same known.reach
+      subst (λ (end : ℕ). InReach end mid) same (known_lines h l old.rest before old.place old.there (ap rule.begins (cc old.same) ∙ on.0, on.1)).reach
 
   -- what is known at the chunk that is placed next
   record Ready (p : Piece) (base : State) (m : List Stretch) (e : Place) (before : List Stretch) : Type 0 where
@@ -128,7 +118,6 @@ module _ (width : ℕ) (rule : Rule) where
   ready_begins p base start h (stays t l w) m before e there run = grind (arith, known_lines)
   ready_begins p base start h (wraps t mid l w b s) m before e there run =
       let gap : After (λ x. Gap 10 ∷ x) (trimmed mid.back) m e before = cut_gap 10 (trimmed mid.back) m e before (subst (λ (x : State). Cut x.back m e before) s there) in
-      let same : events_back gap.rest ≡ events_back m = sym (ap events_back gap.is) in
       let reach : InReach (end_of (events_back m) e before) mid = grind (arith, known_trimmed, run_on) in
       record {
         reach = subst (InReach (end_of (events_back m) e before)) (sym s) (grind arith);
@@ -157,17 +146,16 @@ module _ (width : ℕ) (rule : Rule) where
   module _ (deepest : ℕ) (sound : IsSound width deepest rule) where
     known_put : {st : State} (p : Piece) (base : State) (n : ℕ) → width < 1_000_000 → EachPlace Fills st.back → IsStarting st → Agrees st → IsWeighed p
         → Begins width st p base → Pads base n → IsRoomy st → IsRoomy (put n p.part p.bytes p.weight base)
-    known_put p base n small f start agrees weighed b d h = λ m before e there run. at m before e run (cut_cons (Placed (place_of p)) (padded n base.back) m e before there) where
+    known_put p base n small f start agrees weighed b d h =
+        λ m before e there run. at m before e run (cut_cons (Placed (place_of p)) (padded n base.back) m e before there) where
       at : (m before : List Stretch) (e : Place) → IsRun m e → FirstOrLater (Placed (place_of p)) (padded n base.back) m e before
           → Known (put n p.part p.bytes p.weight base) m e before
       at m before e run (here none is rest) = grind (arith, begins_column, column_padded)
       at m before e run (later rest is there) =
-          let events : events_back m ≡ shown p ∷ events_back rest = ap events_back is in
-          let parts : (rule.follows (shown p) ≡ true) × IsRun rest e = run_parts (shown p) m rest e events run in
+          let parts : (rule.follows (shown p) ≡ true) × IsRun rest e = grind (arith, and_parts) in
           let chunk : (rule.has_chunks ≡ true) × (p.weight ≤ rule.takes (shown p)) × ((columns p.bytes ≤ rule.takes (shown p)) ⊎ (width < rule.takes (shown p))) = sound.chunk p weighed parts.0 in
           let ready : Ready p base rest e before = ready_padded p base n start h b rest before e there parts.1 in
-          let total : rule.taken (events_back m) ≡ rule.taken (shown p ∷ events_back rest) = ap rule.taken events in
-          let more : rule.takes (shown p) + rule.taken (events_back rest) ≤ rule.taken (shown p ∷ events_back rest) = sound.more (shown p) (events_back rest) in
+          let total : rule.taken (events_back m) ≡ rule.taken (shown p ∷ events_back rest) = ap rule.taken (ap events_back is) in
           let a : base.column + n ≤ end_of (events_back rest) e before = grind arith in
           record {
             reach = record {
@@ -183,17 +171,15 @@ module _ (width : ℕ) (rule : Rule) where
 
     known_dropped : {st mid : State} (p : Piece) → IsWeighed p → Lines st mid → width < sat (mid.column + columns p.bytes) → IsRoomy st
         → IsRoomy (dropped p.part p.bytes p.weight (wrapped mid))
-    known_dropped {mid = mid} p weighed l w h = λ m before e there run. at m before e run (cut_passed (shown p) (Gap 10 ∷ trimmed mid.back) m e before there) where
+    known_dropped {mid = mid} p weighed l w h =
+        λ m before e there run. at m before e run (cut_passed (shown p) (Gap 10 ∷ trimmed mid.back) m e before there) where
       at : (m before : List Stretch) (e : Place) → IsRun m e → After (λ x. Passed (shown p) ∷ x) (Gap 10 ∷ trimmed mid.back) m e before
           → Known (dropped p.part p.bytes p.weight (wrapped mid)) m e before
       at m before e run found =
           let gap : After (λ x. Gap 10 ∷ x) (trimmed mid.back) found.rest e before = cut_gap 10 (trimmed mid.back) found.rest e before found.there in
-          let events : events_back m ≡ shown p ∷ events_back gap.rest = ap events_back found.is ∙ ap (λ es. shown p ∷ es) (ap events_back gap.is) in
-          let parts : (rule.follows (shown p) ≡ true) × IsRun gap.rest e = run_parts (shown p) m gap.rest e events run in
-          let chunk : (rule.has_chunks ≡ true) × (p.weight ≤ rule.takes (shown p)) × ((columns p.bytes ≤ rule.takes (shown p)) ⊎ (width < rule.takes (shown p))) = sound.chunk p weighed parts.0 in
+          let parts : (rule.follows (shown p) ≡ true) × IsRun gap.rest e = grind (arith, and_parts) in
           let reach : InReach (end_of (events_back gap.rest) e before) mid = known_trimmed h l gap.rest before e gap.there parts.1 in
-          let total : rule.taken (events_back m) ≡ rule.taken (shown p ∷ events_back gap.rest) = ap rule.taken events in
-          let more : rule.takes (shown p) + rule.taken (events_back gap.rest) ≤ rule.taken (shown p ∷ events_back gap.rest) = sound.more (shown p) (events_back gap.rest) in
+          let total : rule.taken (events_back m) ≡ rule.taken (shown p ∷ events_back gap.rest) = ap rule.taken (ap events_back found.is ∙ ap (λ es. shown p ∷ es) (ap events_back gap.is)) in
           let column : mid.column ≤ end_of (events_back gap.rest) e before = reach.column in
           record {
             reach = record {
@@ -204,12 +190,12 @@ module _ (width : ℕ) (rule : Rule) where
             };
             needed = λ t.
                 let over : width < end_of (events_back gap.rest) e before + rule.takes (shown p) =
-                passes width (end_of (events_back gap.rest) e before) (columns p.bytes) (rule.takes (shown p)) chunk.2 (omega arith) in omega arith;
+                passes width (end_of (events_back gap.rest) e before) (columns p.bytes) (rule.takes (shown p)) (sound.chunk p weighed parts.0).2 (omega arith) in omega arith;
           }
 
     known_passed : (event : Event) (margin : ℕ) (st : State) → (rule.follows event ≡ true → IsQuiet rule st.margin margin event) → IsRoomy st
         → IsRoomy (passed event margin st)
-    known_passed event margin st quiet h = grind (arith, cut_passed event st.back, passed event margin st, run_parts)
+    known_passed event margin st quiet h = grind (arith, cut_passed event st.back, passed event margin st, and_parts)
 
     -- a break does not follow
     no_break : {A : Type 0} {margin_of : ℕ → ℕ} (st : State) (next : Next) (k : ℕ) (chunk : Chunk) → Suits margin_of st next → next ≡ break k chunk
@@ -218,7 +204,7 @@ module _ (width : ℕ) (rule : Rule) where
 
     known_broken : {margin_of : ℕ → ℕ} (st : State) (next : Next) (k : ℕ) (chunk : Chunk) → Suits margin_of st next → next ≡ break k chunk
         → IsRoomy (broken k chunk st)
-    known_broken st next k chunk suits e = grind (arith, cut_gap 10 (Passed (Shows k chunk) ∷ st.back), cut_passed (Shows k chunk) st.back, run_parts (Shows k chunk))
+    known_broken st next k chunk suits e = grind (arith, cut_gap 10 (Passed (Shows k chunk) ∷ st.back), cut_passed (Shows k chunk) st.back, and_parts)
 
     quiet_mark : {margin_of : ℕ → ℕ} (st : State) (next : Next) (event : Event) (margin : ℕ) → Suits margin_of st next → next ≡ mark event margin
         → margin ≤ deepest

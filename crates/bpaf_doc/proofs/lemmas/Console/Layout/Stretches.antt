@@ -85,13 +85,12 @@ trim_line text u l = let front : (rest : List ℕ) × (text ≡ trim_end text ++
 
 -- ---- the text of a page
 
-utf8_backquote : IsUtf8 (96 ∷ [])
-utf8_backquote = IsUtf8-from_ascii (96 ∷ []) (search rules)
-
 pub event_utf8 : (event : Event) → IsUtf8 (event_bytes event)
 event_utf8 (Shows k chunk) = IsUtf8-nil
-event_utf8 (Opens b) = elim (is_term_ref b) as (λ (t : Bool). IsUtf8 (if t then 96 ∷ [] else [])) [ true ↦ utf8_backquote | false ↦ IsUtf8-nil ]
-event_utf8 (Closes b) = elim (is_term_ref b) as (λ (t : Bool). IsUtf8 (if t then 96 ∷ [] else [])) [ true ↦ utf8_backquote | false ↦ IsUtf8-nil ]
+event_utf8 (Opens b) =
+    elim (is_term_ref b) as (λ (t : Bool). IsUtf8 (if t then 96 ∷ [] else [])) [ true ↦ (IsUtf8-from_ascii (96 ∷ []) (search rules)) | false ↦ IsUtf8-nil ]
+event_utf8 (Closes b) =
+    elim (is_term_ref b) as (λ (t : Bool). IsUtf8 (if t then 96 ∷ [] else [])) [ true ↦ (IsUtf8-from_ascii (96 ∷ []) (search rules)) | false ↦ IsUtf8-nil ]
 
 shown_utf8 : (e : Place) → IsUtf8 e.bytes → (e.shown ≡ e.bytes) ⊎ (e.shown ≡ trim_end e.bytes) → IsUtf8 e.shown
 shown_utf8 e u (inl s) = subst IsUtf8 (sym s) u

@@ -163,9 +163,8 @@ lines_bounded bound back h =
       each : (a b : List Stretch) → reverse back ≡ a ++ b → ahead 0 a ≤ bound
       each a b s =
           let turned : back ≡ reverse b ++ reverse a = sym (reverse-reverse back) ∙ ap (λ ys. reverse ys) s ∙ reverse-append a b in
-          let at_a : column_back (reverse a) ≤ bound = front_at (λ r. column_back r ≤ bound) (reverse b) (reverse a) (subst (λ ys. EachFront (λ r. column_back r ≤ bound) ys) turned h) in
           let same : ahead 0 a ≡ column_back (reverse a) = ap (λ ys. ahead 0 ys) (sym (reverse-reverse a)) ∙ ahead_back (reverse a) in
-          omega arith
+          omega (arith, front_at (λ r. column_back r ≤ bound) (reverse b) (reverse a) (subst (λ ys. EachFront (λ r. column_back r ≤ bound) ys) turned h))
 
 -- ---- a place in order
 

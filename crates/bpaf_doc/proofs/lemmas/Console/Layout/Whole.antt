@@ -8,25 +8,25 @@ use Rattle.std.proofs.lemmas.List.Elements.{All-append, All-cons, All-nil}
 use Rattle.std.proofs.lemmas.List.Sums.{sum_by-cons}
 use Rattle.std.proofs.lemmas.List.Folds.{list_any-append}
 use Rattle.std.proofs.lemmas.Bool.Decides.{nat_tests}
-use Rattle.std.proofs.lemmas.Bool.{not-true, or_parts, not-false, eqb-true}
+use Rattle.std.proofs.lemmas.Bool.{not-true, or_parts, not-false, eqb-true, and_parts}
 use Rattle.bpaf_doc.proofs.lemmas.Console.Margins.{more_than}
 use Rattle.bpaf_doc.specs.Buffer.Parts.{Part, ink}
 use Rattle.bpaf_doc.specs.Splitter.Chunks.{columns, is_inked, has_some, starts}
 use Rattle.bpaf_doc.specs.Shown.{console_ink}
 use Rattle.bpaf_doc.specs.Console.Margin.{margin, greatest_margin}
 use Rattle.bpaf_doc.specs.Console.Layout.{Event, Shows, Stretch, Gap, Placed, Passed, Place, AreApart, chunk_at, event_bytes, event_columns, stretch_columns, text_of, events_of, shown_events, is_newline, is_placed, holds_line, leads_to_place, is_inked_stretch, is_empty_code, is_written, is_raw_event, is_ref, asks_newline, asks_blank_line, is_light, is_light_mark, opens_body, column, padding, line_before, stretch_lines, MayStand, BreaksWhereAsked, KeepsBlanks, IsKept, BeginsClear, IsFirstInLine, events_since_ink, is_raw_or_ref, FollowsBlank, KeepsMargin, WrapsOnlyIfNeeded, IsBounded, FitsWidth, PadsToMargin, StandsAlone, room_of, BreaksForRoom, HasBlankLine, widest, IsLayout}
-use Rattle.bpaf_doc.proofs.lemmas.Console.Layout.State.{State, has_text, IsShallow, Next, Grows, Suits, IsClear, blank_page, Written, nothing, more, Ends, as_is, with_newline}
-use Rattle.bpaf_doc.proofs.lemmas.Console.Layout.Back.{each_back, by_cases, EachPlace, by_grows, Fills, fills_grows, Agrees, agrees_grows, column_back, EachPassed, NoInk, no_ink_grows, IsStarting, starting_grows, next_event, text_stays, text_written, begins_margin, lines_margin}
+use Rattle.bpaf_doc.proofs.lemmas.Console.Layout.State.{State, has_text, IsShallow, Next, Grows, Suits, IsClear, blank_page, Written, nothing, more, Ends, as_is, with_newline, broken, padded, placing}
+use Rattle.bpaf_doc.proofs.lemmas.Console.Layout.Back.{each_back, by_cases, EachPlace, by_grows, Fills, fills_grows, Agrees, agrees_grows, column_back, EachPassed, NoInk, no_ink_grows, IsStarting, starting_grows, next_event, text_stays, text_written, begins_margin, lines_margin, by_mark, heavy}
 use Rattle.bpaf_doc.proofs.lemmas.Console.Layout.Margin.{AtMargin, at_margin_grows}
 use Rattle.bpaf_doc.proofs.lemmas.Console.Layout.Bound.{EachFront, Within, IsBare, WritesNone, IsNarrow, bare_grows, bound, within_grows}
-use Rattle.bpaf_doc.proofs.lemmas.Console.Layout.Pads.{FitsBefore, fits_width_grows, holds_back, IsLed, Leads, led_grows, leads_at, HasNoPads, no_pads_grows, IsPending, pending_grows, PadsOnly, pads_only_grows, pads_back, body_back}
+use Rattle.bpaf_doc.proofs.lemmas.Console.Layout.Pads.{FitsBefore, fits_width_grows, holds_back, IsLed, Leads, led_grows, leads_at, HasNoPads, IsPending, pending_grows, PadsOnly, pads_only_grows, pads_back, body_back, pads_only}
 use Rattle.bpaf_doc.proofs.lemmas.Console.Layout.Reach.{Rule, sum_of, IsRun, HasNoRoom, BreaksBy, IsSound, breaks_grows}
 use Rattle.bpaf_doc.proofs.lemmas.Console.Layout.Room.{ComesInOrder, in_order_grows, IsAfterAll, after_all_grows, part_later, is_chunk, allowance, is_idle, idle_all, idle, idle_sound}
 use Rattle.bpaf_doc.proofs.lemmas.Console.Layout.Alone.{IsHeavy, heavy_grows, AloneBefore, alone_grows}
 use Rattle.bpaf_doc.proofs.lemmas.Console.Layout.Split.{events_back, events_grows, Cut, has_newline, inked_line, inked_since}
 use Rattle.bpaf_doc.proofs.lemmas.Console.Layout.Blank.{IsAskedBlank, asked_blank_grows, IsFreshAtZero, fresh_grows, HasBlankBefore, blank_before_grows, text_back, text_back_cons, IsAskedLine, asked_line_grows, IsFreeOfDebt, free_of_debt_grows, owes_line}
-use Rattle.bpaf_doc.proofs.lemmas.Console.Layout.Kept.{InOrder, order_grows, IsSettled, settled_grows, IsUnsettled, unsettled_grows, IsSmall, small_grows, IsKeptSince, kept_since_grows, KeepsBefore, keeps_before_grows, AllKept}
-use Rattle.bpaf_doc.proofs.lemmas.Console.Layout.Needed.{is_plain, light, light_sound, light_marks, light_marks_sound}
+use Rattle.bpaf_doc.proofs.lemmas.Console.Layout.Kept.{InOrder, order_grows, IsSettled, settled_grows, IsUnsettled, unsettled_grows, IsSmall, IsKeptSince, kept_since_grows, KeepsBefore, keeps_before_grows, AllKept}
+use Rattle.bpaf_doc.proofs.lemmas.Console.Layout.Needed.{is_plain, light, light_sound, light_marks}
 use Rattle.bpaf_doc.proofs.lemmas.Console.Layout.AtMargin.{IsLast, last_grows, IsAtStart, start_grows, AfterBlank, IsExact, exact_grows, is_quiet}
 use Rattle.bpaf_doc.proofs.lemmas.Console.Layout.Cuts.{MayEnd, IsWhole, whole_grows, may_end_line}
 use Rattle.bpaf_doc.proofs.lemmas.Console.Layout.Turned.{reverse_cons, any_turned, all_turned, sum_turned, events_turned, events_between, column_turned, line_turned, padding_turned, body_turned, quiet_turned, lines_bounded, turned_at}
@@ -101,14 +101,14 @@ base_grows {width} suits g b = record {
   agrees = agrees_grows suits b.fills g b.agrees;
   whole = whole_grows b.fills g b.whole;
   order = order_grows suits g b.order;
-  small = small_grows suits g b.small;
+  small = grind (arith, by_grows, begins_margin, lines_margin, by_mark, b.small);
   settled = settled_grows b.small g b.settled;
   unsettled = unsettled_grows g b.unsettled;
   since = kept_since_grows suits b.settled b.unsettled b.order g b.since;
   asked_line = asked_line_grows b.fills b.no_ink g b.asked_line;
   asked_blank = asked_blank_grows suits g b.asked_blank;
   fresh = fresh_grows g b.fresh;
-  pads = no_pads_grows g b.pads;
+  pads = by_grows HasNoPads g (λ p base n e b d. refl) (λ p mid e l w b. refl) (λ k chunk e. refl) (λ event margin e. omega arith);
   pending = pending_grows g b.pending;
   led = led_grows g b.led;
   last = last_grows g b.last;
@@ -150,7 +150,7 @@ clearly_grows : {width deepest : ℕ} {margin_of : ℕ → ℕ} {st after : Stat
 clearly_grows {width} {deepest} {margin_of} {st} {after} small suits clear shallow g b c =
     let step : (rule : Rule) → IsSound width deepest rule → BreaksBy width rule st → BreaksBy width rule after = λ rule sound. breaks_grows width rule deepest sound small b.fills c.starting b.agrees suits shallow g in
     let room : ComesInOrder after × EachPlace IsAfterAll after.back × BreaksBy width light after × BreaksBy width light_marks after × BreaksBy width (idle deepest) after =
-    (in_order_grows suits g c.room.0, after_all_grows suits c.room.0 g c.room.1, step light (light_sound width deepest) c.room.2, step light_marks (light_marks_sound width deepest) c.room.3, step (idle deepest) (idle_sound width deepest small) c.room.4) in
+    (in_order_grows suits g c.room.0, after_all_grows suits c.room.0 g c.room.1, step light (light_sound width deepest) c.room.2, step light_marks (grind (arith, and_parts)) c.room.3, step (idle deepest) (idle_sound width deepest small) c.room.4) in
     grind (arith, starting_grows, at_margin_grows, exact_grows, fits_width_grows, pads_only_grows, heavy_grows, alone_grows)
 
 -- no empty line of code stands before the first byte
@@ -197,9 +197,8 @@ module _ {width : ℕ} {margin_of : ℕ → ℕ} {clear : State → Next → Typ
   written_clearly deepest small (nothing e s) h shallow = subst (Clearly width deepest margin_of) (sym s) (clearly_blank width deepest margin_of)
   written_clearly deepest small (more earlier before next e w suits c g) h shallow =
       let parts : EachNext (IsShallow deepest) earlier × IsShallow deepest next = each_snoc (IsShallow deepest) earlier next (subst (λ ns. EachNext (IsShallow deepest) ns) e shallow) in
-      let front : clear_front (map next_event earlier ++ next_event next ∷ []) ≡ true = subst (λ es. clear_front es ≡ true) (ap (λ ns. map next_event ns) e ∙ map_snoc earlier next) h in
       let both : (clear_front (map next_event earlier) ≡ true) × (is_empty_code (next_event next) ≡ true → list_any is_written (map next_event earlier) ≡ true) =
-      clear_snoc (map next_event earlier) (next_event next) front in
+      clear_snoc (map next_event earlier) (next_event next) (subst (λ es. clear_front es ≡ true) (ap (λ ns. map next_event ns) e ∙ map_snoc earlier next) h) in
       clearly_grows small suits (clear_next before next (λ t. written_text w (both.1 t))) parts.1 g (written_base w) (written_clearly deepest small w both.0 parts.0)
 
 -- ---- the bound
@@ -220,12 +219,11 @@ module _ {width : ℕ} {margin_of : ℕ → ℕ} {clear : State → Next → Typ
   written_slim deepest most small (nothing e s) h = subst (Slim width deepest most) (sym s) (record { bare = tt; margin = omega arith; lines = omega arith })
   written_slim deepest most small (more earlier before next e w suits c g) h =
       let parts : EachNext (IsSlim deepest most) earlier × IsSlim deepest most next = each_snoc (IsSlim deepest most) earlier next (subst (λ ns. EachNext (IsSlim deepest most) ns) e h) in
-      let b : Base width before = written_base w in
       let ih : Slim width deepest most before = written_slim deepest most small w parts.0 in
       record {
         bare = bare_grows parts.1.2 g ih.bare;
         margin = shallow_grows parts.1.0 g ih.margin;
-        lines = within_grows width deepest most small b.fills ih.bare b.agrees ih.margin parts.1.2 parts.1.1 g ih.lines;
+        lines = within_grows width deepest most small (written_base w).fills ih.bare (written_base w).agrees ih.margin parts.1.2 parts.1.1 g ih.lines;
       }
 
 -- ---- the end of the page
@@ -244,12 +242,8 @@ record KnownEnd (m : List Stretch) (x : Stretch) (r : List Stretch) (rest : List
 known_end : (m : List Stretch) (line : Bool) (x : Stretch) (r : List Stretch) (rest : List ℕ) → (line ≡ true → starts rest (codes "\n") ≡ true) → MayEnd line (m ++ x ∷ r) → KnownEnd m x r rest
 known_end [] line x r rest a h = record { line = line; there = h; after = a }
 known_end (Gap b ∷ m) line x r rest a h = grind (arith, known_end m (b == 10) x r (b ∷ rest), text_back_cons, append_assoc, eqb-true)
-known_end (Placed e ∷ m) line x r rest a h = search (
-  rules,
-  known_end m (if has_some e.shown then false else line) x r (e.shown ++ rest),
-  text_back_cons,
-  append_assoc,
-)
+known_end (Placed e ∷ m) line x r rest a h =
+    grind (arith, known_end m (if has_some e.shown then false else line) x r (e.shown ++ rest), common_steps, text_back_cons)
 known_end (Passed event ∷ m) line x r rest a h =
     let found : KnownEnd m x r (event_bytes event ++ rest) = known_end m (if has_some (event_bytes event) then false else line) x r (event_bytes event ++ rest) (further (event_bytes event)) h in
     record { line = found.line; there = found.there; after = λ t. subst (λ ys. starts ys (codes "\n") ≡ true) (sym (ap (λ ys. ys ++ rest) (text_back_cons (Passed event) m) ∙ append_assoc (text_back m) (event_bytes event) rest)) (found.after t) } where
@@ -474,11 +468,10 @@ layout_of_page document full width nexts st final w events shallow ends same = r
       let slim : Slim width (greatest_margin document) (widest (map next_event nexts)) st =
       written_slim (greatest_margin document) (widest (map next_event nexts)) small w
       (slim_each (greatest_margin document) (widest (map next_event nexts)) nexts shallow (narrow_each nexts (widest (map next_event nexts)) (omega arith)) (bare_each nexts none)) in
-      let fronts : EachFront (Within (bound width (greatest_margin document) (widest (map next_event nexts)))) final = ends_lines (bound width (greatest_margin document) (widest (map next_event nexts))) ends slim.lines in
       let same_widest : widest (events_of (reverse final)) ≡ widest (map next_event nexts) =
       ap widest (events_turned final ∙ ap (λ es. reverse es) (ends_events ends ∙ written_events w) ∙ reverse-reverse (map next_event nexts)) in
       subst (λ (n : ℕ). All (λ line. sum_by stretch_columns line ≤ greatest_margin document + 2 + max width n) (stretch_lines (reverse final))) (sym same_widest)
-      (lines_bounded (bound width (greatest_margin document) (widest (map next_event nexts))) final fronts) where
+      (lines_bounded (bound width (greatest_margin document) (widest (map next_event nexts))) final (ends_lines (bound width (greatest_margin document) (widest (map next_event nexts))) ends slim.lines)) where
         ends_lines : (limit : ℕ) → Ends st final → EachFront (Within limit) st.back → EachFront (Within limit) final
         ends_lines limit (as_is e) h = subst (λ r. EachFront (Within limit) r) (sym e) h
         ends_lines limit (with_newline e) h = subst (λ r. EachFront (Within limit) r) (sym e) (omega arith, h)

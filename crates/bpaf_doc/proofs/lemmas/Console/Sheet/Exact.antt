@@ -15,15 +15,14 @@ use Rattle.bpaf_doc.specs.Console.Exact.{saturated, PageSoFar, console_page}
 use Rattle.bpaf_doc.specs.Console.Steps.Hiding.{hidden_after}
 use Rattle.bpaf_doc.specs.Console.Steps.Page.{Sheet, blank_sheet}
 use Rattle.bpaf_doc.specs.Console.Steps.Pairs.{KnowsPairs}
-use Rattle.bpaf_doc.proofs.lemmas.Console.Hiding.{Counts, Counts-nil, Counts-more, is_hidden-Counts}
+use Rattle.bpaf_doc.proofs.lemmas.Console.Hiding.{Counts, Counts-more, is_hidden-Counts}
 use Rattle.bpaf_doc.proofs.lemmas.Console.Layout.Back.{by_test, by_cases}
 use Rattle.bpaf_doc.proofs.lemmas.Console.Layout.Turned.{reverse_cons}
-use Rattle.bpaf_doc.proofs.lemmas.Console.Margins.{top, popped, stack_at, stack_at-more, shifted, shift_at, shift_at-skipped, shift_at-shown, shift_at-text, margin-le, margin-indent, margin-level, tab_stop-le}
+use Rattle.bpaf_doc.proofs.lemmas.Console.Margins.{top, stack_at, stack_at-more, shifted, shift_at, shift_at-skipped, shift_at-shown, margin-le, margin-indent, margin-level, tab_stop-le}
 use Rattle.bpaf_doc.proofs.lemmas.Console.Pairs.{KnowsPairs-more, knows_start, skips_is}
 use Rattle.bpaf_doc.proofs.lemmas.Console.Sheet.Whole.{get_from_drop, drop_next, Each, IsGood, text_good}
 use Rattle.bpaf_doc.proofs.lemmas.Console.Tabs.{widest_from, tab_stop-walk}
 use Rattle.std.specs.List.{enumerate_from}
-use Rattle.std.specs.Str.{bytes_eq}
 use Rattle.bpaf_doc.specs.Console.Steps.Text.{console_text}
 use Rattle.bpaf_doc.specs.declared.buffer.Block.TheVariants as blocks
 use Rattle.bpaf_doc.specs.Console.Steps.Page as page
@@ -38,12 +37,6 @@ get_last (x ∷ xs) m = get_last xs m
 
 length_turned : (m : ℕ) (ms : List ℕ) → length (reverse (m ∷ ms)) - 1 ≡ length (reverse ms)
 length_turned m ms = let a : length (reverse (m ∷ ms)) ≡ length (m ∷ ms) = length-reverse (m ∷ ms) in let b : length (reverse ms) ≡ length ms = length-reverse ms in omega arith
-
-pub top_innermost : (s : Sheet) (stack : List ℕ) → s.margins ≡ reverse stack → page.margin_of s ≡ top stack
-top_innermost s stack e = grind (arith, length_turned, reverse_cons, get_last)
-
-pub popped_margins : (margins stack : List ℕ) → margins ≡ reverse stack → take (length margins - 1) margins ≡ reverse (popped stack)
-popped_margins margins stack e = grind (arith, length_turned, reverse_cons, take_at)
 
 -- ---- the chunks of a text that are written
 
@@ -124,12 +117,12 @@ module _ (full : Bool) (document : List Part) (few : length document < 2 ^ 59) w
   module _ (index : ℕ) (rest : List Part) (bytes : List ℕ) (style : Style) (pairs : Pairs) (hidden : ℕ) (s : Sheet) (w : Walk index (Text bytes style ∷ rest) pairs hidden s) where
     pub text_level : page.margin_of s ≡ saturated (margin document index)
     text_level =
-        top_innermost s (stack_at document index) w.margins ∙ sym (margin-level document index (Text bytes style) rest w.here (shift_at-text document index bytes style))
+        grind (arith, length_turned, reverse_cons, get_last, w.margins) ∙ sym (margin-level document index (Text bytes style) rest w.here (grind arith))
         ∙ (let in_range : margin document index ≤ 18446744073709551615 = fits index (Text bytes style) rest pairs hidden s w in omega arith)
 
     walk_text : (t : Sheet) → t.tab_stop ≡ s.tab_stop → t.margins ≡ s.margins → Walk (index + 1) rest pairs (hidden_after full hidden (Text bytes style)) t
     walk_text t tab margins =
-        walk_still index (Text bytes style) rest pairs hidden s w pairs t text_knows tab margins (shift_at-text document index bytes style) where
+        walk_still index (Text bytes style) rest pairs hidden s w pairs t text_knows tab margins (grind arith) where
           text_knows : KnowsPairs document (index + 1) pairs
           text_knows = grind (arith, KnowsPairs-more document index pairs, there index (Text bytes style) rest pairs hidden s w)
 
@@ -148,7 +141,7 @@ module _ (full : Bool) (document : List Part) (few : length document < 2 ^ 59) w
       → adjacent ≡ (is_section4_start (Start b) && skips_pair document index) → ((n : ℕ) → part_shift document index (Start b) ≡ Indent n → top stack + n ≤ 18446744073709551615)
       → (page.opened b adjacent s).margins ≡ reverse (shifted (part_shift document index (Start b)) stack)
   unfolding page.opened
-  opened_margins index b adjacent s stack m t a fits = grind (arith, common_steps, top_innermost, reverse_cons, tab_stop-le)
+  opened_margins index b adjacent s stack m t a fits = grind (arith, common_steps, length_turned, get_last, reverse_cons, tab_stop-le)
 
   -- a start
   module _ (index : ℕ) (rest : List Part) (b : Block) (pairs : Pairs) (hidden : ℕ) (s : Sheet) (w : Walk index (Start b ∷ rest) pairs hidden s) where
@@ -184,7 +177,8 @@ module _ (full : Bool) (document : List Part) (few : length document < 2 ^ 59) w
     end_skips = skips_is document (small document few) index b pairs end_knows (inr (there index (End b) rest pairs hidden s w))
 
     walk_end : is_skipped document index ≡ false → Walk (index + 1) rest pairs (hidden_after full hidden (End b)) (page.closed b s)
-    walk_end e = grind (arith, walk_on index (End b) rest pairs hidden s w pairs (page.closed b s), end_knows, closed_keeps b s, popped_margins s.margins (stack_at document index) w.margins, shift_at-shown document index (End b) e)
+    walk_end e =
+        grind (arith, walk_on index (End b) rest pairs hidden s w pairs (page.closed b s), end_knows, closed_keeps b s, length_turned, reverse_cons, take_at, shift_at-shown document index (End b) e)
 
     walk_any_end : Walk (index + 1) rest pairs (hidden_after full hidden (End b)) (whole.end_put pairs index b s)
     walk_any_end =
@@ -193,9 +187,8 @@ module _ (full : Bool) (document : List Part) (few : length document < 2 ^ 59) w
 
   tab_is : whole.tab_stop_from 0 false 0 document ≡ tab_stop document
   tab_is =
-      let walk : whole.tab_stop_from 0 false 0 document ≡ saturated (widest_from 0 false 0 document + 4) = same_walk document 0 false 0 in
       let stop : widest_from 0 false 0 document + 4 ≡ tab_stop document = tab_stop-walk document in
-      let most : tab_stop document ≤ 28 = tab_stop-le document in omega arith where
+      let most : tab_stop document ≤ 28 = tab_stop-le document in omega (arith, same_walk document 0 false 0) where
         same_walk : (parts : List Part) (widest : ℕ) (in_term : Bool) (term : ℕ) → whole.tab_stop_from widest in_term term parts ≡ saturated (widest_from widest in_term term parts + 4)
         same_walk [] widest in_term term = refl
         same_walk (Text bytes style ∷ parts) widest in_term term = same_walk parts widest in_term (if in_term then saturated (term + columns bytes) else term)
@@ -204,7 +197,7 @@ module _ (full : Bool) (document : List Part) (few : length document < 2 ^ 59) w
         same_walk (_ ∷ parts) widest in_term term = same_walk parts widest in_term term
 
   pub walk_begins : (width : ℕ) → Walk 0 document whole.no_pairs 0 (blank_sheet width (whole.tab_stop_from 0 false 0 document))
-  walk_begins width = grind (arith, tab_is, Counts-nil)
+  walk_begins width = grind (arith, tab_is)
 
   -- any part
   pub walk_part : (index : ℕ) (rest : List Part) (part : Part) (pairs : Pairs) (hidden : ℕ) (s : Sheet) → Walk index (part ∷ rest) pairs hidden s
@@ -228,9 +221,7 @@ cases some wide blank s a w put = grind arith
 
 raw_is : (width level : ℕ) (bytes : List ℕ) (weight : ℕ) (p : PageSoFar) → page.columns_of bytes weight ≡ columns bytes → page.raw_put width level bytes weight p ≡ exact.raw_put width level bytes weight p
 unfolding page.raw_put
-raw_is width level bytes weight p e =
-    rw (e, is_empty p.text)
-    (cases (has_some p.text) (exact.is_too_wide width bytes (exact.request_met p)) (bytes_eq bytes (32 ∷ [])) p (exact.request_met p) (exact.wrapped (exact.request_met p)) (exact.placed level bytes weight))
+raw_is width level bytes weight p e = grind (arith, common_steps, is_empty, cases)
 
 -- ---- the chunks of a text
 

@@ -8,7 +8,7 @@ use Rattle.std.proofs.lemmas.Grind.{replicate_next, common_steps}
 use Rattle.std.proofs.lemmas.Slice.Eq.{ends_is, bytes_eq-Decides}
 use Rattle.std.proofs.lemmas.Bool.{cases_lt, and_parts, not-true, not-false}
 use Rattle.std.proofs.lemmas.Bool.Decides.{nat_tests, Decides-eqb}
-use Rattle.std.proofs.Math.Bool.{and-true, and-false, or-false, or-true}
+use Rattle.std.proofs.Math.Bool.{and-true, and-false}
 use Rattle.bpaf_doc.specs.Splitter.Chunks.{IsLine, columns, has_some}
 use Rattle.bpaf_doc.specs.Console.Layout.{Stretch, Gap, Placed, Event, Opens, Closes, event_bytes}
 use Rattle.bpaf_doc.specs.Console.Exact as page
@@ -72,9 +72,7 @@ module _ (level : ℕ) where
   -- ---- what is asked for
 
   draws_line : (s : PageSoFar) (st : State) → Draws s st → ends_with nat_eq s.text (10 ∷ []) ≡ true → ends_line st.back ≡ true
-  draws_line s st d h =
-      let found : (front : List ℕ) × (s.text ≡ front ++ 10 ∷ []) = ends_front (10 ∷ []) s.text h in
-      text_ends_line st.back found.0 d.legible (sym d.bytes ∙ found.1)
+  draws_line s st d h = text_ends_line st.back (ends_front (10 ∷ []) s.text h).0 d.legible (sym d.bytes ∙ (ends_front (10 ∷ []) s.text h).1)
 
   draws_blank : (s : PageSoFar) (st : State) → Draws s st → ends_with nat_eq s.text (10 ∷ 10 ∷ []) ≡ true → ends_blank st.back ≡ true
   draws_blank s st d h =
@@ -113,17 +111,14 @@ module _ (level : ℕ) where
 
     at : (m : ℕ) → m ≡ level - s.column → SpacesTo st (page.body_parted m (page.with_blanks m s))
     at m missing =
-        let margin : level ≡ st.margin = d.margin in
-        let column : s.column ≡ st.column = d.column in
-        let is : m ≡ st.margin - st.column = omega arith in
         by_test (SpacesTo st) (s.is_pending && nat_le 28 (sat (s.column + m))) _ _
         (λ h. (
           2 - m + m,
-          pads m is h (cases_lt m 2),
+          pads m (omega arith) h (cases_lt m 2),
           subst (Draws (page.with_blanks (2 - m) (page.with_blanks m s))) (grind (arith, padded_more))
               (draws_spaced (2 - m) (page.with_blanks m s) (spaced m st) (draws_spaced m s st d)),
         ))
-        (λ h. (m, to_margin is, draws_spaced m s st d))
+        (λ h. (m, to_margin (omega arith), draws_spaced m s st d))
 
   abbrev pub PlacedTo : Piece → State → PageSoFar → Type 0
   PlacedTo p st t = (after : State) × IsPut p st after × Draws t after
@@ -188,14 +183,12 @@ module _ (level : ℕ) where
 -- ---- the marks of a document
 
 -- the backquote of a term reference, over a page on which all else is as the mark leaves it
-draws_marked : (level : ℕ) (event : Event) (b : Block) (s : PageSoFar) (st : State) → event_bytes event ≡ mark_bytes b → s.text ≡ text_back st.back → s.column ≡ st.column → s.column ≤ 18446744073709551615
+pub draws_marked : (level : ℕ) (event : Event) (b : Block) (s : PageSoFar) (st : State) → event_bytes event ≡ mark_bytes b → s.text ≡ text_back st.back → s.column ≡ st.column → s.column ≤ 18446744073709551615
     → s.request ≡ asked_after event st.asked → s.is_pending ≡ pending_after event st.pending → IsLegible st.back → Draws level (page.backquoted b s) (passed event level st)
 draws_marked level event b s st e o c l a p g = grind (arith, by_test, text_back_cons, append-nil)
 
 pub draws_opened : (level next : ℕ) (b : Block) (s : PageSoFar) (st : State) → Draws level s st → Draws next (page.start_put b s) (passed (Opens b) next st)
-draws_opened level next b s st d =
-    draws_marked next (Opens b) b (record s { request = page.request_at_start b s.request; is_pending = s.is_pending || page.is_item_body b }) st refl d.bytes d.column d.fits
-    ((grind arith) ∙ ap (asked_after (Opens b)) d.asked) ((grind (arith, or-false, or-true)) ∙ ap (pending_after (Opens b)) d.body) d.legible
+draws_opened level next b s st d = grind (arith, common_steps, draws_marked)
 
 pub draws_closed : (level next : ℕ) (b : Block) (s : PageSoFar) (st : State) → Draws level s st → Draws next (page.end_put b s) (passed (Closes b) next st)
 draws_closed level next b s st d = grind (arith, common_steps, draws_marked next (Closes b) b, and-false, and-true)

@@ -6,13 +6,13 @@ use Rattle.std.proofs.Common.{sym, subst, ap, arith, inl, inr, ◌∙◌, append
 use Rattle.std.proofs.lemmas.List.{append-nil, reverse-reverse, length-drop}
 use Rattle.std.proofs.lemmas.List.Elements.{All-get_or}
 use Rattle.std.proofs.lemmas.Option.{get_or_from_slice_get, slice_get_within}
-use Rattle.std.proofs.lemmas.Grind.{flat_map-append}
+use Rattle.std.proofs.lemmas.Grind.{flat_map-append, common_steps}
 use Rattle.bpaf_doc.proofs.lemmas.Splitter.Pieces.{word_line}
 use Rattle.unicode_width.specs.Width.{str_width, step, past_emoji}
 use Rattle.bpaf_doc.specs.declared.buffer.Block.{Block}
 use Rattle.bpaf_doc.specs.declared.buffer.Style.{Style}
 use Rattle.bpaf_doc.specs.Buffer.Parts.{Part, Text, Start, End, ink, part_bytes, HasUtf8Texts}
-use Rattle.bpaf_doc.specs.Splitter.Chunks.{Chunk, Raw, Paragraph, LineBreak, IsLine, IsWord, IsOrdinary, has_some, columns, chunks_of, chunk_ink, code_weight, fence_weight, Spells, Plain, nothing, code_line, fence, before_code, paragraph, line_break, newline, blank, word, opening, later, closing, closing_paragraph, Form}
+use Rattle.bpaf_doc.specs.Splitter.Chunks.{Chunk, Raw, Paragraph, LineBreak, IsLine, IsOrdinary, has_some, columns, chunks_of, chunk_ink, fence_weight, Spells, Plain, nothing, code_line, fence, before_code, paragraph, line_break, newline, blank, word, opening, later, closing, closing_paragraph, Form}
 use Rattle.bpaf_doc.specs.Splitter.Promises.{IsText}
 use Rattle.bpaf_doc.specs.Shown.{console_ink, mark_bytes, numbered, shown_chunks, shown_part_ink}
 use Rattle.bpaf_doc.specs.Console.Margin.{margin, greatest_margin, is_skipped, Level}
@@ -21,7 +21,7 @@ use Rattle.bpaf_doc.specs.Console.Laws.{IsExactPageLayout}
 use Rattle.bpaf_doc.specs.Console.Exact as page
 use Rattle.bpaf_doc.specs.Console.Exact.{PageSoFar, console_page}
 use Rattle.bpaf_doc.proofs.lemmas.Splitter.Facts.{text_chunks}
-use Rattle.bpaf_doc.proofs.lemmas.Splitter.Ink.{ink-nil, ink-append, ink_before_gap}
+use Rattle.bpaf_doc.proofs.lemmas.Splitter.Ink.{ink-nil, ink-append, gap_ink}
 use Rattle.bpaf_doc.proofs.lemmas.Splitter.Spelling.{spells_in}
 use Rattle.bpaf_doc.proofs.lemmas.Console.Ink.{ink-backquote}
 use Rattle.bpaf_doc.proofs.lemmas.Console.Layout.State.{State, piece, Next, raw, break, mark, placing, breaking, passing, Fits, Suits, raw_suits, paragraph_suits, line_break_suits, open_suits, close_suits, Written, nothing, more, blank_page, broken, passed, chunk_next, IsLegible, IsShallow, Ends, as_is, with_newline}
@@ -33,7 +33,7 @@ use Rattle.bpaf_doc.proofs.lemmas.Console.Layout.Turned.{reverse_cons}
 use Rattle.bpaf_doc.proofs.lemmas.Console.Layout.Whole.{EachNext, layout_of_page, written_base, written_events}
 use Rattle.bpaf_doc.proofs.lemmas.Console.Margins.{top, stack_at, shift_at, shift_at-shown, shift_at-skipped, shift_at-text, top-margin, margin-le, margin-le-greatest, margin-level, margin-end}
 use Rattle.bpaf_doc.proofs.lemmas.Console.Pairs.{skipped_bare}
-use Rattle.bpaf_doc.proofs.lemmas.Console.Sheet.Grows.{Draws, raw_placed, RawTo, draws_opened, draws_closed}
+use Rattle.bpaf_doc.proofs.lemmas.Console.Sheet.Grows.{Draws, raw_placed, RawTo, draws_opened, draws_closed, draws_marked}
 
 -- ---- what is known of the chunks of a text
 
@@ -51,28 +51,23 @@ blank_columns : columns (codes " ") ≡ 1
 unfolding chars str_width step past_emoji
 blank_columns = refl
 
-blank_good : IsGood (Raw (codes " ") 1)
-blank_good = (refl, λ l. sym blank_columns, λ o. sym blank_columns, λ o. refl)
-
-code_good : (line : List ℕ) → IsLine line → IsGood (Raw line code_weight)
-code_good line l = (l, λ small. absurd (omega arith), λ o. absurd (let no : false ≡ true = o in cc), λ o. absurd (let no : false ≡ true = o in cc))
-
 fence_good : (line : List ℕ) → IsLine line → IsGood (Raw line fence_weight)
 fence_good line l = (l, λ small. absurd (omega arith), λ o. absurd (let no : false ≡ true = o in cc), λ o. absurd (let no : false ≡ true = o in cc))
 
-word_good : (bytes : List ℕ) → IsWord bytes → IsGood (Raw bytes (columns bytes))
-word_good bytes w = (word_line bytes w.1, λ l. refl, λ o. refl, λ o. grind arith)
-
 good_chunks : {form : Form} {chunks : List Chunk} {text : List ℕ} → Spells form chunks text → Each IsGood chunks
 good_chunks (nothing e t) = subst (λ cs. Each IsGood cs) (sym e) tt
-good_chunks (code_line line rest others e t l m s) = subst (λ cs. Each IsGood cs) (sym e) (code_good line l, good_chunks s)
+good_chunks (code_line line rest others e t l m s) =
+    subst (λ cs. Each IsGood cs) (sym e) (((l, λ small. absurd (omega arith), λ o. absurd (let no : false ≡ true = o in cc), λ o. absurd (let no : false ≡ true = o in cc))), good_chunks s)
 good_chunks (fence rest others e t a s) = subst (λ cs. Each IsGood cs) (sym e) (tt, good_chunks s)
 good_chunks (before_code rest others e t a s) = subst (λ cs. Each IsGood cs) (sym e) (tt, good_chunks s)
 good_chunks (paragraph rest others e t a b s) = subst (λ cs. Each IsGood cs) (sym e) (tt, good_chunks s)
 good_chunks (line_break rest others e t a s) = subst (λ cs. Each IsGood cs) (sym e) (tt, good_chunks s)
-good_chunks (newline rest others e t a b s) = subst (λ cs. Each IsGood cs) (sym e) (blank_good, good_chunks s)
-good_chunks (blank rest others e t s) = subst (λ cs. Each IsGood cs) (sym e) (blank_good, good_chunks s)
-good_chunks (word bytes rest others e t w r s) = subst (λ cs. Each IsGood cs) (sym e) (word_good bytes w, good_chunks s)
+good_chunks (newline rest others e t a b s) =
+    subst (λ cs. Each IsGood cs) (sym e) (((refl, λ l. sym blank_columns, λ o. sym blank_columns, λ o. refl)), good_chunks s)
+good_chunks (blank rest others e t s) =
+    subst (λ cs. Each IsGood cs) (sym e) (((refl, λ l. sym blank_columns, λ o. sym blank_columns, λ o. refl)), good_chunks s)
+good_chunks (word bytes rest others e t w r s) =
+    subst (λ cs. Each IsGood cs) (sym e) (((word_line bytes w.1, λ l. refl, λ o. refl, λ o. grind arith)), good_chunks s)
 good_chunks (opening line rest next others e t n l p s) = subst (λ cs. Each IsGood cs) (sym e) (fence_good line l, good_chunks s)
 good_chunks (later line rest next others e t n l a p s) = subst (λ cs. Each IsGood cs) (sym e) (fence_good line l, good_chunks s)
 good_chunks (closing line rest next others e t l a b p s) = subst (λ cs. Each IsGood cs) (sym e) (fence_good line l, good_chunks s)
@@ -94,9 +89,6 @@ each_taken P _ _ h = grind arith
 
 abbrev pub Any : State → Next → Type 0
 Any st next = ⊤
-
-draws_broken : (level k : ℕ) (chunk : Chunk) (s : PageSoFar) (st : State) → Draws level s st → Draws level (page.on_new_line s) (broken k chunk st)
-draws_broken level k chunk s st d = grind (arith, text_back_cons (Passed (Shows k chunk)) st.back, append-nil (text_back st.back), text_back_cons (Gap 10) (Passed (Shows k chunk) ∷ st.back))
 
 -- the document's texts may be written here: after parts before this one
 pub record CanWrite (margin_of : ℕ → ℕ) (k : ℕ) (st : State) : Type 0 where
@@ -138,7 +130,8 @@ module _ (document : List Part) (width level : ℕ) where
     record {
       st = broken k chunk l.0.st;
       written = more nexts l.0.st (break k chunk) refl l.0.written suits tt (breaking k chunk refl refl);
-      draws = draws_broken level k chunk s l.0.st l.0.draws;
+      draws =
+          grind (arith, text_back_cons (Passed (Shows k chunk)) l.0.st.back, append-nil (text_back l.0.st.back), text_back_cons (Gap 10) (Passed (Shows k chunk) ∷ l.0.st.back), l.0.draws);
     },
     record { margin_is = l.1.margin_is; order = omega arith; moved = λ t. absurd cc },
   )
@@ -152,11 +145,9 @@ module _ (document : List Part) (width level : ℕ) where
   text_steps k (Raw bytes weight ∷ chunks) nexts s l t g =
       longer nexts (raw (piece k bytes weight)) (map (chunk_next k) chunks) k _ (text_steps k chunks _ _ (raw_step k bytes weight nexts s l t.0 g.0) t.1 g.1)
   text_steps k (LineBreak ∷ chunks) nexts s l t g =
-      longer nexts (break k LineBreak) (map (chunk_next k) chunks) k _
-      (text_steps k chunks _ _ (break_step k LineBreak nexts s l (line_break_suits k refl l.1.order l.1.moved)) t.1 g.1)
+      grind (arith, text_steps k chunks _ _ (break_step k LineBreak nexts s l (line_break_suits k refl l.1.order l.1.moved)) t.1 g.1, longer, break_step)
   text_steps k (Paragraph ∷ chunks) nexts s l t g =
-      longer nexts (break k Paragraph) (map (chunk_next k) chunks) k _
-      (text_steps k chunks _ _ (break_step k Paragraph nexts s l (paragraph_suits k refl l.1.order l.1.moved)) t.1 g.1)
+      grind (arith, text_steps k chunks _ _ (break_step k Paragraph nexts s l (paragraph_suits k refl l.1.order l.1.moved)) t.1 g.1, longer, break_step)
 
 -- ---- the parts
 
@@ -322,7 +313,7 @@ event_ink (Closes b) = mark_bytes b
 ink_back : (r : List Stretch) → IsLegible r → EachPassed NoInk r → ink (text_back r) ≡ flat_map event_ink (reverse (events_back r))
 ink_back [] legible none = ink-nil
 ink_back (x ∷ r) legible none =
-    grind (arith, ink_back r, text_back_cons, ink_before_gap, text_utf8, ink-append, trim_ink, reverse_cons, flat_map-append, append-nil, ink-nil, some_none, ink-backquote)
+    grind (arith, ink_back r, text_back_cons, ink, gap_ink, text_utf8, ink-append, trim_ink, reverse_cons, flat_map-append, append-nil, ink-nil, some_none, ink-backquote)
 
 -- ---- the ink of what is shown
 
@@ -342,9 +333,7 @@ parts_ink : (full : Bool) (document parts : List Part) (k : ℕ) → drop k docu
     → flat_map event_ink (events_from full document k parts) ≡ flat_map (λ (k, part). shown_part_ink full (take k document) part) (enumerate_from k parts)
 parts_ink full document [] k here = refl
 parts_ink full document (part ∷ parts) k here =
-    flat_map-append event_ink (part_events full document k part) (events_from full document (k + 1) parts)
-    ∙ ap (λ front. front ++ flat_map event_ink (events_from full document (k + 1) parts)) (part_ink full document k part (get_from_drop document k part parts here))
-    ∙ ap (λ more. shown_part_ink full (take k document) part ++ more) (parts_ink full document parts (k + 1) (drop_next document k part parts here))
+    grind (arith, parts_ink full document parts (k + 1) (drop_next document k part parts here), flat_map-append, event_ink, part_ink, get_from_drop, drop_next)
 
 -- ---- the page
 
@@ -363,7 +352,7 @@ module _ (full : Bool) (width : ℕ) (document : List Part) (all : HasUtf8Texts 
 
   pub page_ink : ink (console_page full width document) ≡ console_ink full document
   page_ink =
-      grind (arith, ended, text_utf8, ink_before_gap, ink_back, written_base, written_events, reverse-reverse, parts_ink)
+      grind (arith, ended, text_utf8, ink-append, ink, gap_ink, append-nil, ink_back, written_base, written_events, reverse-reverse, parts_ink)
 
   -- the text of the page is that of its stretches, with a last newline where one is asked for
   pub page_layout : IsLayout document full width (console_page full width document)

@@ -11,7 +11,7 @@ use Rattle.bpaf_doc.specs.Splitter.Steps.Runs.{IsRun}
 use Rattle.bpaf_doc.proofs.lemmas.Splitter.Runs.{AreWords, no_words, a_word, words_of_line}
 use Rattle.bpaf_doc.specs.Shown.{is_hidden}
 use Rattle.bpaf_doc.specs.Html.Fragments.{Fragment, Shown, part_fragments, shown_fragments}
-use Rattle.bpaf_doc.proofs.lemmas.Console.Hiding.{not_zero, Counts, Counts-nil, Counts-more, is_hidden-Counts}
+use Rattle.bpaf_doc.proofs.lemmas.Console.Hiding.{not_zero, Counts, Counts-more, is_hidden-Counts}
 use Rattle.bpaf_doc.specs.Html.Steps.Walk.{depth_after, depth_after_text, visible, text_rest, part_walk, walk}
 
 -- what f gives at each part of a document from what stands before it and it
@@ -43,7 +43,7 @@ depth_counts depth done (part ∷ parts) counts =
     (subst (λ (n : ℕ). Counts n (done ++ part ∷ [])) (grind (arith, not_zero)) (Counts-more depth done part counts)))
 
 depth_hides : (parts : List Part) → is_hidden parts ≡ not (depth_after_all false 0 parts == 0)
-depth_hides parts = is_hidden-Counts (depth_after_all false 0 parts) parts (depth_counts 0 [] parts Counts-nil)
+depth_hides parts = is_hidden-Counts (depth_after_all false 0 parts) parts (depth_counts 0 [] parts (λ between. refl))
 
 full_depth : (parts : List Part) → depth_after_all true zero parts ≡ zero
 full_depth [] = refl
@@ -105,8 +105,7 @@ pub left_run : (now : List Fragment) (full in_text : Bool) (style : Style) (run 
     → left_of full in_text style chunks depth parts ≡ now → in_text ≡ true → chunks ≡ chunks_of run ++ rest → IsLine run
     → now ≡ map (Shown style) (chunks_of run) ++ left_of full in_text style rest depth parts
 left_run now full in_text style run chunks rest depth parts view begun e line =
-    sym view ∙ ap (λ t. left_of full t style chunks depth parts) begun ∙ ap (λ cs. left_of full true style cs depth parts) e
-    ∙ run_more (words_of_line run line) full style rest parts ∙ ap (λ t. map (Shown style) (chunks_of run) ++ left_of full t style rest depth parts) (sym begun)
+    grind (arith, run_more (words_of_line run line) full style rest parts, words_of_line run line)
 
 -- and fewer fragments are left
 pub fewer_left : (now after : List Fragment) (style : Style) (run : List ℕ) → IsRun run → now ≡ map (Shown style) (chunks_of run) ++ after → length after < length now
