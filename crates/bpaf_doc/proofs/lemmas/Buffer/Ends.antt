@@ -1,8 +1,7 @@
 -- What the running ends give: the parts, their texts, and what is added behind them.
 use Rattle.std.proofs.lemmas.Grind.{common_steps}
-use Rattle.std.proofs.Common.{◌≡◌, ℕ, zero, suc, ◌+◌, ◌-◌, ◌^◌, ◌<◌, ◌≤◌, Bool, true, false, List, [], ◌∷◌, ◌++◌, All, map, length, get_or, take, drop, sym, refl, ap, arith, length-append, length-drop, take_all, append_assoc, append-nil, take-append-drop, subst, add-zero}
+use Rattle.std.proofs.Common.{◌≡◌, ℕ, zero, suc, ◌+◌, ◌-◌, ◌^◌, ◌<◌, ◌≤◌, Bool, true, false, List, [], ◌∷◌, ◌++◌, All, map, length, get_or, take, drop, sym, refl, ap, arith, length-append, length-drop, take_all, append_assoc, append-nil, take-append-drop, subst, add-zero, if◌then◌else◌, Option, Some, None, option_to_list}
 use Rattle.std.proofs.Math.Seq.{take-add}
-use Rattle.std.specs.Prelude.{if◌then◌else◌, Option, Some, None, option_to_list}
 use Rattle.std.specs.Iterator.{YieldsFirstBy}
 use Rattle.std.specs.List.{slice_get}
 use Rattle.std.specs.Option.{option_map}

@@ -1,7 +1,6 @@
 -- Of two blanks that come to a line without room behind its margin nothing is left.
-use Rattle.std.specs.Prelude.{◌≡◌, ℕ, zero, suc, ◌+◌, ◌<◌, ◌≤◌, ◌==◌, true, false, List, [], ◌∷◌, ◌++◌, codes, length, replicate, nat_lt, IsUtf8}
 use Rattle.std.specs.Str.{trim_end}
-use Rattle.std.proofs.Common.{ap₂, arith, rules, ◌∙◌, append_assoc, lt-ltb}
+use Rattle.std.proofs.Common.{ap₂, arith, rules, ◌∙◌, append_assoc, lt-ltb, ◌≡◌, ℕ, zero, suc, ◌+◌, ◌<◌, ◌≤◌, ◌==◌, true, false, List, [], ◌∷◌, ◌++◌, codes, length, replicate, nat_lt, IsUtf8}
 use Rattle.std.proofs.lemmas.Bool.Decides.{nat_tests}
 use Rattle.std.proofs.lemmas.Str.{IsUtf8-from_ascii}
 use Rattle.bpaf_doc.specs.Buffer.Parts.{ink}

@@ -1,7 +1,6 @@
 -- What is remembered of empty Block pairs tells of each mark whether it is skipped.
-use Rattle.std.specs.Prelude.{◌≡◌, ℕ, suc, ◌+◌, ◌-◌, ◌^◌, ◌<◌, ◌≤◌, min, Bool, true, false, ◌&&◌, ◌||◌, ◌==◌, ◌⊎◌, IsTrue, ◌↔◌, List, [], ◌∷◌, Some, length, refl, drop, slice_get, Option, nat_le, nat_lt}
 use Rattle.std.specs.List.{list_any, position_or_len, enumerate_from}
-use Rattle.std.proofs.Common.{sym, ◌∙◌, ap, subst, inl, inr, arith, drop-drop}
+use Rattle.std.proofs.Common.{sym, ◌∙◌, ap, subst, inl, inr, arith, drop-drop, ◌≡◌, ℕ, suc, ◌+◌, ◌-◌, ◌^◌, ◌<◌, ◌≤◌, min, Bool, true, false, ◌&&◌, ◌||◌, ◌==◌, ◌⊎◌, IsTrue, ◌↔◌, List, [], ◌∷◌, Some, length, refl, drop, slice_get, Option, nat_le, nat_lt}
 use Rattle.std.proofs.lemmas.Option.{slice_get_past}
 use Rattle.std.proofs.lemmas.Bool.Decides.{nat_tests}
 use Rattle.std.proofs.lemmas.Bool.{both_ways, and_from, and_parts, false≢true}

@@ -1,6 +1,5 @@
 -- A break stands where a page has to have one, and nothing stands between words.
-use Rattle.std.proofs.Common.{◌≡◌, ℕ, Bool, true, false, List, [], ◌∷◌, ◌++◌, refl, sym, ap, ◌∙◌, arith}
-use Rattle.std.specs.Prelude.{not, ◌&&◌, ◌||◌, if◌then◌else◌, IsTrue, filter}
+use Rattle.std.proofs.Common.{◌≡◌, ℕ, Bool, true, false, List, [], ◌∷◌, ◌++◌, refl, sym, ap, ◌∙◌, arith, not, ◌&&◌, ◌||◌, if◌then◌else◌, IsTrue, filter}
 use Rattle.std.specs.List.{list_any}
 use Rattle.std.specs.Char.{is_not_whitespace}
 use Rattle.std.proofs.lemmas.Str.{chars-nil}

@@ -1,6 +1,5 @@
 -- The snippets that make up a page.
-use Rattle.std.proofs.Common.{◌≡◌, ℕ, Bool, List, [], ◌∷◌, ◌++◌, refl, sym, append_assoc, append-nil, arith}
-use Rattle.std.specs.Prelude.{flat_map, filter, reverse, if◌then◌else◌}
+use Rattle.std.proofs.Common.{◌≡◌, ℕ, Bool, List, [], ◌∷◌, ◌++◌, refl, sym, append_assoc, append-nil, arith, flat_map, filter, reverse, if◌then◌else◌}
 use Rattle.std.proofs.lemmas.List.Concat.{flat_map-append}
 use Rattle.std.proofs.lemmas.List.Elements.{filter-append}
 use Rattle.bpaf_doc.specs.declared.buffer.Block.{Block}

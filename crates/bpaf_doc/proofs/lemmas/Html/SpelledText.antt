@@ -1,7 +1,6 @@
 -- A text in another spelling is a text.
-use Rattle.std.specs.Prelude.{◌≡◌, ℕ, ◌<◌, ◌≤◌, true, List, [], ◌∷◌, refl, flat_map, IsUtf8, IsAscii}
 use Rattle.std.specs.Char.{IsScalar}
-use Rattle.std.proofs.Common.{inl, inr, arith, append-nil}
+use Rattle.std.proofs.Common.{inl, inr, arith, append-nil, ◌≡◌, ℕ, ◌<◌, ◌≤◌, true, List, [], ◌∷◌, refl, flat_map, IsUtf8, IsAscii}
 use Rattle.std.proofs.lemmas.List.Concat.{flat_map-append}
 use Rattle.std.proofs.lemmas.Bool.{and_parts, ne_eqb, cases_lt}
 use Rattle.std.proofs.lemmas.Str.{IsUtf8-append, IsUtf8-nil, IsUtf8-from_ascii, IsUtf8-encode, encode_ascii}

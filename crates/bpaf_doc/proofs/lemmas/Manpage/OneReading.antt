@@ -1,6 +1,5 @@
 -- A text is read as at most one list of events: whatever it is read as, the program reads it so.
-use Rattle.std.specs.Prelude.{◌≡◌, ◌≢◌, ℕ, List, [], ◌∷◌, ◌++◌, Some, None, refl}
-use Rattle.std.proofs.Common.{arith, ap, ◌∙◌, append_assoc, append-nil, ne_eqb}
+use Rattle.std.proofs.Common.{arith, ap, ◌∙◌, append_assoc, append-nil, ne_eqb, ◌≡◌, ◌≢◌, ℕ, List, [], ◌∷◌, ◌++◌, Some, None, refl}
 use Rattle.bpaf_roff.specs.Escaping.{newline}
 use Rattle.bpaf_roff.specs.Roff.{font_escape, restore_font}
 use Rattle.bpaf_roff.specs.declared.roff.Font.{Font}

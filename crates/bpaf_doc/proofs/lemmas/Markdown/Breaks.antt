@@ -1,6 +1,5 @@
 -- Nothing stands between the words of a markdown text, and breaks stand where they were asked for.
-use Rattle.std.proofs.Common.{◌≡◌, Bool, true, false, List, [], ◌∷◌, ◌++◌, refl, ap, append_assoc, append-nil, arith}
-use Rattle.std.specs.Prelude.{not, ◌&&◌, ◌||◌, IsTrue}
+use Rattle.std.proofs.Common.{◌≡◌, Bool, true, false, List, [], ◌∷◌, ◌++◌, refl, ap, append_assoc, append-nil, arith, not, ◌&&◌, ◌||◌, IsTrue}
 use Rattle.std.specs.List.{list_any}
 use Rattle.std.proofs.lemmas.Bool.{false≢true, and_parts, and_from, not-true, or_right, cases_Bool}
 use Rattle.bpaf_doc.proofs.lemmas.Lists.Passing.{implies}

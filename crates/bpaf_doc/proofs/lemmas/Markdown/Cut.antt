@@ -1,7 +1,6 @@
 -- The snippets that make up a markdown text, and what it keeps in mind between fragments.
 use Rattle.std.proofs.lemmas.Grind.{common_steps}
-use Rattle.std.proofs.Common.{◌≡◌, ℕ, Bool, true, false, List, [], ◌∷◌, ◌++◌, map, refl, sym, ap, ◌∙◌, append_assoc, append-nil, nat_lt, arith}
-use Rattle.std.specs.Prelude.{not, ◌&&◌, ◌==◌, reverse, codes, if◌then◌else◌}
+use Rattle.std.proofs.Common.{◌≡◌, ℕ, Bool, true, false, List, [], ◌∷◌, ◌++◌, map, refl, sym, ap, ◌∙◌, append_assoc, append-nil, nat_lt, arith, not, ◌&&◌, ◌==◌, reverse, codes, if◌then◌else◌}
 use Rattle.std.proofs.Math.Bool.{and-true, and-false}
 use Rattle.bpaf_doc.specs.declared.buffer.Style.{Style}
 use Rattle.bpaf_doc.specs.declared.buffer.Block.{Block}

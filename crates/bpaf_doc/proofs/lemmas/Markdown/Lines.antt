@@ -1,7 +1,6 @@
 -- A whole line of a markdown text stands alone on its line.
 use Rattle.std.proofs.lemmas.Grind.{common_steps}
-use Rattle.std.proofs.Common.{rules, ◌≡◌, ℕ, ◌+◌, ◌-◌, Bool, true, false, cond, List, [], ◌∷◌, ◌++◌, length, take, drop, refl, sym, ap, ◌∙◌, subst, arith, append_assoc, append-nil, length-append}
-use Rattle.std.specs.Prelude.{not, ◌&&◌, ◌||◌, ◌==◌, if◌then◌else◌, IsTrue, codes}
+use Rattle.std.proofs.Common.{rules, ◌≡◌, ℕ, ◌+◌, ◌-◌, Bool, true, false, cond, List, [], ◌∷◌, ◌++◌, length, take, drop, refl, sym, ap, ◌∙◌, subst, arith, append_assoc, append-nil, length-append, not, ◌&&◌, ◌||◌, ◌==◌, if◌then◌else◌, IsTrue, codes}
 use Rattle.std.specs.List.{list_all, after_last, suffix_len, prefix_len}
 use Rattle.std.proofs.lemmas.List.{reverse-append, drop-append-le, drop_all, take-append-drop}
 use Rattle.std.proofs.lemmas.List.Sums.{AllPass-from_list_all, list_all-from_AllPass}

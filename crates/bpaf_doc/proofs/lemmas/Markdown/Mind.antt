@@ -1,7 +1,6 @@
 -- What a markdown text keeps in mind is what looking back at the fragments before says.
-use Rattle.std.proofs.Common.{◌≡◌, ℕ, ◌+◌, ◌^◌, ◌<◌, Bool, true, false, cond, List, [], ◌∷◌, ◌++◌, map, refl, sym, ap, ◌∙◌, subst, arith, append_assoc, append-nil, length-append, nat_lt}
+use Rattle.std.proofs.Common.{◌≡◌, ℕ, ◌+◌, ◌^◌, ◌<◌, Bool, true, false, cond, List, [], ◌∷◌, ◌++◌, map, refl, sym, ap, ◌∙◌, subst, arith, append_assoc, append-nil, length-append, nat_lt, filter, count_by, if◌then◌else◌}
 use Rattle.std.proofs.lemmas.Grind.{common_steps}
-use Rattle.std.specs.Prelude.{filter, count_by, if◌then◌else◌}
 use Rattle.std.specs.List.{list_any, after_last, suffix_len, prefix_len}
 use Rattle.std.proofs.lemmas.List.{reverse-append, drop-append-le, drop_all, map-append}
 use Rattle.std.proofs.lemmas.List.Folds.{list_any-append}

@@ -1,10 +1,9 @@
 -- Where a line and a word end.
-use Rattle.std.specs.Prelude.{◌≡◌, ◌≢◌, ℕ, suc, ◌<◌, ◌≤◌, Bool, true, false, IsTrue, List, [], ◌∷◌, refl, length, take, drop, Option, MatchOption, unwrap_or}
 use Rattle.std.specs.Char.{char_set_contains}
 use Rattle.std.specs.Str.{NoCharPasses}
 use Rattle.std.specs.Str.Pattern.{HasPassingCharAt}
 use Rattle.std.specs.List.{list_all}
-use Rattle.std.proofs.Common.{inl, inr, arith, get_or, length-take, get_or-take}
+use Rattle.std.proofs.Common.{inl, inr, arith, get_or, length-take, get_or-take, ◌≡◌, ◌≢◌, ℕ, suc, ◌<◌, ◌≤◌, Bool, true, false, IsTrue, List, [], ◌∷◌, refl, length, take, drop, Option, MatchOption, unwrap_or}
 use Rattle.std.proofs.lemmas.Str.{NoCharPasses-byte}
 use Rattle.std.proofs.lemmas.Str.Pattern.{drop_at_char}
 use Rattle.std.proofs.lemmas.Bool.{cases_lt}

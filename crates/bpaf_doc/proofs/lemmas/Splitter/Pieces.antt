@@ -1,9 +1,8 @@
 -- A text as its chunks cut it: what each chunk stands for, with gaps before and after it.
-use Rattle.std.specs.Prelude.{◌≡◌, ℕ, ◌<◌, IsTrue, ◌⊎◌, List, [], ◌∷◌, ◌++◌, codes, refl, length}
 use Rattle.std.specs.Char.{IsScalar}
 use Rattle.std.specs.Str.{IsUtf8}
 use Rattle.std.specs.List.{list_all}
-use Rattle.std.proofs.Common.{sym, ◌∙◌, ap, subst, inl, inr, arith, lit<, get_or}
+use Rattle.std.proofs.Common.{sym, ◌∙◌, ap, subst, inl, inr, arith, lit<, get_or, ◌≡◌, ℕ, ◌<◌, IsTrue, ◌⊎◌, List, [], ◌∷◌, ◌++◌, codes, refl, length}
 use Rattle.std.proofs.lemmas.List.{append-nil, get_or_at, take_at, drop_at, length-append}
 use Rattle.std.proofs.lemmas.Str.{IsUtf8-nil, IsUtf8-append, IsUtf8-encode, encode_ascii, IsUtf8-take, IsUtf8-drop, IsCharBoundary-before_ascii, IsCharBoundary-after_ascii}
 use Rattle.bpaf_doc.specs.Splitter.Chunks.{Chunk, Raw, Paragraph, LineBreak, Form, Spells, nothing, code_line, fence, before_code, paragraph, line_break, newline, blank, word, opening, later, closing, closing_paragraph, is_word_byte, IsLine, IsLineEnd, IsPastNewline}

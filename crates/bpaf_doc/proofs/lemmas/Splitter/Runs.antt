@@ -1,7 +1,6 @@
 -- The chunks of a run, and of a text that begins with one.
-use Rattle.std.specs.Prelude.{◌≡◌, ℕ, ◌<◌, ◌≤◌, Bool, true, IsTrue, ◌⊎◌, List, [], ◌∷◌, ◌++◌, codes, refl, length, take, drop, Option, Some, None, unwrap_or}
 use Rattle.std.specs.List.{list_all}
-use Rattle.std.proofs.Common.{sym, ◌∙◌, ap, subst, inl, inr, arith, append_assoc, get_or, take-append-drop, take_all, drop-cons, length-take}
+use Rattle.std.proofs.Common.{sym, ◌∙◌, ap, subst, inl, inr, arith, append_assoc, get_or, take-append-drop, take_all, drop-cons, length-take, ◌≡◌, ℕ, ◌<◌, ◌≤◌, Bool, true, IsTrue, ◌⊎◌, List, [], ◌∷◌, ◌++◌, codes, refl, length, take, drop, Option, Some, None, unwrap_or}
 use Rattle.std.proofs.lemmas.List.{take-take, drop_all, get_or-take}
 use Rattle.memchr.specs.Find.{Nowhere, NoneBefore, NoneAfter, Passes, IsLastByte, is_byte}
 use Rattle.std.proofs.lemmas.List.Folds.{list_all-append}

@@ -1,6 +1,5 @@
 -- Behind a code or fence line a newline comes before the next place.
-use Rattle.std.specs.Prelude.{◌≡◌, ℕ, ◌<◌, ◌≤◌, true, false, List, [], ◌∷◌, ◌++◌, refl, ◌⊎◌}
-use Rattle.std.proofs.Common.{sym, subst, ap, arith, inl, inr, ◌∙◌}
+use Rattle.std.proofs.Common.{sym, subst, ap, arith, inl, inr, ◌∙◌, ◌≡◌, ℕ, ◌<◌, ◌≤◌, true, false, List, [], ◌∷◌, ◌++◌, refl, ◌⊎◌}
 use Rattle.std.proofs.lemmas.Bool.Decides.{nat_tests}
 use Rattle.bpaf_doc.specs.Splitter.Chunks.{is_whole_line}
 use Rattle.bpaf_doc.specs.Console.Layout.{Shows, Stretch, Gap, Placed, Passed, Place, chunk_at, is_placed}

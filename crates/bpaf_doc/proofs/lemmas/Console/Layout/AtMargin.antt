@@ -1,6 +1,5 @@
 -- The first inked chunk of a line stands at its margin, where only marks or one blank stand before it.
-use Rattle.std.specs.Prelude.{◌≡◌, ℕ, ◌+◌, ◌<◌, Bool, true, false, not, ◌&&◌, List, [], ◌∷◌, codes, refl, ◌⊎◌}
-use Rattle.std.proofs.Common.{sym, subst, ap, arith, inl, inr, ◌∙◌}
+use Rattle.std.proofs.Common.{sym, subst, ap, arith, inl, inr, ◌∙◌, ◌≡◌, ℕ, ◌+◌, ◌<◌, Bool, true, false, not, ◌&&◌, List, [], ◌∷◌, codes, refl, ◌⊎◌}
 use Rattle.bpaf_doc.specs.Splitter.Chunks.{Chunk, Raw, is_inked}
 use Rattle.bpaf_doc.specs.Console.Layout.{Event, Shows, Stretch, Gap, Placed, Passed, Place, chunk_at, is_raw_or_ref}
 use Rattle.bpaf_doc.specs.Console.Exact.{NoBreak}

@@ -1,7 +1,6 @@
 -- How much of a line is taken since a chunk, reckoned by some rule; and that the line is broken only where the next chunk has no room.
-use Rattle.std.specs.Prelude.{◌≡◌, ℕ, ◌+◌, ◌<◌, ◌≤◌, Bool, true, false, List, [], ◌∷◌, length, refl, ◌⊎◌}
 use Rattle.std.specs.List.{list_all}
-use Rattle.std.proofs.Common.{sym, subst, ap, arith, ◌∙◌}
+use Rattle.std.proofs.Common.{sym, subst, ap, arith, ◌∙◌, ◌≡◌, ℕ, ◌+◌, ◌<◌, ◌≤◌, Bool, true, false, List, [], ◌∷◌, length, refl, ◌⊎◌}
 use Rattle.std.proofs.lemmas.Bool.{and_parts}
 use Rattle.bpaf_doc.specs.declared.buffer.Block.{Block}
 use Rattle.bpaf_doc.specs.Console.Exact.{Request, NoBreak}

@@ -1,9 +1,8 @@
 -- What the text of a page shows of its stretches, and what it is without its blank end.
 use Rattle.std.proofs.lemmas.Grind.{common_steps}
-use Rattle.std.specs.Prelude.{◌≡◌, ◌≢◌, ℕ, Bool, true, false, ◌&&◌, ◌==◌, List, [], ◌∷◌, ◌++◌, length, filter, refl, if◌then◌else◌, ◌⊎◌, IsUtf8}
 use Rattle.std.specs.Str.{trim_end, drop_trailing_whitespace, chars, encode_utf8_all}
 use Rattle.std.specs.Char.{is_whitespace, is_not_whitespace}
-use Rattle.std.proofs.Common.{rules, sym, subst, ap, arith, inl, inr, ◌∙◌, append_assoc}
+use Rattle.std.proofs.Common.{rules, sym, subst, ap, arith, inl, inr, ◌∙◌, append_assoc, ◌≡◌, ◌≢◌, ℕ, Bool, true, false, ◌&&◌, ◌==◌, List, [], ◌∷◌, ◌++◌, length, filter, refl, if◌then◌else◌, ◌⊎◌, IsUtf8}
 use Rattle.std.proofs.lemmas.List.{append-nil, nil_from_length, same_from_push}
 use Rattle.std.proofs.lemmas.Str.{chars-append, encodes-chars, chars-encodes, scalars-chars, encodes-append, IsUtf8-append, IsUtf8-nil, IsUtf8-from_ascii}
 use Rattle.std.proofs.Math.Utf8.{scalars, scalar}

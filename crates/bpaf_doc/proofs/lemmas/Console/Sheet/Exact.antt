@@ -1,6 +1,5 @@
 -- The page that the code writes is the page as a function of the document: the walk over its marks, and the whole.
-use Rattle.std.specs.Prelude.{◌≡◌, ℕ, zero, suc, ◌+◌, ◌-◌, ◌^◌, ◌<◌, ◌≤◌, Bool, true, false, not, ◌&&◌, ◌==◌, List, [], ◌∷◌, ◌++◌, length, take, drop, reverse, refl, if◌then◌else◌, slice_get, Some, IfOk, Result, String, string_bytes}
-use Rattle.std.proofs.Common.{sym, ap, arith, inl, inr, ◌∙◌}
+use Rattle.std.proofs.Common.{sym, ap, arith, inl, inr, ◌∙◌, ◌≡◌, ℕ, zero, suc, ◌+◌, ◌-◌, ◌^◌, ◌<◌, ◌≤◌, Bool, true, false, not, ◌&&◌, ◌==◌, List, [], ◌∷◌, ◌++◌, length, take, drop, reverse, refl, if◌then◌else◌, slice_get, Some, IfOk, Result, String, string_bytes}
 use Rattle.std.proofs.lemmas.Grind.{common_steps}
 use Rattle.std.proofs.lemmas.List.{length-drop, length-reverse, take_at}
 use Rattle.std.proofs.lemmas.Bool.Decides.{nat_tests}

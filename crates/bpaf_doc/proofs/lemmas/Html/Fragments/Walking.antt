@@ -1,6 +1,5 @@
 -- The walk over the parts gives the fragments of the document.
-use Rattle.std.proofs.Common.{◌≡◌, ℕ, zero, suc, ◌+◌, Bool, true, false, List, [], ◌∷◌, ◌++◌, length, take, map, refl, sym, ap, ◌∙◌, arith, append_assoc, append-nil, subst, inr}
-use Rattle.std.specs.Prelude.{◌<◌, ◌==◌, not, ◌⊎◌, flat_map, if◌then◌else◌}
+use Rattle.std.proofs.Common.{◌≡◌, ℕ, zero, suc, ◌+◌, Bool, true, false, List, [], ◌∷◌, ◌++◌, length, take, map, refl, sym, ap, ◌∙◌, arith, append_assoc, append-nil, subst, inr, ◌<◌, ◌==◌, not, ◌⊎◌, flat_map, if◌then◌else◌}
 use Rattle.bpaf_doc.specs.declared.buffer.Style.{Style}
 use Rattle.std.specs.List.{enumerate_from, before_first, position_or_len}
 use Rattle.std.proofs.lemmas.List.{take_at, length_push, length-append, length-map}
