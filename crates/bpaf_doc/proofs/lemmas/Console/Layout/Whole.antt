@@ -71,28 +71,14 @@ nothing_cut [] before e h = absurd cc
 nothing_cut (x ∷ m) before e h = absurd cc
 
 base_blank : (width : ℕ) → Base width blank_page
-base_blank width = record {
-  fills = tt;
-  no_ink = tt;
-  agrees = inl refl;
-  whole = tt;
-  order = tt;
-  small = omega arith;
-  settled = λ s. absurd cc;
-  unsettled = λ s. inl refl;
-  since = λ m before e h. nothing_cut m before e h.0;
-  asked_line = λ o. absurd cc;
-  asked_blank = λ o. absurd cc;
-  fresh = λ o. refl;
-  pads = refl;
-  pending = λ o. absurd cc;
-  led = tt;
-  last = λ m before e h i n. nothing_cut m before e h;
-  start = λ m before e k h i b l. nothing_cut m before e h;
-  debt = tt;
-  blank = tt;
-  keeps = tt;
-}
+base_blank width =
+    let agrees : Agrees blank_page = inl refl in
+    let unsettled : IsUnsettled blank_page = λ s. inl refl in
+    let since : IsKeptSince blank_page = λ m before e h. nothing_cut m before e h.0 in
+    let asked_line : IsAskedLine blank_page = λ o. absurd cc in
+    let asked_blank : IsAskedBlank blank_page = λ o. absurd cc in
+    let last : IsLast blank_page = λ m before e h i n. nothing_cut m before e h in
+    search (rules, nothing_cut)
 
 base_grows : {width : ℕ} {margin_of : ℕ → ℕ} {st after : State} {next : Next} → Suits margin_of st next → Grows width st next after → Base width st → Base width after
 base_grows {width} suits g b = record {
@@ -134,16 +120,7 @@ breaks_blank : (width : ℕ) (rule : Rule) → BreaksBy width rule blank_page
 breaks_blank width rule = record { roomy = λ m before e h run. nothing_cut m before e h; no_room = tt }
 
 clearly_blank : (width deepest : ℕ) (margin_of : ℕ → ℕ) → Clearly width deepest margin_of blank_page
-clearly_blank width deepest margin_of = record {
-  starting = λ o. (refl, refl);
-  at_margin = tt;
-  exact = tt;
-  fits = tt;
-  pads_only = tt;
-  heavy = λ m before e h w n. nothing_cut m before e h;
-  alone = tt;
-  room = search (rules, breaks_blank);
-}
+clearly_blank width deepest margin_of = let heavy : IsHeavy blank_page = λ m before e h w n. nothing_cut m before e h in search (rules, nothing_cut, breaks_blank)
 
 clearly_grows : {width deepest : ℕ} {margin_of : ℕ → ℕ} {st after : State} {next : Next} → width < 1_000_000 → Suits margin_of st next → IsClear st next → IsShallow deepest next
     → Grows width st next after → Base width st → Clearly width deepest margin_of st → Clearly width deepest margin_of after
@@ -153,23 +130,12 @@ clearly_grows {width} {deepest} {margin_of} {st} {after} small suits clear shall
     (in_order_grows suits g c.room.0, after_all_grows suits c.room.0 g c.room.1, step light (light_sound width deepest) c.room.2, step light_marks (grind (arith, and_parts)) c.room.3, step (idle deepest) (idle_sound width deepest small) c.room.4) in
     grind (arith, starting_grows, at_margin_grows, exact_grows, fits_width_grows, pads_only_grows, heavy_grows, alone_grows)
 
--- no empty line of code stands before the first byte
-abbrev clear_front : List Event → Bool
-clear_front [] = true
-clear_front (x ∷ xs) = if is_written x then true else (not (is_empty_code x) && clear_front xs)
+front_more : (x : Event) (xs : List Event) (k : ℕ) → take (1 + k) (x ∷ xs) ≡ x ∷ take k xs
+front_more x xs k = let s : 1 + k ≡ suc k = omega arith in rw s refl
 
-clear_snoc : (xs : List Event) (x : Event) → clear_front (xs ++ x ∷ []) ≡ true → (clear_front xs ≡ true) × (is_empty_code x ≡ true → list_any is_written xs ≡ true)
+clear_snoc : (xs : List Event) (x : Event) → BeginsClear (xs ++ x ∷ []) → BeginsClear xs × (is_empty_code x ≡ true → list_any is_written xs ≡ true)
 clear_snoc [] x h = grind arith
-clear_snoc (y ∷ xs) x h = grind (arith, clear_snoc xs x)
-
-clear_begins : (events : List Event) → BeginsClear events → clear_front events ≡ true
-clear_begins [] h = refl
-clear_begins (x ∷ xs) h = at (by_cases (is_written x)) (by_cases (is_empty_code x)) (clear_begins xs) where
-  step : (k : ℕ) → take (1 + k) (x ∷ xs) ≡ x ∷ take k xs
-  step k = let s : 1 + k ≡ suc k = omega arith in rw s refl
-
-  at : (is_written x ≡ true) ⊎ (is_written x ≡ false) → (is_empty_code x ≡ true) ⊎ (is_empty_code x ≡ false) → (BeginsClear xs → clear_front xs ≡ true) → clear_front (x ∷ xs) ≡ true
-  at h1 h2 h3 = grind (arith, step)
+clear_snoc (y ∷ xs) x h = grind (arith, clear_snoc xs x, front_more, by_cases)
 
 clear_next : (before : State) (next : Next) → (is_empty_code (next_event next) ≡ true → has_text before.back ≡ true) → IsClear before next
 clear_next before next h = grind arith
@@ -192,13 +158,13 @@ module _ {width : ℕ} {margin_of : ℕ → ℕ} {clear : State → Next → Typ
   written_text (nothing e s) h = let no : false ≡ true = subst (λ ns. list_any is_written (map next_event ns) ≡ true) e h in absurd cc
   written_text {nexts} {st} (more earlier before next e w suits c g) h = grind (arith, written_text w, map_snoc, list_any-append, text_stays, text_written)
 
-  written_clearly : {nexts : List Next} {st : State} (deepest : ℕ) → width < 1_000_000 → Written width margin_of clear nexts st → clear_front (map next_event nexts) ≡ true
+  written_clearly : {nexts : List Next} {st : State} (deepest : ℕ) → width < 1_000_000 → Written width margin_of clear nexts st → BeginsClear (map next_event nexts)
       → EachNext (IsShallow deepest) nexts → Clearly width deepest margin_of st
   written_clearly deepest small (nothing e s) h shallow = subst (Clearly width deepest margin_of) (sym s) (clearly_blank width deepest margin_of)
   written_clearly deepest small (more earlier before next e w suits c g) h shallow =
       let parts : EachNext (IsShallow deepest) earlier × IsShallow deepest next = each_snoc (IsShallow deepest) earlier next (subst (λ ns. EachNext (IsShallow deepest) ns) e shallow) in
-      let both : (clear_front (map next_event earlier) ≡ true) × (is_empty_code (next_event next) ≡ true → list_any is_written (map next_event earlier) ≡ true) =
-      clear_snoc (map next_event earlier) (next_event next) (subst (λ es. clear_front es ≡ true) (ap (λ ns. map next_event ns) e ∙ map_snoc earlier next) h) in
+      let both : BeginsClear (map next_event earlier) × (is_empty_code (next_event next) ≡ true → list_any is_written (map next_event earlier) ≡ true) =
+      clear_snoc (map next_event earlier) (next_event next) (subst BeginsClear (ap (λ ns. map next_event ns) e ∙ map_snoc earlier next) h) in
       clearly_grows small suits (clear_next before next (λ t. written_text w (both.1 t))) parts.1 g (written_base w) (written_clearly deepest small w both.0 parts.0)
 
 -- ---- the bound
@@ -419,19 +385,11 @@ fold_more : (xs : List ℕ) (a b : ℕ) → a ≤ b → fold max a xs ≤ fold m
 fold_more [] a b l = l
 fold_more (x ∷ xs) a b l = fold_more xs (max a x) (max b x) (omega arith)
 
--- each chunk that comes is at most as wide as the widest
-narrow_each : (nexts : List Next) (most : ℕ) → widest (map next_event nexts) ≤ most → EachNext (IsNarrow most) nexts
-narrow_each [] most l = tt
-narrow_each (x ∷ xs) most l = grind (arith, narrow_each xs most, more_than, fold_more)
-
--- no mark is one of a term reference
-bare_each : (nexts : List Next) → list_any is_ref (map next_event nexts) ≡ false → EachNext WritesNone nexts
-bare_each [] h = tt
-bare_each (x ∷ xs) h = grind (arith, bare_each xs, or_parts)
-
-slim_each : (deepest most : ℕ) (nexts : List Next) → EachNext (IsShallow deepest) nexts → EachNext (IsNarrow most) nexts → EachNext WritesNone nexts → EachNext (IsSlim deepest most) nexts
+-- each chunk that comes is at most as wide as the widest, and no mark is one of a term reference
+slim_each : (deepest most : ℕ) (nexts : List Next) → EachNext (IsShallow deepest) nexts → widest (map next_event nexts) ≤ most → list_any is_ref (map next_event nexts) ≡ false
+    → EachNext (IsSlim deepest most) nexts
 slim_each deepest most [] a b c = tt
-slim_each deepest most (x ∷ xs) a b c = ((a.0, b.0, c.0), slim_each deepest most xs a.1 b.1 c.1)
+slim_each deepest most (x ∷ xs) a b c = grind (arith, slim_each deepest most xs, more_than, fold_more, or_parts)
 
 pub layout_of_page : {clear : State → Next → Type 0} (document : List Part) (full : Bool) (width : ℕ) (nexts : List Next) (st : State) (final : List Stretch)
     → Written width (margin document) clear nexts st → map next_event nexts ≡ shown_events full document → EachNext (IsShallow (greatest_margin document)) nexts
@@ -460,14 +418,14 @@ layout_of_page document full width nexts st final w events shallow ends same = r
   base = written_base w
 
   clearly : width < 1_000_000 → BeginsClear (shown_events full document) → Clearly width (greatest_margin document) (margin document) st
-  clearly small clear = written_clearly (greatest_margin document) small w (clear_begins (map next_event nexts) (subst BeginsClear (sym events) clear)) shallow
+  clearly small clear = written_clearly (greatest_margin document) small w (subst BeginsClear (sym events) clear) shallow
 
   bounded : width < 1_000_000 → IsTrue (not (list_any is_ref (shown_events full document))) → IsBounded document width (reverse final)
   bounded small refs =
       let none : list_any is_ref (map next_event nexts) ≡ false = ap (λ es. list_any is_ref es) events ∙ not-true (list_any is_ref (shown_events full document)) refs in
       let slim : Slim width (greatest_margin document) (widest (map next_event nexts)) st =
       written_slim (greatest_margin document) (widest (map next_event nexts)) small w
-      (slim_each (greatest_margin document) (widest (map next_event nexts)) nexts shallow (narrow_each nexts (widest (map next_event nexts)) (omega arith)) (bare_each nexts none)) in
+      (slim_each (greatest_margin document) (widest (map next_event nexts)) nexts shallow (omega arith) none) in
       let same_widest : widest (events_of (reverse final)) ≡ widest (map next_event nexts) =
       ap widest (events_turned final ∙ ap (λ es. reverse es) (ends_events ends ∙ written_events w) ∙ reverse-reverse (map next_event nexts)) in
       subst (λ (n : ℕ). All (λ line. sum_by stretch_columns line ≤ greatest_margin document + 2 + max width n) (stretch_lines (reverse final))) (sym same_widest)
