@@ -1,11 +1,12 @@
 -- A text as its chunks cut it: what each chunk stands for, with gaps before and after it.
 use Rattle.std.specs.Char.{IsScalar}
-use Rattle.std.specs.Str.{IsUtf8}
+use Rattle.std.specs.Str.{IsUtf8, chars}
 use Rattle.std.specs.List.{list_all}
-use Rattle.std.proofs.Common.{sym, ◌∙◌, ap, subst, inl, inr, arith, lit<, get_or, ◌≡◌, ℕ, ◌<◌, IsTrue, ◌⊎◌, List, [], ◌∷◌, ◌++◌, codes, refl, length}
+use Rattle.std.proofs.Common.{sym, ◌∙◌, ap, subst, inl, inr, arith, lit<, get_or, ◌≡◌, ℕ, true, false, ◌<◌, IsTrue, ◌⊎◌, List, [], ◌∷◌, ◌++◌, codes, refl, length}
 use Rattle.std.proofs.lemmas.List.{append-nil, get_or_at, take_at, drop_at, length-append}
 use Rattle.std.proofs.lemmas.Str.{IsUtf8-nil, IsUtf8-append, IsUtf8-encode, encode_ascii, IsUtf8-take, IsUtf8-drop, IsCharBoundary-before_ascii, IsCharBoundary-after_ascii}
-use Rattle.bpaf_doc.specs.Splitter.Chunks.{Chunk, Raw, Paragraph, LineBreak, Form, Spells, nothing, code_line, fence, before_code, paragraph, line_break, newline, blank, word, opening, later, closing, closing_paragraph, is_word_byte, IsLine, IsLineEnd, IsPastNewline}
+use Rattle.bpaf_doc.specs.Splitter.Chunks.{Chunk, Raw, Paragraph, LineBreak, Form, Spells, nothing, code_line, fence, before_code, paragraph, line_break, newline, blank, word, opening, later, closing, closing_paragraph, is_word_byte, code_weight, fence_weight, columns, has_some, IsLine, IsLineEnd, IsOrdinary, IsPastNewline, IsWord}
+use Rattle.unicode_width.specs.Width.{str_width, step, past_emoji}
 use Rattle.bpaf_doc.specs.Splitter.Promises.{IsGap, IsOneLine, StandsFor, is_gap_byte}
 use Rattle.bpaf_doc.proofs.lemmas.Splitter.Spelling.{and_left, and_right, starts_front}
 use Rattle.std.proofs.lemmas.Bool.Decides.{nat_tests}
@@ -55,55 +56,78 @@ IsUtf8-blank = utf8_alone 32 (lit< tt) refl
 
 -- ---- the pieces
 
-pub data Pieces : List Chunk → List ℕ → Type 0 where
-  none : {chunks : List Chunk} {text : List ℕ} → chunks ≡ [] → text ≡ [] → Pieces chunks text
-  piece : {chunks : List Chunk} {text : List ℕ} (gap there after rest : List ℕ) (chunk : Chunk) (others : List Chunk) → chunks ≡ chunk ∷ others
-      → text ≡ gap ++ (there ++ (after ++ rest)) → IsGap gap → IsGap after → StandsFor chunk there → IsOneLine chunk
-      → (IsUtf8 text → IsUtf8 there × IsUtf8 rest) → Pieces others rest → Pieces chunks text
+-- a Raw chunk weighs its columns, unless it is a line of code, and has some bytes
+abbrev pub IsGood : Chunk → Type 0
+IsGood (Raw bytes weight) = IsLine bytes × (weight < 1_000_000 → weight ≡ columns bytes) × (IsOrdinary (Raw bytes weight) → weight ≡ columns bytes) × (IsOrdinary (Raw bytes weight) → has_some bytes ≡ true)
+IsGood Paragraph = Unit {0}
+IsGood LineBreak = Unit {0}
+
+-- it has no newline
+pub good_line : (chunk : Chunk) → IsGood chunk → IsOneLine chunk
+good_line chunk h = grind arith
 
 -- a word is in one line
 pub word_line : (bytes : List ℕ) → IsTrue (list_all is_word_byte bytes) → IsLine bytes
 word_line [] w = refl
 word_line (b ∷ bytes) w = grind (arith, word_line bytes, and_left, and_right)
 
+blank_columns : columns (codes " ") ≡ 1
+unfolding chars str_width step past_emoji
+blank_columns = refl
+
+blank_good : IsGood (Raw (codes " ") 1)
+blank_good = (refl, λ l. sym blank_columns, λ o. sym blank_columns, λ o. refl)
+
+code_good : (line : List ℕ) → IsLine line → IsGood (Raw line code_weight)
+code_good line l = (l, λ small. absurd (omega arith), λ o. absurd (let no : false ≡ true = o in cc), λ o. absurd (let no : false ≡ true = o in cc))
+
+fence_good : (line : List ℕ) → IsLine line → IsGood (Raw line fence_weight)
+fence_good line l = (l, λ small. absurd (omega arith), λ o. absurd (let no : false ≡ true = o in cc), λ o. absurd (let no : false ≡ true = o in cc))
+
+pub data Pieces : List Chunk → List ℕ → Type 0 where
+  none : {chunks : List Chunk} {text : List ℕ} → chunks ≡ [] → text ≡ [] → Pieces chunks text
+  piece : {chunks : List Chunk} {text : List ℕ} (gap there after rest : List ℕ) (chunk : Chunk) (others : List Chunk) → chunks ≡ chunk ∷ others
+      → text ≡ gap ++ (there ++ (after ++ rest)) → IsGap gap → IsGap after → StandsFor chunk there → IsGood chunk
+      → (IsUtf8 text → IsUtf8 there × IsUtf8 rest) → Pieces others rest → Pieces chunks text
+
 -- a newline that a line of a fence takes with it
 newline_taken : (rest next : List ℕ) → IsPastNewline rest next → (after : List ℕ) × (rest ≡ after ++ next) × IsGap after × (IsUtf8 rest → IsUtf8 next)
 newline_taken rest next (inl e) = (codes "\n", e, refl, λ u. utf8_after 10 next (lit< tt) (subst (λ text. IsUtf8 text) e u))
 newline_taken rest next (inr (e, f)) = ([], e ∙ sym f, refl, λ u. subst (λ text. IsUtf8 text) (e ∙ sym f) u)
 
-fence_line : {chunks : List Chunk} {text : List ℕ} (line rest next : List ℕ) (weight : ℕ) (others : List Chunk) → chunks ≡ Raw line weight ∷ others
+fence_line : {chunks : List Chunk} {text : List ℕ} (line rest next : List ℕ) (others : List Chunk) → chunks ≡ Raw line fence_weight ∷ others
     → text ≡ line ++ rest → IsLine line → IsPastNewline rest next → Pieces others next → Pieces chunks text
-fence_line {chunks} {text} line rest next weight others ec et l p s = at (newline_taken rest next p) where
+fence_line {chunks} {text} line rest next others ec et l p s = at (newline_taken rest next p) where
   at : (after : List ℕ) × (rest ≡ after ++ next) × IsGap after × (IsUtf8 rest → IsUtf8 next) → Pieces chunks text
   at (after, e, g, u) =
-      piece [] line after next (Raw line weight) others ec (et ∙ ap (λ t. line ++ t) e) refl g (inl refl) l
+      piece [] line after next (Raw line fence_weight) others ec (et ∙ ap (λ t. line ++ t) e) refl g (inl refl) (fence_good line l)
       (λ v. let w = utf8_cut line rest (grind arith) (subst (λ t. IsUtf8 t) et v) in (w.0, u w.1)) s
 
 -- a chunk that stands for an ASCII text, and no gap
 ascii_piece : {chunks : List Chunk} {text : List ℕ} (there rest : List ℕ) (chunk : Chunk) (others : List Chunk) → chunks ≡ chunk ∷ others → text ≡ there ++ rest
-    → IsTrue (list_all is_gap_byte there) → StandsFor chunk there → IsOneLine chunk → Pieces others rest → Pieces chunks text
+    → IsTrue (list_all is_gap_byte there) → StandsFor chunk there → IsGood chunk → Pieces others rest → Pieces chunks text
 ascii_piece {chunks} {text} there rest chunk others ec et g t l s =
     piece [] there [] rest chunk others ec et refl refl t l (λ u. utf8_gap there rest g (subst (λ t. IsUtf8 t) et u)) s
 
 pub pieces : {form : Form} {chunks : List Chunk} {text : List ℕ} → Spells form chunks text → Pieces chunks text
 pieces (nothing ec et) = none ec et
 pieces (code_line line rest others ec et l r s) =
-    piece (codes "\n    ") line [] rest (Raw line _) others ec et refl refl (inl refl) l
+    piece (codes "\n    ") line [] rest (Raw line _) others ec et refl refl (inl refl) (code_good line l)
     (λ u. utf8_cut line rest (grind arith) (utf8_gap (codes "\n    ") (line ++ rest) refl (subst (λ t. IsUtf8 t) et u)).1) (pieces s)
 pieces (fence rest others ec et t s) = ascii_piece (codes "\n\n") rest Paragraph others ec et refl (inl refl) tt (pieces s)
 pieces (before_code rest others ec et t s) = ascii_piece (codes "\n") rest Paragraph others ec et refl (inr refl) tt (pieces s)
 pieces (paragraph rest others ec et f g s) = ascii_piece (codes "\n\n") rest Paragraph others ec et refl (inl refl) tt (pieces s)
 pieces (line_break rest others ec et f s) = ascii_piece (codes "\n ") rest LineBreak others ec et refl refl tt (pieces s)
-pieces (newline rest others ec et f g s) = ascii_piece (codes "\n") rest (Raw (codes " ") 1) others ec et refl (inr (refl, refl, refl)) refl (pieces s)
-pieces (blank rest others ec et s) = ascii_piece (codes " ") rest (Raw (codes " ") 1) others ec et refl (inl refl) refl (pieces s)
+pieces (newline rest others ec et f g s) = ascii_piece (codes "\n") rest (Raw (codes " ") 1) others ec et refl (inr (refl, refl, refl)) blank_good (pieces s)
+pieces (blank rest others ec et s) = ascii_piece (codes " ") rest (Raw (codes " ") 1) others ec et refl (inl refl) blank_good (pieces s)
 pieces (word bytes rest others ec et w r s) =
-    piece [] bytes [] rest (Raw bytes _) others ec et refl refl (inl refl) (word_line bytes w.1)
+    piece [] bytes [] rest (Raw bytes _) others ec et refl refl (inl refl) (word_line bytes w.1, λ l. refl, λ o. refl, λ o. grind arith)
     (λ u. utf8_cut bytes rest (grind arith) (subst (λ t. IsUtf8 t) et u)) (pieces s)
-pieces (opening line rest next others ec et some l p s) = fence_line line rest next _ others ec et l p (pieces s)
-pieces (later line rest next others ec et some l f p s) = fence_line line rest next _ others ec et l p (pieces s)
-pieces (closing line rest next others ec et l t f p s) = fence_line line rest next _ others ec et l p (pieces s)
+pieces (opening line rest next others ec et some l p s) = fence_line line rest next others ec et l p (pieces s)
+pieces (later line rest next others ec et some l f p s) = fence_line line rest next others ec et l p (pieces s)
+pieces (closing line rest next others ec et l t f p s) = fence_line line rest next others ec et l p (pieces s)
 pieces (closing_paragraph line rest others ec et l t f s) =
-    piece [] line [] rest (Raw line _) others ec et refl refl (inl refl) l
+    piece [] line [] rest (Raw line _) others ec et refl refl (inl refl) (fence_good line l)
     (λ u. utf8_cut line rest (grind arith) (subst (λ t. IsUtf8 t) et u)) (pieces s) where
       two : IsLineEnd rest
       two = subst (λ t. IsLineEnd t) (sym (starts_front (codes "\n\n") rest f)) refl

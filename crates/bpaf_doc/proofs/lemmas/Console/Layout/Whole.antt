@@ -78,7 +78,7 @@ base_blank width =
     let asked_line : IsAskedLine blank_page = λ o. absurd cc in
     let asked_blank : IsAskedBlank blank_page = λ o. absurd cc in
     let last : IsLast blank_page = λ m before e h i n. nothing_cut m before e h in
-    search (rules, nothing_cut)
+    search rules
 
 base_grows : {width : ℕ} {margin_of : ℕ → ℕ} {st after : State} {next : Next} → Suits margin_of st next → Grows width st next after → Base width st → Base width after
 base_grows {width} suits g b = record {
@@ -120,7 +120,7 @@ breaks_blank : (width : ℕ) (rule : Rule) → BreaksBy width rule blank_page
 breaks_blank width rule = record { roomy = λ m before e h run. nothing_cut m before e h; no_room = tt }
 
 clearly_blank : (width deepest : ℕ) (margin_of : ℕ → ℕ) → Clearly width deepest margin_of blank_page
-clearly_blank width deepest margin_of = let heavy : IsHeavy blank_page = λ m before e h w n. nothing_cut m before e h in search (rules, nothing_cut, breaks_blank)
+clearly_blank width deepest margin_of = let heavy : IsHeavy blank_page = λ m before e h w n. nothing_cut m before e h in search (rules, breaks_blank)
 
 clearly_grows : {width deepest : ℕ} {margin_of : ℕ → ℕ} {st after : State} {next : Next} → width < 1_000_000 → Suits margin_of st next → IsClear st next → IsShallow deepest next
     → Grows width st next after → Base width st → Clearly width deepest margin_of st → Clearly width deepest margin_of after

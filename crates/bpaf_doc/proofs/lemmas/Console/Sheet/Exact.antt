@@ -19,7 +19,8 @@ use Rattle.bpaf_doc.proofs.lemmas.Console.Layout.Back.{by_test, by_cases}
 use Rattle.bpaf_doc.proofs.lemmas.Console.Layout.Turned.{reverse_cons}
 use Rattle.bpaf_doc.proofs.lemmas.Console.Margins.{top, stack_at, stack_at-more, shifted, shift_at, shift_at-skipped, shift_at-shown, margin-le, margin-indent, margin-level, tab_stop-le}
 use Rattle.bpaf_doc.proofs.lemmas.Console.Pairs.{KnowsPairs-more, knows_start, skips_is}
-use Rattle.bpaf_doc.proofs.lemmas.Console.Sheet.Whole.{get_from_drop, drop_next, Each, IsGood, text_good}
+use Rattle.bpaf_doc.proofs.lemmas.Splitter.Pieces.{IsGood}
+use Rattle.bpaf_doc.proofs.lemmas.Console.Sheet.Whole.{get_from_drop, drop_next, Each, text_good}
 use Rattle.bpaf_doc.proofs.lemmas.Console.Tabs.{widest_from, tab_stop-walk}
 use Rattle.std.specs.List.{enumerate_from}
 use Rattle.bpaf_doc.specs.Console.Steps.Text.{console_text}

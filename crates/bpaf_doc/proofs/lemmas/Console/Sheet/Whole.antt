@@ -7,12 +7,11 @@ use Rattle.std.proofs.lemmas.List.{append-nil, reverse-reverse, length-drop}
 use Rattle.std.proofs.lemmas.List.Elements.{All-get_or}
 use Rattle.std.proofs.lemmas.Option.{get_or_from_slice_get, slice_get_within}
 use Rattle.std.proofs.lemmas.Grind.{flat_map-append, common_steps}
-use Rattle.bpaf_doc.proofs.lemmas.Splitter.Pieces.{word_line}
-use Rattle.unicode_width.specs.Width.{str_width, step, past_emoji}
+use Rattle.bpaf_doc.proofs.lemmas.Splitter.Pieces.{Pieces, none as no_pieces, piece as stands, pieces, IsGood}
 use Rattle.bpaf_doc.specs.declared.buffer.Block.{Block}
 use Rattle.bpaf_doc.specs.declared.buffer.Style.{Style}
 use Rattle.bpaf_doc.specs.Buffer.Parts.{Part, Text, Start, End, ink, part_bytes, HasUtf8Texts}
-use Rattle.bpaf_doc.specs.Splitter.Chunks.{Chunk, Raw, Paragraph, LineBreak, IsLine, IsOrdinary, has_some, columns, chunks_of, chunk_ink, fence_weight, Spells, Plain, nothing, code_line, fence, before_code, paragraph, line_break, newline, blank, word, opening, later, closing, closing_paragraph, Form}
+use Rattle.bpaf_doc.specs.Splitter.Chunks.{Chunk, Raw, Paragraph, LineBreak, IsLine, IsOrdinary, has_some, columns, chunks_of, chunk_ink, Plain}
 use Rattle.bpaf_doc.specs.Splitter.Promises.{IsText}
 use Rattle.bpaf_doc.specs.Shown.{console_ink, mark_bytes, numbered, shown_chunks, shown_part_ink}
 use Rattle.bpaf_doc.specs.Console.Margin.{margin, greatest_margin, is_skipped, Level}
@@ -37,41 +36,13 @@ use Rattle.bpaf_doc.proofs.lemmas.Console.Sheet.Grows.{Draws, raw_placed, RawTo,
 
 -- ---- what is known of the chunks of a text
 
--- a Raw chunk weighs its columns, unless it is a line of code, and has some bytes
-abbrev pub IsGood : Chunk → Type 0
-IsGood (Raw bytes weight) = IsLine bytes × (weight < 1_000_000 → weight ≡ columns bytes) × (IsOrdinary (Raw bytes weight) → weight ≡ columns bytes) × (IsOrdinary (Raw bytes weight) → has_some bytes ≡ true)
-IsGood Paragraph = ⊤
-IsGood LineBreak = ⊤
-
 abbrev pub Each : (Chunk → Type 0) → List Chunk → Type 0
 Each P [] = ⊤
 Each P (x ∷ xs) = P x × Each P xs
 
-blank_columns : columns (codes " ") ≡ 1
-unfolding chars str_width step past_emoji
-blank_columns = refl
-
-fence_good : (line : List ℕ) → IsLine line → IsGood (Raw line fence_weight)
-fence_good line l = (l, λ small. absurd (omega arith), λ o. absurd (let no : false ≡ true = o in cc), λ o. absurd (let no : false ≡ true = o in cc))
-
-good_chunks : {form : Form} {chunks : List Chunk} {text : List ℕ} → Spells form chunks text → Each IsGood chunks
-good_chunks (nothing e t) = subst (λ cs. Each IsGood cs) (sym e) tt
-good_chunks (code_line line rest others e t l m s) =
-    subst (λ cs. Each IsGood cs) (sym e) (((l, λ small. absurd (omega arith), λ o. absurd (let no : false ≡ true = o in cc), λ o. absurd (let no : false ≡ true = o in cc))), good_chunks s)
-good_chunks (fence rest others e t a s) = subst (λ cs. Each IsGood cs) (sym e) (tt, good_chunks s)
-good_chunks (before_code rest others e t a s) = subst (λ cs. Each IsGood cs) (sym e) (tt, good_chunks s)
-good_chunks (paragraph rest others e t a b s) = subst (λ cs. Each IsGood cs) (sym e) (tt, good_chunks s)
-good_chunks (line_break rest others e t a s) = subst (λ cs. Each IsGood cs) (sym e) (tt, good_chunks s)
-good_chunks (newline rest others e t a b s) =
-    subst (λ cs. Each IsGood cs) (sym e) (((refl, λ l. sym blank_columns, λ o. sym blank_columns, λ o. refl)), good_chunks s)
-good_chunks (blank rest others e t s) =
-    subst (λ cs. Each IsGood cs) (sym e) (((refl, λ l. sym blank_columns, λ o. sym blank_columns, λ o. refl)), good_chunks s)
-good_chunks (word bytes rest others e t w r s) =
-    subst (λ cs. Each IsGood cs) (sym e) (((word_line bytes w.1, λ l. refl, λ o. refl, λ o. grind arith)), good_chunks s)
-good_chunks (opening line rest next others e t n l p s) = subst (λ cs. Each IsGood cs) (sym e) (fence_good line l, good_chunks s)
-good_chunks (later line rest next others e t n l a p s) = subst (λ cs. Each IsGood cs) (sym e) (fence_good line l, good_chunks s)
-good_chunks (closing line rest next others e t l a b p s) = subst (λ cs. Each IsGood cs) (sym e) (fence_good line l, good_chunks s)
-good_chunks (closing_paragraph line rest others e t l a b s) = subst (λ cs. Each IsGood cs) (sym e) (fence_good line l, good_chunks s)
+good_chunks : {chunks : List Chunk} {text : List ℕ} → Pieces chunks text → Each IsGood chunks
+good_chunks (no_pieces ec et) = subst (λ cs. Each IsGood cs) (sym ec) tt
+good_chunks (stands gap there after rest chunk others ec et g h t good w s) = subst (λ cs. Each IsGood cs) (sym ec) (good, good_chunks s)
 
 each_of_all : (P : Chunk → Type 0) (xs : List Chunk) → All P xs → Each P xs
 each_of_all P [] h = tt
@@ -79,7 +50,7 @@ each_of_all P (x ∷ xs) h = (h 0 x (omega arith), each_of_all P xs (λ k d l. h
 
 pub text_good : (text : List ℕ) → Each IsGood (chunks_of text)
 unfolding chunks_of
-text_good text = good_chunks (spells_in Plain text)
+text_good text = good_chunks (pieces (spells_in Plain text))
 
 each_taken : (P : Chunk → Type 0) (n : ℕ) (xs : List Chunk) → Each P xs → Each P (take n xs)
 each_taken P (suc n) (x ∷ xs) h = (h.0, each_taken P n xs h.1)
