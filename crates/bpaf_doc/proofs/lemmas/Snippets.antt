@@ -35,8 +35,7 @@ module _ {M : Type 0} where
     pub quiet_followed : (asks : Fragment → Bool) → ((f : Fragment) (rest : List (Snippet M)) → asks f ≡ false → is_followed f rest ≡ true)
         → (ss rest : List (Snippet M)) → list_any asks (fragments_in ss) ≡ false → all_followed rest ≡ true → all_followed (ss ++ rest) ≡ true
     quiet_followed asks quiet [] rest e h = h
-    quiet_followed asks quiet (Put mark ∷ ss) rest e h = quiet_followed asks quiet ss rest e h
-    quiet_followed asks quiet (Of f ∷ ss) rest e h = grind (arith, quiet_followed asks quiet ss rest, quiet f (ss ++ rest), and_from)
+    quiet_followed asks quiet (x ∷ ss) rest e h = grind (arith, quiet_followed asks quiet ss, quiet, and_from)
 
   -- ---- what stands before a fragment that passes
 

@@ -73,9 +73,7 @@ module _ (start : ℕ) (es : List PartEnd) (rest : List ℕ) (k : Kind) where
   pub AreEnds-push_empty : AreEnds start es rest → AreEnds start (es ++ empty_end ∷ []) rest
   AreEnds-push_empty are =
       subst (λ bytes. AreEnds start (es ++ empty_end ∷ []) bytes) (append-nil rest)
-      (AreEnds-append start es (empty_end ∷ []) rest [] are (grind arith, drop_none (start + length rest - (start + length rest)))) where
-        drop_none : (n : ℕ) → drop n (let none : List ℕ = [] in none) ≡ []
-        drop_none n = drop_all n [] (omega arith)
+      (AreEnds-append start es (empty_end ∷ []) rest [] are (grind arith, (drop_all (start + length rest - (start + length rest)) [] (omega arith))))
 
 -- ---- parts of another payload
 

@@ -1,12 +1,10 @@
 -- A stack of margins, walked over the marks of a document, has the margin at each place on top.
-use Rattle.std.specs.Prelude.{◌≡◌, ℕ, zero, suc, ◌+◌, ◌*◌, ◌<◌, ◌≤◌, max, ⊤, true, false, List, [], ◌∷◌, ◌++◌, length, refl, map, filter, take, drop, fold, get_or, nat_le, if◌then◌else◌}
+use Rattle.std.specs.Prelude.{◌≡◌, ℕ, zero, suc, ◌+◌, ◌*◌, ◌<◌, ◌≤◌, max, ⊤, false, List, [], ◌∷◌, ◌++◌, length, refl, map, filter, take, drop, fold, get_or, nat_le, if◌then◌else◌}
 use Rattle.std.specs.List.{enumerate_from}
 use Rattle.std.proofs.Common.{sym, ◌∙◌, ap, arith, add-one}
 use Rattle.std.proofs.lemmas.Bool.Decides.{nat_tests}
 use Rattle.std.proofs.Math.Nat.{zero-add, add-zero}
-use Rattle.bpaf_doc.specs.declared.buffer.Block.{Block}
-use Rattle.bpaf_doc.specs.declared.buffer.Style.{Style}
-use Rattle.bpaf_doc.specs.Buffer.Parts.{Part, Text, End}
+use Rattle.bpaf_doc.specs.Buffer.Parts.{Part}
 use Rattle.bpaf_doc.specs.Shown.{stays_open}
 use Rattle.bpaf_doc.proofs.lemmas.Lists.Opening.{closed, stays_open_is}
 use Rattle.bpaf_doc.specs.Console.Margin.{greatest, is_skipped, term_lengths, tab_stop, Shift, Indent, Outdent, Level, part_shift, shifts, is_indent, is_outdent, indents_in_force, margin, greatest_margin}
@@ -84,12 +82,9 @@ abbrev Falls : List ℕ → Type 0
 Falls [] = ⊤
 Falls (m ∷ ms) = (top ms ≤ m) × Falls ms
 
-falls_after : (ss : List Shift) (stack : List ℕ) → Falls stack → Falls (stack_after ss stack)
+pub falls_after : (ss : List Shift) (stack : List ℕ) → Falls stack → Falls (stack_after ss stack)
 falls_after [] stack h = h
-falls_after (Indent n ∷ ss) stack h = falls_after ss ((top stack + n) ∷ stack) (omega arith, h)
-falls_after (Outdent ∷ ss) [] h = falls_after ss [] h
-falls_after (Outdent ∷ ss) (m ∷ ms) h = falls_after ss ms h.1
-falls_after (Level ∷ ss) stack h = falls_after ss stack h
+falls_after (x ∷ ss) stack h = grind (arith, falls_after ss)
 
 -- the stack after the part at place j by that before it
 module _ (document : List Part) (j : ℕ) (part : Part) (rest : List Part) (here : drop j document ≡ part ∷ rest) where
@@ -100,20 +95,8 @@ module _ (document : List Part) (j : ℕ) (part : Part) (rest : List Part) (here
   pub margin-indent : (n : ℕ) → shift_at document j part ≡ Indent n → margin document j ≡ top (stack_at document j) + n
   margin-indent n e = sym (top-margin document j) ∙ ap top (stack_at-more document j part rest here) ∙ ap (λ s. top (shifted s (stack_at document j))) e
 
--- which shift a part has
-pub shift_at-skipped : (document : List Part) (j : ℕ) (part : Part) → is_skipped document j ≡ true → shift_at document j part ≡ Level
-shift_at-skipped document j part e = rw e refl
-
 pub shift_at-shown : (document : List Part) (j : ℕ) (part : Part) → is_skipped document j ≡ false → shift_at document j part ≡ part_shift document j part
 shift_at-shown document j part e = rw e refl
-
-pub shift_at-text : (document : List Part) (j : ℕ) (bytes : List ℕ) (style : Style) → shift_at document j (Text bytes style) ≡ Level
-shift_at-text document j bytes style = grind arith
-
--- a block end never raises the margin, skipped or not
-pub margin-end : (document : List Part) (j : ℕ) (b : Block) (rest : List Part) → drop j document ≡ End b ∷ rest → margin document j ≤ top (stack_at document j)
-margin-end document j b rest here =
-    grind (arith, margin-level, top-margin, top, stack_at-more, falls_after, shift_at-shown)
 
 -- ---- bounds
 

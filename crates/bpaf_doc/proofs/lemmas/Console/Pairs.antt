@@ -141,11 +141,8 @@ module _ (document : List Part) where
   KnowsPairs-found index pairs next here knows passed e h = record {
     found = λ pair. (index, (here, sym h ∙ pair), sym e);
     ahead = λ l. (index, omega arith, sym e, h);
-    earlier = λ i l skips. at i skips (cases i l);
+    earlier = λ i l skips. at i skips (grind arith);
   } where
-    cases : (i : ℕ) → i < index + 1 → (i < index) ⊎ (i ≡ index)
-    cases i l = grind arith
-
     -- a start stands neither at the end of a section nor in a pair
     not_end : (i : ℕ) → index + 1 ≡ after_section4 document i → ⊥
     not_end i same = false≢true (end_there document i index (Start blocks.Section4) same here)
@@ -156,11 +153,8 @@ module _ (document : List Part) where
     not_second : (i : ℕ) → skips_pair document i ≡ true → index ≡ after_section4 document i + 1 → ⊥
     not_second i pair same = grind (arith, pair_there)
 
-    behind : (a : ℕ) → a ≤ index + 1 → (index + 1 ≡ a → ⊥) → (index ≡ a → ⊥) → (index ≡ a + 1 → ⊥) → a + 2 < index + 1
-    behind a l no_end no_first no_second = grind arith
-
     at : (i : ℕ) → SkipsAt document i → (i < index) ⊎ (i ≡ index) → ((after_section4 document i ≡ next.end + 1) × (next.has_pair ≡ true)) ⊎ (after_section4 document i + 2 < index + 1)
-    at i h1 h2 = grind (arith, behind, not_end, not_first, not_second)
+    at i h1 h2 = grind (arith, not_end, not_first, not_second)
 
   -- ---- what it tells of a mark
 

@@ -24,7 +24,7 @@ abbrev pub page_at : List ℕ → ℕ → PageSoFar
 page_at text column = record { text = text; column = column; request = NoBreak; is_pending = false }
 
 module _ (width margin : ℕ) (small : width ≤ 18446744073709551615) where
-  fits : (text : List ℕ) (column n : ℕ) → column + n ≤ width → has_no_room width n (page_at text column) ≡ false
+  pub fits : (text : List ℕ) (column n : ℕ) → column + n ≤ width → has_no_room width n (page_at text column) ≡ false
   fits text column n h = le-ltb width (saturated (column + n)) (omega (arith, h))
 
   pub no_break : (text : List ℕ) (column n : ℕ) → column + n ≤ width → wraps width n (page_at text column) ≡ false
@@ -33,7 +33,7 @@ module _ (width margin : ℕ) (small : width ≤ 18446744073709551615) where
   pub no_room : (text : List ℕ) (column n : ℕ) → column + n ≤ width → room_made width n (page_at text column) ≡ page_at text column
   no_room text column n h = grind (arith, fits)
 
-  weighs : (raw : List ℕ) (weight : ℕ) → weight ≡ columns raw → columns_of raw weight ≡ weight
+  pub weighs : (raw : List ℕ) (weight : ℕ) → weight ≡ columns raw → columns_of raw weight ≡ weight
   weighs raw weight e = elim (nat_lt weight 1000000) as (λ (b : Bool). (if b then weight else columns raw) ≡ weight) [ true ↦ refl | false ↦ sym e ]
 
   word_put : (text raw : List ℕ) (column weight : ℕ) → weight ≡ columns raw → margin ≤ column → column + weight ≤ width

@@ -1,7 +1,7 @@
 -- One walk over the parts gives the tab stop.
 use Rattle.std.proofs.lemmas.Grind.{common_steps}
 use Rattle.std.specs.List.{list_any, before_first, after_last, enumerate_from}
-use Rattle.std.proofs.Common.{sym, ◌∙◌, ap, arith, append_assoc, length-append, take_at, ◌≡◌, ℕ, ◌+◌, min, max, Bool, true, false, not, ◌&&◌, List, [], ◌∷◌, ◌++◌, length, refl, map, filter, take, fold, sum_by, nat_le, if◌then◌else◌}
+use Rattle.std.proofs.Common.{sym, ◌∙◌, arith, append_assoc, length-append, take_at, ◌≡◌, ℕ, ◌+◌, min, max, Bool, true, false, not, ◌&&◌, List, [], ◌∷◌, ◌++◌, length, refl, map, filter, take, fold, sum_by, nat_le, if◌then◌else◌}
 use Rattle.std.proofs.lemmas.List.Folds.{list_any-append}
 use Rattle.std.proofs.lemmas.List.Sums.{sum_by-cons, take_while-cons}
 use Rattle.std.proofs.lemmas.Bool.Decides.{nat_tests}
@@ -10,7 +10,7 @@ use Rattle.std.proofs.Math.Nat.{zero-add}
 use Rattle.bpaf_doc.specs.declared.buffer.Block.TheVariants as blocks
 use Rattle.bpaf_doc.specs.Buffer.Parts.{Part, Text, Start, End}
 use Rattle.bpaf_doc.specs.Splitter.Chunks.{columns}
-use Rattle.bpaf_doc.specs.Console.Margin.{is_term_start, is_term_end, text_columns, term_length, tab_stop}
+use Rattle.bpaf_doc.specs.Console.Margin.{is_term_start, is_term_end, text_columns, term_length}
 use Rattle.std.proofs.lemmas.List.{drop-append-le, drop_all, reverse-append}
 
 -- ---- the walk
@@ -85,7 +85,7 @@ quiet document before rest part widest s e n same more = grind (arith, passed do
 counted : (widest n : ℕ) (ns : List ℕ) → fold max (wider widest (sat n)) (filter (λ n. nat_le n 24) ns) ≡ fold max widest (filter (λ n. nat_le n 24) (n ∷ ns))
 counted widest n ns = grind (arith, nat_tests)
 
-walk : (document before rest : List Part) (widest : ℕ) → document ≡ before ++ rest
+pub walk : (document before rest : List Part) (widest : ℕ) → document ≡ before ++ rest
     → widest_from widest (is_in_term before) (sat (term_length before)) rest ≡ widest_of document before rest widest
 walk document before [] widest e = refl
 walk document before (Text bytes style ∷ rest) widest e = grind (arith, common_steps, walk document (before ++ Text bytes style ∷ []) rest widest, passed, is_in_term-push, and-true, term_length-push)
@@ -93,7 +93,3 @@ walk document before (Start blocks.ItemTerm ∷ rest) widest e = grind (arith, c
 walk document before (Start b ∷ rest) widest e = quiet document before rest (Start b) widest refl refl refl e (λ same. walk document (before ++ Start b ∷ []) rest widest same)
 walk document before (End blocks.ItemTerm ∷ rest) widest e = grind (arith, common_steps, walk document (before ++ End blocks.ItemTerm ∷ []) rest (wider widest (sat (term_length before))), passed, is_in_term-push, and-false, term_length-push, take_at, counted)
 walk document before (End b ∷ rest) widest e = quiet document before rest (End b) widest refl refl refl e (λ same. walk document (before ++ End b ∷ []) rest widest same)
-
--- from the start on it gives the tab stop
-pub tab_stop-walk : (document : List Part) → widest_from 0 false 0 document + 4 ≡ tab_stop document
-tab_stop-walk document = ap (λ n. n + 4) (walk document [] document 0 refl) ∙ omega arith

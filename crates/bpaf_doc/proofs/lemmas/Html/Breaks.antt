@@ -1,12 +1,10 @@
 -- A break stands where a page has to have one, and nothing stands between words.
-use Rattle.std.proofs.Common.{◌≡◌, ℕ, Bool, true, false, List, [], ◌∷◌, ◌++◌, refl, sym, ap, ◌∙◌, arith, not, ◌&&◌, ◌||◌, if◌then◌else◌, IsTrue, filter}
+use Rattle.std.proofs.Common.{◌≡◌, ℕ, Bool, true, false, List, [], ◌∷◌, ◌++◌, refl, ap, ◌∙◌, arith, not, ◌&&◌, ◌||◌, if◌then◌else◌, IsTrue}
 use Rattle.std.specs.List.{list_any}
-use Rattle.std.specs.Char.{is_not_whitespace}
 use Rattle.std.proofs.lemmas.Str.{chars-nil}
 use Rattle.std.proofs.lemmas.Bool.{false≢true, and_parts, and_from}
-use Rattle.std.proofs.Math.Bool.{and-false}
 use Rattle.bpaf_doc.specs.declared.buffer.Block.TheVariants as blocks
-use Rattle.bpaf_doc.specs.Splitter.Chunks.{Raw, Paragraph, LineBreak, is_inked, is_raw, has_some}
+use Rattle.bpaf_doc.specs.Splitter.Chunks.{Raw, Paragraph, LineBreak, is_inked, is_raw}
 use Rattle.bpaf_doc.specs.Html.Fragments.{Fragment, Shown, Start, End, shows}
 use Rattle.bpaf_doc.specs.Html.Page.{HtmlSnippet, Break, asks_break, is_break}
 use Rattle.bpaf_doc.specs.Snippets.{Put, Of, fragments_in, Touch}
@@ -57,8 +55,7 @@ cut_soon p (End blocks.Header ∷ fs) h = rw h refl
 cut_soon p (f ∷ fs) h = quiet_soon (snippets_of p f) (cut_from (page_after p f) fs) (ap (list_any asks_break) (step-fragments p f)) (cut_soon (page_after p f) fs (grind arith))
 
 inked_is_text : (bytes : List ℕ) (weight : ℕ) (fresh : Bool) → is_inked (Raw bytes weight) ≡ true → (fresh && is_empty bytes) ≡ false
-inked_is_text [] weight fresh h = absurd (false≢true (sym (ap (λ cs. has_some (filter is_not_whitespace cs)) chars-nil) ∙ h))
-inked_is_text (b ∷ bs) weight fresh h = and-false fresh
+inked_is_text z0 weight fresh h = grind (arith, false≢true, chars-nil)
 
 implied : (a b : Bool) → (a ≡ true → b ≡ true) → (not a || b) ≡ true
 implied a b i = grind arith

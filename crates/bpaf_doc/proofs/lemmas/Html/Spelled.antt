@@ -17,9 +17,7 @@ pub plain_run : (f : ℕ → List ℕ) (test : ℕ → Bool) → ((b : ℕ) → 
     → ((k : ℕ) → k < length bytes → ¬ test (get_or bytes k 0) ≡ true) → flat_map f bytes ≡ bytes
 plain_run f test same [] none = refl
 plain_run f test same (b ∷ bytes) none =
-    ap₂ (λ x y. x ++ y) (same b (refused (test b) (none 0 (omega arith)))) (plain_run f test same bytes (λ k l. none (suc k) (omega (arith, l)))) where
-      refused : (t : Bool) → ¬ t ≡ true → t ≡ false
-      refused t f = grind arith
+    ap₂ (λ x y. x ++ y) (same b (grind (arith, (none 0 (omega arith))))) (plain_run f test same bytes (λ k l. none (suc k) (omega (arith, l))))
 
 -- a character that is written in another way
 abbrev IsSpelled : Language → ℕ → Type 0

@@ -8,7 +8,7 @@ use Rattle.std.proofs.lemmas.Bool.Decides.{nat_tests}
 use Rattle.bpaf_doc.specs.Shown.{fronts, stays_open}
 use Rattle.bpaf_doc.proofs.lemmas.Lists.Counting.{one_if, count_by-cons}
 
-list_all-ext : {A : Type 0} (p q : A → Bool) → ((x : A) → p x ≡ q x) → (xs : List A) → list_all p xs ≡ list_all q xs
+pub list_all-ext : {A : Type 0} (p q : A → Bool) → ((x : A) → p x ≡ q x) → (xs : List A) → list_all p xs ≡ list_all q xs
 list_all-ext p q same [] = refl
 list_all-ext p q same (x ∷ xs) = rw (same x, list_all-ext p q same xs) refl
 
@@ -41,7 +41,7 @@ module _ {A : Type 0} (opens closes : A → Bool) (apart : (x : A) → closes x 
     at [] = rw first refl
     at (y ∷ ys) = rw first refl
 
-  stays_by_is : (more : ℕ) (xs : List A) → stays_by more xs ≡ nat_le (closed opens closes xs) more
+  pub stays_by_is : (more : ℕ) (xs : List A) → stays_by more xs ≡ nat_le (closed opens closes xs) more
   stays_by_is more [] = rw (none_within more) (grind (arith, nat_tests))
   stays_by_is more (x ∷ xs) = at more (cases_Bool (closes x)) (cases_Bool (opens x)) (λ k. stays_by_is k xs) where
     at : (more : ℕ) → (closes x ≡ true) ⊎ (closes x ≡ false) → (opens x ≡ true) ⊎ (opens x ≡ false) → ((k : ℕ) → stays_by k xs ≡ nat_le (closed opens closes xs) k)

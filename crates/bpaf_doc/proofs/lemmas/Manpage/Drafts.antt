@@ -17,7 +17,7 @@ use Rattle.bpaf_doc.specs.Manpage.Steps.Draft.{ControlCall, TextCall, pieces_of,
 use Rattle.bpaf_doc.specs.declared.buffer.Style.{Style}
 use Rattle.bpaf_doc.specs.declared.buffer.Block.{Block}
 use Rattle.bpaf_doc.specs.declared.buffer.Block.TheVariants as block
-use Rattle.bpaf_doc.proofs.lemmas.Manpage.LookingBack.{last_is_start-append, captured_texts-append, places-append}
+use Rattle.bpaf_doc.proofs.lemmas.Manpage.LookingBack.{captured_texts-append, places-append}
 use Rattle.bpaf_doc.proofs.lemmas.Manpage.PageRead.{end_calls, place_calls, page_read}
 
 -- ---- the pieces of the calls
@@ -41,22 +41,18 @@ one_more page text by_page done part more e same =
     ap (λ t. with_written t more) e ∙ written_on Handle (page ++ document_pieces by_page done) more
     ∙ ap (text_of Handle) (append_assoc page (document_pieces by_page done) more ∙ ap (λ t. page ++ t) (ap (λ t. document_pieces by_page done ++ t) same ∙ sym (grind (arith, places-append, flat_map-append, append-nil))))
 
--- the last mark of a term, after one more part
-strips-append : (by_page : Bool) (before : List Part) (part : Part) → strips_newlines by_page (before ++ part ∷ []) ≡ (if is_term_mark part then is_start (Some part) else strips_newlines by_page before)
-strips-append by_page before part = ap (λ parts. start_or by_page (find is_term_mark parts)) (reverse-append before (part ∷ [])) ∙ grind arith
-
 -- a text, by whether it is captured
 text_by : (captures : Bool) (page : List (Piece Escape)) (by_page : Bool) (done : List Part) (so_far : RoffText) (strips : Bool) (heading text : List ℕ) (how : Style) → Holds page by_page done (record { page = so_far; strips = strips; heading = heading; captures = captures })
     → Holds page by_page (done ++ Text text how ∷ []) (after_text (record { page = so_far; strips = strips; heading = heading; captures = captures }) text how)
 text_by true page by_page done so_far strips heading text how h =
-    grind (arith, append-nil, document_pieces, places-append, flat_map-append, strips-append, last_is_start-append, captured_texts-append)
+    grind (arith, append-nil, document_pieces, places-append, flat_map-append, start_or, find, is_term_mark, reverse-append, is_start, captured_texts-append)
 text_by false page by_page done so_far strips heading text how h =
     let written = sym h.captures in
     record {
       text =
           one_more page so_far by_page done (Text text how) (flat_map pieces_of (control_calls (style_name how) ++ TextCall strips (font_of how) text ∷ [])) h.text (rw written ((grind arith) ∙ ap (λ strip. style_pieces how ++ text_pieces strip ((font_of how, text) ∷ [])) h.strips));
-      strips = h.strips ∙ sym (strips-append by_page done (Text text how));
-      captures = h.captures ∙ sym (last_is_start-append is_section_mark done (Text text how));
+      strips = h.strips ∙ sym (ap (λ parts. start_or by_page (find is_term_mark parts)) (reverse-append done ((Text text how) ∷ [])) ∙ grind arith);
+      captures = h.captures ∙ sym (ap (λ parts. is_start (find is_section_mark parts)) (reverse-append done ((Text text how) ∷ [])) ∙ (grind arith));
       heading =
           h.heading ∙ sym (append-nil (captured_texts done)) ∙ ap (λ x. captured_texts done ++ (if x then text else [])) h.captures ∙ sym (captured_texts-append done (Text text how));
     }
@@ -64,8 +60,10 @@ text_by false page by_page done so_far strips heading text how h =
 start_holds : (page : List (Piece Escape)) (by_page : Bool) (done : List Part) (draft : Draft) (b : Block) → Holds page by_page done draft → Holds page by_page (done ++ Start b ∷ []) (after_start draft b)
 start_holds page by_page done draft b h = record {
   text = one_more page draft.page by_page done (Start b) _ h.text (start_same b);
-  strips = (grind arith) ∙ ap (λ x. if is_term_mark (Start b) then true else x) h.strips ∙ sym (strips-append by_page done (Start b));
-  captures = (grind arith) ∙ ap (λ x. if is_section b then true else x) h.captures ∙ sym (last_is_start-append is_section_mark done (Start b));
+  strips =
+      (grind arith) ∙ ap (λ x. if is_term_mark (Start b) then true else x) h.strips ∙ sym (ap (λ parts. start_or by_page (find is_term_mark parts)) (reverse-append done ((Start b) ∷ [])) ∙ grind arith);
+  captures =
+      (grind arith) ∙ ap (λ x. if is_section b then true else x) h.captures ∙ sym (ap (λ parts. is_start (find is_section_mark parts)) (reverse-append done ((Start b) ∷ [])) ∙ (grind arith));
   heading = h.heading ∙ sym (append-nil (captured_texts done)) ∙ sym (captured_texts-append done (Start b));
 }
 
@@ -76,15 +74,18 @@ section_holds page by_page done draft b name named section term h = record {
   text = one_more page draft.page by_page done (End b) (flat_map pieces_of (ControlCall name (str_to_ascii_uppercase draft.heading ∷ []) ∷ [])) h.text
       (ap (λ text. flat_map pieces_of (ControlCall name (str_to_ascii_uppercase text ∷ []) ∷ [])) h.heading
       ∙ ap (λ found. flat_map pieces_of (end_calls done b found)) (sym named) ∙ (grind arith));
-  strips = h.strips ∙ sym (strips-append by_page done (End b) ∙ ap (λ x. if x then false else strips_newlines by_page done) term);
-  captures = sym (last_is_start-append is_section_mark done (End b) ∙ ap (λ x. if x then false else last_is_start is_section_mark done) section);
+  strips =
+      h.strips ∙ sym ((ap (λ parts. start_or by_page (find is_term_mark parts)) (reverse-append done ((End b) ∷ [])) ∙ grind arith) ∙ ap (λ x. if x then false else strips_newlines by_page done) term);
+  captures =
+      sym ((ap (λ parts. is_start (find is_section_mark parts)) (reverse-append done ((End b) ∷ [])) ∙ (grind arith)) ∙ ap (λ x. if x then false else last_is_start is_section_mark done) section);
   heading = sym (captured_texts-append done (End b) ∙ ap (λ x. if x then [] else captured_texts done ++ []) section);
 }
 
 -- the end of any other block
 block_holds : (page : List (Piece Escape)) (by_page : Bool) (done : List Part) (draft : Draft) (b : Block) → heading_name b ≡ None → is_section b ≡ false → Holds page by_page done draft
     → Holds page by_page (done ++ End b ∷ []) (after_block draft b)
-block_holds page by_page done draft b unnamed inner h = grind (arith, one_more page draft.page by_page done (End b), strips-append by_page done (End b), last_is_start-append is_section_mark done (End b), captured_texts-append done (End b), append-nil (captured_texts done))
+block_holds page by_page done draft b unnamed inner h =
+    grind (arith, one_more page draft.page by_page done (End b), start_or, find, is_term_mark, reverse-append, is_start, captured_texts-append done (End b), append-nil (captured_texts done))
 
 end_holds : (page : List (Piece Escape)) (by_page : Bool) (done : List Part) (draft : Draft) (b : Block) → Holds page by_page done draft → Holds page by_page (done ++ End b ∷ []) (after_end draft b)
 end_holds page by_page done draft block.Header h = section_holds page by_page done draft block.Header _ refl refl refl h

@@ -1,13 +1,9 @@
 -- What looking back from a place gives after one more part: what a loop over the parts keeps.
-use Rattle.std.proofs.Common.{ap, ◌∙◌, append_assoc, arith, ◌≡◌, Bool, List, [], ◌∷◌, ◌++◌, Some, find, if◌then◌else◌, refl}
+use Rattle.std.proofs.Common.{◌∙◌, append_assoc, arith, ◌≡◌, List, [], ◌∷◌, ◌++◌, if◌then◌else◌, refl}
 use Rattle.std.proofs.lemmas.List.{append-nil, reverse-append, drop-append-le, drop_all, length-append}
 use Rattle.std.proofs.lemmas.List.Concat.{flat_map-append}
 use Rattle.bpaf_doc.specs.Buffer.Parts.{Part}
-use Rattle.bpaf_doc.specs.Manpage.Events.{places, is_start, last_is_start, is_section_end, captured_text, captured_texts}
-
--- the last mark, after one more part
-pub last_is_start-append : (marks : Part → Bool) (before : List Part) (part : Part) → last_is_start marks (before ++ part ∷ []) ≡ (if marks part then is_start (Some part) else last_is_start marks before)
-last_is_start-append marks before part = ap (λ parts. is_start (find marks parts)) (reverse-append before (part ∷ [])) ∙ (grind arith)
+use Rattle.bpaf_doc.specs.Manpage.Events.{places, is_section_end, captured_text, captured_texts}
 
 -- the places, after one more part
 pub places-append : (done before : List Part) (part : Part) → places done (before ++ part ∷ []) ≡ places done before ++ (done ++ before, part) ∷ []

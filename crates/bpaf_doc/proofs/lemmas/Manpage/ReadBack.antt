@@ -203,10 +203,8 @@ first_written call calls before = rw (signs-append (pieces_of call) (flat_map pi
 
 -- a control's line is read as the control, after the line end that is due
 pub control_read : (name : List ℕ) (arguments : List (List ℕ)) (before : List ℕ) (x : Bool) → is_line_start before ≡ x → IsName name → (steps : List Step) (t : List ℕ) → Reads AtLineStart t (events_of_steps steps) → Reads (place_at x) ((line_break before ++ dot ∷ ((name ++ arguments_text arguments) ++ newline ∷ [])) ++ t) (due x (step_of (ControlCall name arguments) ∷ steps) ++ events_of_steps (step_of (ControlCall name arguments) ∷ steps))
-control_read name arguments before x e h steps t r = rw (append_assoc (line_break before) (dot ∷ ((name ++ arguments_text arguments) ++ newline ∷ [])) t) (by x (broken before _ (Control name (map word_of arguments) ∷ events_of_steps steps) x e (Reads.control name (arguments_text arguments) t (map word_of arguments) (events_of_steps steps) refl (ap (λ ys. dot ∷ ys) (append_assoc (name ++ arguments_text arguments) (newline ∷ []) t)) refl h (arguments_read arguments) r)))
-  where
-    by : {u : List ℕ} (y : Bool) → Reads (place_at y) u (newline_event y ++ (Control name (map word_of arguments) ∷ events_of_steps steps)) → Reads (place_at y) u (due y (step_of (ControlCall name arguments) ∷ steps) ++ events_of_steps (step_of (ControlCall name arguments) ∷ steps))
-    by y h = grind arith
+control_read name arguments before x e h steps t r =
+    rw (append_assoc (line_break before) (dot ∷ ((name ++ arguments_text arguments) ++ newline ∷ [])) t) (grind (arith, (broken before _ (Control name (map word_of arguments) ∷ events_of_steps steps) x e (Reads.control name (arguments_text arguments) t (map word_of arguments) (events_of_steps steps) refl (ap (λ ys. dot ∷ ys) (append_assoc (name ++ arguments_text arguments) (newline ∷ []) t)) refl h (arguments_read arguments) r))))
 
 pub control_ends : (name : List ℕ) (arguments : List (List ℕ)) (before : List ℕ) → is_line_start (before ++ (line_break before ++ dot ∷ ((name ++ arguments_text arguments) ++ newline ∷ []))) ≡ true
 control_ends name arguments before = let e : before ++ (line_break before ++ dot ∷ ((name ++ arguments_text arguments) ++ newline ∷ [])) ≡ (before ++ (line_break before ++ dot ∷ (name ++ arguments_text arguments))) ++ newline ∷ [] = simp append_assoc in rw e (is_line_start-last (before ++ (line_break before ++ dot ∷ (name ++ arguments_text arguments))) newline)

@@ -3,14 +3,15 @@ use Rattle.std.proofs.Common.{◌≡◌, Bool, true, false, List, [], ◌∷◌,
 use Rattle.std.specs.List.{list_any}
 use Rattle.std.proofs.lemmas.Bool.{false≢true, and_parts, and_from, not-true, or_right, cases_Bool}
 use Rattle.bpaf_doc.proofs.lemmas.Lists.Passing.{implies}
-use Rattle.bpaf_doc.specs.Splitter.Chunks.{Raw, is_ordinary, is_whole_line, is_paragraph, is_line_break}
+use Rattle.bpaf_doc.specs.Splitter.Chunks.{Raw, is_ordinary, is_whole_line, is_paragraph, is_line_break, code_weight, fence_weight}
 use Rattle.bpaf_doc.specs.Html.Fragments.{Fragment, Shown, shows}
 use Rattle.bpaf_doc.specs.Markdown.Page.{Newline, MarkdownSnippet, is_newline}
 use Rattle.bpaf_doc.specs.Snippets.{Put, Of, fragments_in, Touch}
 use Rattle.bpaf_doc.specs.Markdown.Steps.Page.{Marked, marked_after}
-use Rattle.bpaf_doc.proofs.lemmas.Markdown.Cut.{by_weight, fence_is_whole, code_is_whole, own_snippets, cut_from, item_snippets, step-flags, step-code, item-code, item_marks, new_line_marks}
+use Rattle.bpaf_doc.proofs.lemmas.Markdown.Cut.{by_weight, own_snippets, cut_from, item_snippets, step-flags, step-code, item-code, item_marks, new_line_marks}
 use Rattle.bpaf_doc.proofs.lemmas.Snippets.{all_followed, followed_at, quiet_followed, touches, other_touches, touching_between}
 use Rattle.bpaf_doc.proofs.lemmas.Markdown.Kept.{cut-fragments}
+use Rattle.std.proofs.Math.Bool.{and-false}
 
 -- ---- what follows a fragment
 
@@ -42,7 +43,7 @@ marks_followed marks rest none h = quiet_followed is_followed asks quiet marks r
 
 own_followed : (p : Marked) (f : Fragment) (rest : List MarkdownSnippet) → (shows is_ordinary f ≡ true → touches (shows is_ordinary) rest ≡ true) → followed rest ≡ true → followed (own_snippets p f ++ rest) ≡ true
 own_followed p f rest h1 h2 =
-    grind (arith, by_weight, new_line_marks, and_from, fence_is_whole, code_is_whole, append_assoc, marks_followed, quiet_followed, quiet)
+    grind (arith, by_weight, new_line_marks, and_from, not, code_weight, and-false, fence_weight, append_assoc, marks_followed, quiet_followed, quiet)
 
 -- what comes where no item waits and no code block is open
 cut_touches : (q : Marked) (fs : List Fragment) → q.pending ≡ false → q.in_code ≡ false → touches (shows is_ordinary) (cut_from q fs) ≡ true

@@ -180,12 +180,6 @@ SameMono before p = is_in_mono before ≡ nat_lt p.ends p.starts
 whole_text : (before : List Fragment) (style : Style) (bytes : List ℕ) (weight : ℕ) → is_ordinary (Raw bytes weight) ≡ false → fragment_text before (Shown style (Raw bytes weight)) ≡ bytes
 whole_text before style bytes weight e = grind (arith, and-false)
 
-pub fence_is_whole : (bytes : List ℕ) (weight : ℕ) → (weight == fence_weight) ≡ true → is_ordinary (Raw bytes weight) ≡ false
-fence_is_whole bytes weight e = ap (λ t. not (weight == code_weight) && not t) e ∙ and-false (not (weight == code_weight))
-
-pub code_is_whole : (bytes : List ℕ) (weight : ℕ) → (weight == code_weight) ≡ true → is_ordinary (Raw bytes weight) ≡ false
-code_is_whole bytes weight e = ap (λ t. not t && not (weight == fence_weight)) e
-
 pub new_line-spelled : (before : List Fragment) (p : Marked) → (with_new_line p).bytes ≡ p.bytes ++ spelled before (new_line_snippets p.bytes)
 new_line-spelled before p = grind (arith, append-nil p.bytes)
 
@@ -203,7 +197,7 @@ close-spelled before p = grind (arith, append-nil p.bytes)
 
 raw-spelled : (before : List Fragment) (p : Marked) (style : Style) (bytes : List ℕ) (weight : ℕ) → SameMono before p → (with_raw p bytes weight).bytes ≡ p.bytes ++ spelled before (raw_snippets p style bytes weight)
 raw-spelled before p style bytes weight mono =
-    grind (arith, common_steps, by_weight, new_line-spelled, new_line_marks, fence_is_whole, open-spelled, code_is_whole, and-true, close-spelled, append_assoc, append-nil, marks_then, whole_text)
+    grind (arith, common_steps, by_weight, new_line-spelled, new_line_marks, not, code_weight, and-false, open-spelled, fence_weight, and-true, close-spelled, append_assoc, append-nil, marks_then, whole_text)
 
 start-spelled : (before : List Fragment) (p : Marked) (b : Block) → (own_after p (Start b)).bytes ≡ p.bytes ++ spelled before (start_snippets p b)
 start-spelled before p b = grind (arith, append_assoc, marks_then, new_line-spelled, new_line_marks, append-nil)

@@ -4,14 +4,15 @@ use Rattle.std.proofs.Common.{◌≡◌, ℕ, ◌+◌, ◌<◌, Bool, true, fals
 use Rattle.std.specs.List.{list_all}
 use Rattle.std.proofs.lemmas.Bool.{false≢true, eqb-true, and_parts, and_from}
 use Rattle.bpaf_doc.specs.declared.buffer.Style.TheVariants as styles
-use Rattle.bpaf_doc.specs.Splitter.Chunks.{Raw, Paragraph, LineBreak, is_ordinary, is_code_line}
+use Rattle.bpaf_doc.specs.Splitter.Chunks.{Raw, Paragraph, LineBreak, is_ordinary, is_code_line, code_weight, fence_weight}
 use Rattle.bpaf_doc.specs.Html.Fragments.{Fragment, TextStart, Shown, TextEnd, Hidden, Start, End, shows}
 use Rattle.bpaf_doc.specs.Markdown.Page.{TextFence, Fence, MarkdownSnippet, style_marks, is_fence, opened_fences, closed_fences, is_text_end}
 use Rattle.bpaf_doc.specs.Snippets.{Put, Of}
 use Rattle.bpaf_doc.specs.Markdown.Steps.Page.{Marked, marked_after}
 use Rattle.bpaf_doc.proofs.lemmas.Lists.Counting.{one_if, count_by-cons}
 use Rattle.bpaf_doc.proofs.lemmas.Lists.Passing.{state_after, passes, passes_back, passes_both, passes_first}
-use Rattle.bpaf_doc.proofs.lemmas.Markdown.Cut.{by_weight, start_snippets, own_snippets, cut_from, item_snippets, end_code_snippets, code_next, step-code, item-code, fence_is_whole, code_is_whole}
+use Rattle.bpaf_doc.proofs.lemmas.Markdown.Cut.{by_weight, start_snippets, own_snippets, cut_from, item_snippets, end_code_snippets, code_next, step-code, item-code}
+use Rattle.std.proofs.Math.Bool.{and-false}
 
 -- where a block is open: a fence with `text` opens one, another closes it
 abbrev may_stand : Bool → MarkdownSnippet → Bool
@@ -71,11 +72,13 @@ plain_fences q (s ∷ ss) h = grind (arith, plain_fences q ss, false≢true, and
 own_fences : (p : Marked) (f : Fragment) → Fences p.in_code (own_snippets p f) (code_next p.in_code f)
 own_fences p (TextStart styles.Text) = plain_fences p.in_code (own_snippets p (TextStart styles.Text)) refl
 own_fences p (TextStart style) = plain_fences p.in_code (own_snippets p (TextStart style)) refl
-own_fences p (Shown style (Raw bytes weight)) = grind (arith, by_weight, then_fences, raw_stands, eqb-true, fence_is_whole, code_is_whole)
+own_fences p (Shown style (Raw bytes weight)) = grind (arith, by_weight, then_fences, raw_stands, eqb-true, not, code_weight, and-false, fence_weight)
 own_fences p (Shown style Paragraph) = grind (arith, plain_fences)
 own_fences p (Shown style LineBreak) = plain_fences p.in_code (own_snippets p (Shown style LineBreak)) refl
-own_fences p (TextEnd styles.Text) = then_fences p.in_code false false (end_code_snippets p.in_code) (map Put (reverse (style_marks styles.Text)) ++ Of (TextEnd styles.Text) ∷ []) (grind arith) (refl, refl)
-own_fences p (TextEnd style) = then_fences p.in_code false false (end_code_snippets p.in_code) (map Put (reverse (style_marks style)) ++ Of (TextEnd style) ∷ []) (grind arith) (refl, refl)
+own_fences p (TextEnd styles.Text) =
+    then_fences p.in_code false false (end_code_snippets p.in_code) (map Put (reverse (style_marks styles.Text)) ++ Of (TextEnd styles.Text) ∷ []) (grind arith) (refl, refl)
+own_fences p (TextEnd style) =
+    then_fences p.in_code false false (end_code_snippets p.in_code) (map Put (reverse (style_marks style)) ++ Of (TextEnd style) ∷ []) (grind arith) (refl, refl)
 own_fences p Hidden = plain_fences p.in_code (own_snippets p Hidden) refl
 own_fences p (Start b) = plain_fences p.in_code (start_snippets p b) (grind arith)
 own_fences p (End b) = grind (arith, plain_fences)

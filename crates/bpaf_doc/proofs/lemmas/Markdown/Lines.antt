@@ -139,11 +139,7 @@ step_stands t before p f h1 h2 = grind (arith, raw_stands, false≢true, other_s
 
 step_keeps : (t : Bool) (p : Marked) (f : Fragment) → may_come t f ≡ true → Keeps t p → Keeps (form_next t f) (marked_after p f)
 step_keeps true p (Shown style chunk) may keeps = chunk_next p style chunk keeps
-step_keeps t p (TextEnd style) may keeps = step-code p (TextEnd style)
-step_keeps false p (Shown style chunk) may keeps = absurd (false≢true may)
-step_keeps false p (TextStart style) may keeps = (pending_after p (TextStart style) refl, never (marked_after p (TextStart style)).in_code (step-code p (TextStart style) ∙ keeps))
-step_keeps false p f may keeps = step-code p f ∙ keeps
-step_keeps true p f may keeps = absurd (false≢true may)
+step_keeps z0 p f may keeps = grind (arith, step-code, false≢true, never)
 
 lines_stand : (t : Bool) (before : List Fragment) (p : Marked) (fs : List Fragment) → well_formed t fs ≡ true → Keeps t p → Agrees before (flags p) → Room before fs → LinesStand before p.bytes (cut_from p fs)
 lines_stand t before p [] form keeps agrees room = marks_stand before p.bytes (item_snippets p.pending false) (item_marks p.pending false)

@@ -35,7 +35,7 @@ utf8_cut front (b ∷ rest) e u =
 -- ---- what stands in the text
 
 -- an ASCII character by itself
-utf8_alone : (b : ℕ) → b < 128 → IsScalar b → IsUtf8 (b ∷ [])
+pub utf8_alone : (b : ℕ) → b < 128 → IsScalar b → IsUtf8 (b ∷ [])
 utf8_alone b small s = subst (λ t. IsUtf8 t) (encode_ascii b small) (IsUtf8-encode b s)
 
 -- a gap in a UTF-8 text is UTF-8, and so is what follows it
@@ -44,12 +44,9 @@ utf8_gap [] rest g u = (IsUtf8-nil, u)
 utf8_gap (b ∷ gap) rest g u =
     let is : (b ≡ 10) ⊎ (b ≡ 32) = grind (arith, nat_tests, (and_left (is_gap_byte b) (list_all is_gap_byte gap) g)) in
     let more : IsUtf8 gap × IsUtf8 rest = utf8_gap gap rest (and_right (is_gap_byte b) (list_all is_gap_byte gap) g) (utf8_after b (gap ++ rest) (ascii b is) u) in
-    (IsUtf8-append (b ∷ []) gap (alone b is) more.0, more.1) where
+    (IsUtf8-append (b ∷ []) gap (grind (arith, utf8_alone, lit<)) more.0, more.1) where
       ascii : (b : ℕ) → (b ≡ 10) ⊎ (b ≡ 32) → b < 128
       ascii b h = grind arith
-
-      alone : (b : ℕ) → (b ≡ 10) ⊎ (b ≡ 32) → IsUtf8 (b ∷ [])
-      alone b h = grind (arith, utf8_alone, lit<)
 
 pub IsUtf8-blank : IsUtf8 (codes " ")
 IsUtf8-blank = utf8_alone 32 (lit< tt) refl

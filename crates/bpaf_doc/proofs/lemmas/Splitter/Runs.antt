@@ -31,7 +31,7 @@ blank_columns = line_columns_are (codes " ") refl
 abbrev Joins : List Chunk → List ℕ → Type 0
 Joins chunks text = (after : List Chunk) (back : List ℕ) → IsWordEnd back → Spells Plain after back → Spells Plain (chunks ++ after) (text ++ back)
 
-words_in : {form : Form} {chunks : List Chunk} {text : List ℕ} → Spells form chunks text → form ≡ Plain → IsLine text → AreWords chunks text × Joins chunks text
+pub words_in : {form : Form} {chunks : List Chunk} {text : List ℕ} → Spells form chunks text → form ≡ Plain → IsLine text → AreWords chunks text × Joins chunks text
 words_in (nothing ec et) p l = (no_words ec et, λ after back w s. rw (ec, et) s)
 words_in {text = text} (code_line line rest others ec et il ir s) p l = absurd (no_newline_first text (codes "    " ++ (line ++ rest)) et l)
 words_in {text = text} (fence rest others ec et t s) p l = absurd (no_newline_first text (codes "\n" ++ rest) et l)

@@ -35,7 +35,7 @@ IsHeavy st = (m before : List Stretch) (e : Place) → Cut st.back m e before �
 abbrev pub AloneBefore : List Stretch → Place → Type 0
 AloneBefore r f = (m before : List Stretch) (e : Place) → Cut r m e before → is_whole_line (chunk_at e) ≡ true → has_newline m ≡ true
 
-alone_begins : {width : ℕ} {st : State} (p : Piece) (base : State) → width < 1_000_000 → IsStarting st → IsHeavy st → Begins width st p base → AloneBefore base.back (place_of p)
+pub alone_begins : {width : ℕ} {st : State} (p : Piece) (base : State) → width < 1_000_000 → IsStarting st → IsHeavy st → Begins width st p base → AloneBefore base.back (place_of p)
 alone_begins {st = st} p base small start h (first t s) = grind (arith, place_in)
 alone_begins {width} {st} p base small start h (stays t l w) = λ m before e there whole. at m before e there whole (lines_same_or_line l) (by_cases (has_newline m)) where
   at : (m before : List Stretch) (e : Place) → Cut base.back m e before → is_whole_line (chunk_at e) ≡ true → SameOrLine st base → (has_newline m ≡ true) ⊎ (has_newline m ≡ false) → has_newline m ≡ true
@@ -44,7 +44,7 @@ alone_begins {width} {st} p base small start h (stays t l w) = λ m before e the
   at m before e there whole (same_page s) (inr n) = grind arith
 alone_begins p base small start h (wraps t mid l w b s) = λ m before e there whole. line_since base.back (trimmed mid.back) m before e (ap (λ (x : State). x.back) s) there
 
-alone_padded : (n : ℕ) (r : List Stretch) (f : Place) → AloneBefore r f → AloneBefore (padded n r) f
+pub alone_padded : (n : ℕ) (r : List Stretch) (f : Place) → AloneBefore r f → AloneBefore (padded n r) f
 alone_padded n r f h = grind (arith, cut_padded n r, same_padded has_newline)
 
 pub heavy_grows : {width : ℕ} {st after : State} {next : Next} → width < 1_000_000 → IsStarting st → Grows width st next after → IsHeavy st → IsHeavy after

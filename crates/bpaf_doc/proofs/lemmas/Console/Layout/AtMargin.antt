@@ -4,7 +4,7 @@ use Rattle.bpaf_doc.specs.Splitter.Chunks.{Chunk, Raw, is_inked}
 use Rattle.bpaf_doc.specs.Console.Layout.{Event, Shows, Stretch, Gap, Placed, Passed, Place, chunk_at, is_raw_or_ref}
 use Rattle.bpaf_doc.specs.Console.Exact.{NoBreak}
 use Rattle.bpaf_doc.proofs.lemmas.Console.Layout.State.{State, Piece, Lines, Pads, Begins, first, stays, wraps, places, drops, Next, raw, mark, Grows, placing, breaking, passing, padded, put, Suits}
-use Rattle.bpaf_doc.proofs.lemmas.Console.Layout.Back.{by_cases, EachPlace, each_grows, place_of, fits_of, by_lines, same_padded, by_mark, Fills, column_back, column_padded, Agrees, EachPassed, NoInk, ink_text, IsStarting, begins_column, begins_margin, or_false_right}
+use Rattle.bpaf_doc.proofs.lemmas.Console.Layout.Back.{by_cases, EachPlace, each_grows, place_of, fits_of, by_lines, same_padded, by_mark, Fills, column_back, column_padded, Agrees, EachPassed, NoInk, ink_text, IsStarting, begins_margin, or_false_right, agrees_lines, no_text_column}
 use Rattle.bpaf_doc.proofs.lemmas.Console.Layout.Pads.{pads_back, HasNoPads, pads_begins}
 use Rattle.bpaf_doc.proofs.lemmas.Console.Layout.Split.{events_back, Cut, FirstOrLater, here, later, cut_cons, cut_gap, cut_passed, cut_padded, has_newline, inked_line, inked_since, ink_at, after_lines, After}
 
@@ -89,7 +89,7 @@ module _ (margin_of : ℕ → ℕ) where
     core : (p : Piece) (base : State) (n : ℕ) → next ≡ raw p → Begins width st p base → Pads base n → IsExact (padded n base.back) (place_of p)
     core p base n is b d = λ line kind.
         let back_zero : column_back base.back ≡ 0 = zero_at (sym (same_padded inked_line (λ x. refl) n base.back) ∙ line) kind in
-        let column : base.column ≡ 0 = begins_column small f start agrees b ∙ back_zero in
+        let column : base.column ≡ 0 = grind (arith, no_text_column, agrees_lines) ∙ back_zero in
         let in_force : base.margin ≡ margin_of p.part = (begins_margin b).0 ∙ (fits_of suits is).margin_is in
         let pads : n ≡ margin_of p.part = grind arith in
         let total : column_back (padded n base.back) ≡ n + column_back base.back = column_padded n base.back in

@@ -138,14 +138,11 @@ inked_some bytes h = grind arith
 abbrev pub Fills : List Stretch → Place → Type 0
 Fills r f = has_some f.shown ≡ has_some f.bytes
 
-fills_cut : KeepsCut Fills
+pub fills_cut : KeepsCut Fills
 fills_cut r f i h = inked_trim f.bytes i ∙ sym (inked_some f.bytes i)
 
 pub fills_grows : {width : ℕ} {st after : State} {next : Next} → Grows width st next after → EachPlace Fills st.back → EachPlace Fills after.back
 fills_grows g h = each_grows Fills fills_cut (λ p base n e b d. refl) g h
-
-pub fills_begins : {width : ℕ} {st : State} {p : Piece} {base : State} → Begins width st p base → EachPlace Fills st.back → EachPlace Fills base.back
-fills_begins b h = each_begins Fills fills_cut b h
 
 -- ---- the column in the last line
 
@@ -284,11 +281,6 @@ pub text_written : {width : ℕ} {margin_of : ℕ → ℕ} {st after : State} {n
 text_written {st = st} suits g h = grind (arith, by_grows, by_mark)
 
 -- ---- where a chunk begins
-
--- the column that is kept is the page's where a chunk is placed
-pub begins_column : {width : ℕ} {st : State} {p : Piece} {base : State} → width < 1_000_000 → EachPlace Fills st.back → IsStarting st → Agrees st
-    → Begins width st p base → base.column ≡ column_back base.back
-begins_column small f start h e = grind (arith, no_text_column, agrees_lines)
 
 -- and the margin is still the one in force, and what was asked for after a term still holds
 pub lines_margin : {st mid : State} → Lines st mid → (mid.margin ≡ st.margin) × (mid.pending ≡ st.pending)

@@ -8,7 +8,7 @@ use Rattle.bpaf_doc.specs.Splitter.Chunks.{columns, is_inked, has_some}
 use Rattle.bpaf_doc.specs.Console.Layout.{Event, Stretch, Gap, Placed, Passed, Place, chunk_at, event_bytes, stretch_bytes, asks_blank_line, is_raw_event, text_of, HasBlankLine, is_inked_stretch, asks_newline}
 use Rattle.bpaf_doc.specs.Console.Exact.{BlankLine}
 use Rattle.bpaf_doc.proofs.lemmas.Console.Layout.State.{State, Piece, Lines, Pads, Begins, first, stays, wraps, Next, raw, Grows, padded, trimmed, ends_line, ends_blank, passed, Suits, is_nothing}
-use Rattle.bpaf_doc.proofs.lemmas.Console.Layout.Back.{by_cases, EachPlace, each_grows, place_of, lines_back, by_trimmed, same_padded, by_break, by_grows, Fills, inked_some, fills_begins, no_bytes, EachPassed, NoInk, ink_text, or_true_right, or_false_left, or_false_right}
+use Rattle.bpaf_doc.proofs.lemmas.Console.Layout.Back.{by_cases, EachPlace, each_grows, place_of, lines_back, by_trimmed, same_padded, by_break, by_grows, Fills, inked_some, no_bytes, EachPassed, NoInk, ink_text, or_true_right, or_false_left, or_false_right, each_begins, fills_cut}
 use Rattle.bpaf_doc.proofs.lemmas.Console.Layout.Split.{events_back, Cut, cut_padded, ink_at, inked_line, After}
 
 -- ---- a newline
@@ -45,7 +45,7 @@ owes_ink : (r : List Stretch) → owes_line r ≡ true → list_any is_inked_str
 owes_ink [] h = absurd cc
 owes_ink (x ∷ r) h = grind (arith, owes_ink r, inked_line_ink)
 
-owes_begins : {width : ℕ} {st : State} {p : Piece} {base : State} → EachPlace Fills st.back → EachPassed NoInk st.back → IsAskedLine st → Begins width st p base → owes_line base.back ≡ false
+pub owes_begins : {width : ℕ} {st : State} {p : Piece} {base : State} → EachPlace Fills st.back → EachPassed NoInk st.back → IsAskedLine st → Begins width st p base → owes_line base.back ≡ false
 owes_begins f q h e = grind (arith, ink_text, owes_ink, by_cases, ends_line_owes, blank_line_ends)
 
 asked_line_passed : (event : Event) (margin : ℕ) (st : State) → IsAskedLine st → IsAskedLine (passed event margin st)
@@ -134,8 +134,7 @@ HasNoRaw m = list_any is_raw_event (events_back m) ≡ false
 line_between : (m : List Stretch) (e : Place) (before : List Stretch) → HasNoRaw m → has_some e.shown ≡ true → ends_line (m ++ Placed e ∷ before) ≡ true → EndsLine m
 line_between [] e before none some h = let no : false ≡ true = rw some at h in absurd cc
 line_between (Gap b ∷ m) e before none some h = grind (arith, eqb-true b 10 h, text_back_cons (Gap b) m)
-line_between (Placed g ∷ m) e before none some h = absurd cc
-line_between (Passed event ∷ m) e before none some h = grind (arith, line_between m e before, or_false_right, text_back_cons, some_none, append-nil)
+line_between (x ∷ m) e before none some h = grind (arith, line_between m, or_false_right, text_back_cons, some_none, append-nil)
 
 blank_between : (m : List Stretch) (e : Place) (before : List Stretch) → HasNoRaw m → has_some e.shown ≡ true → ends_blank (m ++ Placed e ∷ before) ≡ true → HasBlankLine (text_back m)
 blank_between [] e before none some h = let no : false ≡ true = rw some at h in absurd cc
@@ -195,7 +194,7 @@ module _ (width : ℕ) where
         let asked : list_any asks_blank_line (events_back cut_there.rest) ≡ true = subst (λ es. list_any asks_blank_line es ≡ true) (ap events_back cut_there.is ∙ same_padded events_back (λ x. refl) n cut_there.rest) asks in
         let owed : owes_blank base.back ≡ true = subst (λ x. owes_blank x ≡ true) (sym cut_there.there) (owes_between cut_there.rest e before bare i asked) in
         let ends : ends_blank base.back ≡ true = blank_begins f q h z b fits cut_there.rest before e cut_there.there i owed in
-        let shown : has_some e.shown ≡ true = inked_shown cut_there.rest e before (subst (λ x. EachPlace Fills x) cut_there.there (fills_begins b f)) i in
+        let shown : has_some e.shown ≡ true = inked_shown cut_there.rest e before (subst (λ x. EachPlace Fills x) cut_there.there (each_begins Fills fills_cut b f)) i in
         subst (λ x. HasBlankLine (text_back x)) (sym cut_there.is) (blank_padded n cut_there.rest (blank_between cut_there.rest e before bare shown (subst (λ x. ends_blank x ≡ true) cut_there.there ends))) where
           inked_shown : (m : List Stretch) (e : Place) (before : List Stretch) → EachPlace Fills (m ++ Placed e ∷ before) → is_inked (chunk_at e) ≡ true → has_some e.shown ≡ true
           inked_shown [] e before f i = f.0 ∙ inked_some e.bytes i

@@ -90,11 +90,8 @@ kept_same st k n settled unsettled order h o moved d m before e there =
       wider : AllKept (e.part < k) found.rest
       wider = kept_weaker (λ (l : e.part < st.latest). omega arith) found.rest since.1
 
-      earlier : e.part ≤ st.latest
-      earlier = (each_back (NotAfter st.latest) found.rest (Placed e ∷ before) (subst (λ x. EachPlace (NotAfter st.latest) x) found.there order)).0
-
       strict : (inked_line st.back ≡ false) ⊎ (st.marked ≡ true) → e.part < k
-      strict h1 = grind (arith, found, inked_since, near, earlier)
+      strict h1 = grind (arith, found, inked_since, near, each_back)
 
       at : (st.settled ≡ true) ⊎ (st.settled ≡ false) → (e.shown ≡ e.bytes) × AllKept (e.part < k) m
       at (inl s) = grind (arith, found, since, wider)

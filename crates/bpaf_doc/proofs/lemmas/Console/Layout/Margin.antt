@@ -2,7 +2,7 @@
 use Rattle.std.proofs.Common.{arith, ◌∙◌, ◌≡◌, ℕ, ◌+◌, ◌<◌, ◌≤◌, List}
 use Rattle.bpaf_doc.specs.Console.Layout.{Stretch, Place}
 use Rattle.bpaf_doc.proofs.lemmas.Console.Layout.State.{State, Piece, Pads, Begins, Next, raw, Grows, padded, Suits}
-use Rattle.bpaf_doc.proofs.lemmas.Console.Layout.Back.{EachPlace, KeepsCut, each_grows, place_of, fits_of, Fills, column_back, column_padded, Agrees, IsStarting, begins_column, begins_margin}
+use Rattle.bpaf_doc.proofs.lemmas.Console.Layout.Back.{EachPlace, KeepsCut, each_grows, place_of, fits_of, Fills, column_back, column_padded, Agrees, IsStarting, begins_margin, agrees_lines, no_text_column}
 
 -- ---- at least the margin
 
@@ -19,5 +19,5 @@ module _ (margin_of : ℕ → ℕ) where
     core : (p : Piece) (base : State) (n : ℕ) → next ≡ raw p → Begins width st p base → Pads base n → AtMargin (padded n base.back) (place_of p)
     core p base n e b d =
         let in_force : base.margin ≡ margin_of p.part = (begins_margin b).0 ∙ (fits_of suits e).margin_is in
-        let least : margin_of p.part ≤ n + column_back base.back = grind (arith, begins_column small f start agrees b) in
+        let least : margin_of p.part ≤ n + column_back base.back = grind (arith, no_text_column, agrees_lines) in
         omega (arith, column_padded n base.back)

@@ -5,7 +5,7 @@ use Rattle.std.proofs.lemmas.List.{reverse-append}
 use Rattle.bpaf_doc.specs.Splitter.Chunks.{columns}
 use Rattle.bpaf_doc.specs.Console.Layout.{Event, Stretch, Gap, Placed, Passed, Place, is_newline, is_placed, is_gap, holds_line, leads_to_place, opens_body}
 use Rattle.bpaf_doc.proofs.lemmas.Console.Layout.State.{State, Piece, Lines, Pads, Begins, first, stays, wraps, Next, raw, Grows, padded, trimmed, has_text, Suits}
-use Rattle.bpaf_doc.proofs.lemmas.Console.Layout.Back.{by_cases, EachPlace, KeepsCut, each_grows, place_of, fits_of, by_lines, lines_back, begins_back, by_trimmed, by_padded, same_padded, by_grows, Fills, column_back, column_padded, Agrees, any_in_line, IsStarting, has_place, begins_column, begins_margin, or_true_right, or_false_left, or_false_right}
+use Rattle.bpaf_doc.proofs.lemmas.Console.Layout.Back.{by_cases, EachPlace, KeepsCut, each_grows, place_of, fits_of, by_lines, lines_back, begins_back, by_trimmed, by_padded, same_padded, by_grows, Fills, column_back, column_padded, Agrees, any_in_line, IsStarting, has_place, begins_margin, or_true_right, or_false_left, or_false_right, agrees_lines, no_text_column}
 
 -- ---- added blanks
 
@@ -47,10 +47,10 @@ module _ (width : ℕ) where
   abbrev pub FitsBefore : List Stretch → Place → Type 0
   FitsBefore r f = holds_back r ≡ true → column_back r + columns f.bytes ≤ width + pads_back r
 
-  fits_place : {st : State} (p : Piece) (base : State) (n : ℕ) → width < 1_000_000 → EachPlace Fills st.back → IsStarting st → Agrees st → HasNoPads st
+  pub fits_place : {st : State} (p : Piece) (base : State) (n : ℕ) → width < 1_000_000 → EachPlace Fills st.back → IsStarting st → Agrees st → HasNoPads st
       → Begins width st p base → FitsBefore (padded n base.back) (place_of p)
   fits_place {st} p base n small f start h none (first t e) = grind (arith, no_text_holds st.back t (start t).1, same_padded holds_back)
-  fits_place {st} p base n small f start h none (stays t l w) = grind (arith, begins_column, column_padded, pads_padded)
+  fits_place {st} p base n small f start h none (stays t l w) = grind (arith, no_text_column, agrees_lines, column_padded, pads_padded)
   fits_place p base n small f start h none (wraps t mid l w b e) = grind (arith, same_padded holds_back)
 
   pub fits_width_grows : {st after : State} {next : Next} → width < 1_000_000 → EachPlace Fills st.back → IsStarting st → Agrees st → HasNoPads st
@@ -66,21 +66,21 @@ Leads place (Gap b ∷ r) = ((b == 32) ≡ true → place ≡ true) × Leads ((b
 Leads place (Placed e ∷ r) = Leads true r
 Leads place (Passed event ∷ r) = Leads false r
 
-leads_more : (r : List Stretch) → Leads false r → Leads true r
+pub leads_more : (r : List Stretch) → Leads false r → Leads true r
 leads_more (Gap b ∷ r) h = grind arith
 leads_more _ h = h
 
-leads_trimmed : (r : List Stretch) (place : Bool) → Leads place r → Leads false (trimmed r)
+pub leads_trimmed : (r : List Stretch) (place : Bool) → Leads place r → Leads false (trimmed r)
 leads_trimmed = by_trimmed (λ r t. (place : Bool) → Leads place r → Leads false t) (λ place h. h) (λ b r t ih place h. ih ((b == 32) && place) h.1) (λ e r i place h. h)
     (λ e r t i ih place h. ih true h) (λ event r i place h. h) (λ event r t i ih place h. ih false h)
 
 abbrev pub IsLed : State → Type 0
 IsLed st = Leads false st.back
 
-leads_newline : (r : List Stretch) → Leads false r → Leads false (Gap 10 ∷ r)
+pub leads_newline : (r : List Stretch) → Leads false r → Leads false (Gap 10 ∷ r)
 leads_newline r h = (λ t. absurd cc, h)
 
-led_lines : {st mid : State} → Lines st mid → IsLed st → IsLed mid
+pub led_lines : {st mid : State} → Lines st mid → IsLed st → IsLed mid
 led_lines l h = lines_back (Leads false) leads_newline l h
 
 pub led_grows : {width : ℕ} {st after : State} {next : Next} → Grows width st next after → IsLed st → IsLed after
@@ -132,4 +132,4 @@ module _ (margin_of : ℕ → ℕ) where
     core : (p : Piece) (base : State) (n : ℕ) → next ≡ raw p → Begins width st p base → Pads base n → PadsOnly (padded n base.back) (place_of p)
     core p base n e b d =
         let in_force : base.margin ≡ margin_of p.part = (begins_margin b).0 ∙ (fits_of suits e).margin_is in
-        pads_only n base (margin_of p.part) in_force (begins_column small f start agrees b) (pads_begins b none) (grind (arith, pending_lines, body_trimmed)) d
+        pads_only n base (margin_of p.part) in_force (grind (arith, no_text_column, agrees_lines)) (pads_begins b none) (grind (arith, pending_lines, body_trimmed)) d

@@ -7,7 +7,7 @@ use Rattle.bpaf_doc.specs.Console.Exact.{Request, NoBreak}
 use Rattle.bpaf_doc.specs.Splitter.Chunks.{Chunk, Raw, Paragraph, LineBreak, columns, IsOrdinary}
 use Rattle.bpaf_doc.specs.Console.Layout.{Event, Shows, Opens, Closes, Stretch, Gap, Placed, Passed, Place, chunk_at, event_bytes, is_inline_block}
 use Rattle.bpaf_doc.proofs.lemmas.Console.Layout.State.{State, Piece, Lines, Pads, Begins, first, stays, wraps, Next, raw, break, mark, Grows, padded, trimmed, sat, wrapped, put, passed, dropped, broken, asked_after, pending_after, Suits, IsShallow}
-use Rattle.bpaf_doc.proofs.lemmas.Console.Layout.Back.{EachPlace, each_grows, place_of, fits_of, same_padded, by_mark, by_break, by_grows, Fills, column_back, column_padded, Agrees, IsStarting, begins_column}
+use Rattle.bpaf_doc.proofs.lemmas.Console.Layout.Back.{EachPlace, each_grows, place_of, fits_of, same_padded, by_mark, by_break, by_grows, Fills, column_back, column_padded, Agrees, IsStarting, agrees_lines, no_text_column}
 use Rattle.bpaf_doc.proofs.lemmas.Console.Layout.Alone.{place_in}
 use Rattle.bpaf_doc.proofs.lemmas.Console.Layout.Split.{events_back, after_lines, Cut, FirstOrLater, here, later, cut_cons, cut_gap, cut_passed, cut_padded, FromTrimmed, cut_trimmed, has_newline, After}
 
@@ -149,7 +149,7 @@ module _ (width : ℕ) (rule : Rule) where
         λ m before e there run. at m before e run (cut_cons (Placed (place_of p)) (padded n base.back) m e before there) where
       at : (m before : List Stretch) (e : Place) → IsRun m e → FirstOrLater (Placed (place_of p)) (padded n base.back) m e before
           → Known (put n p.part p.bytes p.weight base) m e before
-      at m before e run (here none is rest) = grind (arith, begins_column, column_padded)
+      at m before e run (here none is rest) = grind (arith, no_text_column, agrees_lines, column_padded)
       at m before e run (later rest is there) =
           let parts : (rule.follows (shown p) ≡ true) × IsRun rest e = grind (arith, and_parts) in
           let chunk : (rule.has_chunks ≡ true) × (p.weight ≤ rule.takes (shown p)) × ((columns p.bytes ≤ rule.takes (shown p)) ⊎ (width < rule.takes (shown p))) = sound.chunk p weighed parts.0 in

@@ -2,7 +2,7 @@
 use Rattle.std.proofs.lemmas.Grind.{common_steps}
 use Rattle.std.specs.Str.{trim_end, drop_trailing_whitespace, chars, encode_utf8_all}
 use Rattle.std.specs.Char.{is_whitespace, is_not_whitespace}
-use Rattle.std.proofs.Common.{rules, sym, subst, ap, arith, inl, inr, ◌∙◌, append_assoc, ◌≡◌, ◌≢◌, ℕ, Bool, true, false, ◌&&◌, ◌==◌, List, [], ◌∷◌, ◌++◌, length, filter, refl, if◌then◌else◌, ◌⊎◌, IsUtf8}
+use Rattle.std.proofs.Common.{sym, subst, ap, arith, inl, inr, ◌∙◌, append_assoc, ◌≡◌, ◌≢◌, ℕ, true, false, ◌&&◌, ◌==◌, List, [], ◌∷◌, ◌++◌, length, filter, refl, if◌then◌else◌, ◌⊎◌, IsUtf8}
 use Rattle.std.proofs.lemmas.List.{append-nil, nil_from_length, same_from_push}
 use Rattle.std.proofs.lemmas.Str.{chars-append, encodes-chars, chars-encodes, scalars-chars, encodes-append, IsUtf8-append, IsUtf8-nil, IsUtf8-from_ascii}
 use Rattle.std.proofs.Math.Utf8.{scalars, scalar}
@@ -11,8 +11,7 @@ use Rattle.std.proofs.lemmas.Bool.{and_parts, eqb-true, or_parts}
 use Rattle.bpaf_doc.proofs.lemmas.Console.Layout.Back.{whole_trim, by_cases, by_test, by_trimmed}
 use Rattle.bpaf_doc.specs.Buffer.Parts.{ink}
 use Rattle.bpaf_doc.specs.Splitter.Chunks.{has_some, IsLine}
-use Rattle.bpaf_doc.specs.Shown.{is_term_ref}
-use Rattle.bpaf_doc.specs.Console.Layout.{Event, Shows, Opens, Closes, Stretch, Gap, Placed, Passed, Place, event_bytes, stretch_bytes, is_newline}
+use Rattle.bpaf_doc.specs.Console.Layout.{Event, Stretch, Gap, Placed, Passed, Place, event_bytes, stretch_bytes, is_newline}
 use Rattle.bpaf_doc.proofs.lemmas.Console.Layout.State.{has_text, ends_line, ends_blank, trimmed, IsLegible}
 use Rattle.bpaf_doc.proofs.lemmas.Console.Layout.Blank.{text_back, text_back_cons, some_none}
 
@@ -85,11 +84,7 @@ trim_line text u l = let front : (rest : List ℕ) × (text ≡ trim_end text ++
 -- ---- the text of a page
 
 pub event_utf8 : (event : Event) → IsUtf8 (event_bytes event)
-event_utf8 (Shows k chunk) = IsUtf8-nil
-event_utf8 (Opens b) =
-    elim (is_term_ref b) as (λ (t : Bool). IsUtf8 (if t then 96 ∷ [] else [])) [ true ↦ (IsUtf8-from_ascii (96 ∷ []) (search rules)) | false ↦ IsUtf8-nil ]
-event_utf8 (Closes b) =
-    elim (is_term_ref b) as (λ (t : Bool). IsUtf8 (if t then 96 ∷ [] else [])) [ true ↦ (IsUtf8-from_ascii (96 ∷ []) (search rules)) | false ↦ IsUtf8-nil ]
+event_utf8 z0 = grind (arith, IsUtf8-nil, IsUtf8-from_ascii)
 
 shown_utf8 : (e : Place) → IsUtf8 e.bytes → (e.shown ≡ e.bytes) ⊎ (e.shown ≡ trim_end e.bytes) → IsUtf8 e.shown
 shown_utf8 e u (inl s) = subst IsUtf8 (sym s) u
@@ -131,9 +126,6 @@ line_end_lem : (front : List ℕ) → IsLine (front ++ 10 ∷ []) → ⊥
 line_end_lem [] h = cc
 line_end_lem (b ∷ front) h = grind (arith, line_end_lem front)
 
-shown_line : (e : Place) → IsUtf8 e.bytes → IsLine e.bytes → (e.shown ≡ e.bytes) ⊎ (e.shown ≡ trim_end e.bytes) → IsLine e.shown
-shown_line e u l h = grind (arith, trim_line)
-
 ends_in : (r : List Stretch) (x : Stretch) (front : List ℕ) → has_some (stretch_bytes x) ≡ true → text_back (x ∷ r) ≡ front ++ 10 ∷ [] → (back : List ℕ) × (stretch_bytes x ≡ back ++ 10 ∷ [])
 ends_in r x front s e =
     let last : LastByte (stretch_bytes x) = last_byte (stretch_bytes x) s in
@@ -147,8 +139,9 @@ bare_text r x s = text_back_cons x r ∙ ap (λ t. text_back r ++ t) (some_none 
 -- no place and no event ends in a newline
 no_end : (r : List Stretch) (x : Stretch) (front : List ℕ) → IsLegible (x ∷ r) → is_newline x ≡ false → has_some (stretch_bytes x) ≡ true → text_back (x ∷ r) ≡ front ++ 10 ∷ [] → ⊥
 no_end r (Gap b) front h n s e = grind (arith, text_back_cons, same_from_push, nat_tests)
-no_end r (Placed p) front h n s e = let found : (back : List ℕ) × (p.shown ≡ back ++ 10 ∷ []) = ends_in r (Placed p) front s e in line_end_lem found.0 (subst IsLine found.1 (shown_line p h.0.0 h.0.1 h.0.2))
-no_end r (Passed event) front h n s e = let found : (back : List ℕ) × (event_bytes event ≡ back ++ 10 ∷ []) = ends_in r (Passed event) front s e in line_end_lem found.0 (subst IsLine found.1 (grind arith))
+no_end r (Placed p) front h n s e =
+    let found : (back : List ℕ) × (p.shown ≡ back ++ 10 ∷ []) = ends_in r (Placed p) front s e in line_end_lem found.0 (subst IsLine found.1 (grind (arith, trim_line, h.0.0, h.0.1, h.0.2)))
+no_end r (Passed event) front h n s e = line_end_lem (ends_in r (Passed event) front s e).0 (subst IsLine (ends_in r (Passed event) front s e).1 (grind arith))
 
 -- a text that ends in a newline is one of a page that does
 pub text_ends_line : (r : List Stretch) (front : List ℕ) → IsLegible r → text_back r ≡ front ++ 10 ∷ [] → ends_line r ≡ true
@@ -157,8 +150,7 @@ text_ends_line (x ∷ r) front h e = grind (arith, text_ends_line r, no_end r x 
 
 pub text_ends_blank : (r : List Stretch) (front : List ℕ) → IsLegible r → text_back r ≡ (front ++ 10 ∷ []) ++ 10 ∷ [] → ends_blank r ≡ true
 text_ends_blank [] front h e = absurd (snoc_some (front ++ 10 ∷ []) (10 ∷ []) refl (sym e))
-text_ends_blank (Gap b ∷ r) front h e = grind (arith, text_back_cons, same_from_push, text_ends_line)
-text_ends_blank (x ∷ r) front h e = grind (arith, text_ends_blank r, no_end r x (front ++ 10 ∷ []) h, bare_text r x, by_cases)
+text_ends_blank (x ∷ r) front h e = grind (arith, text_ends_blank r, text_back_cons, same_from_push, text_ends_line, no_end, bare_text, by_cases)
 
 -- ---- the trimmed page
 

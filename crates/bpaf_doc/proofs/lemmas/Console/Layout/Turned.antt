@@ -81,7 +81,7 @@ pub line_turned : (p : Stretch → Bool) (r : List Stretch) → list_any p (line
 line_turned p r = ap (λ ys. list_any p ys) (after_last_turned is_newline r) ∙ any_turned p (since is_newline r) ∙ any_since_line p r
 
 -- the blanks since the last place in the line
-count_since : (r : List Stretch) → count_by is_gap (since is_placed (since is_newline r)) ≡ pads_back r
+pub count_since : (r : List Stretch) → count_by is_gap (since is_placed (since is_newline r)) ≡ pads_back r
 count_since [] = refl
 count_since (x ∷ r) = grind (arith, count_since r, sum_by-cons (λ y. cond (is_gap y) 1 0) x (since is_placed (since is_newline r)))
 

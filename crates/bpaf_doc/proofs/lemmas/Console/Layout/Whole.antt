@@ -16,7 +16,7 @@ use Rattle.bpaf_doc.specs.Shown.{console_ink}
 use Rattle.bpaf_doc.specs.Console.Margin.{margin, greatest_margin}
 use Rattle.bpaf_doc.specs.Console.Layout.{Event, Shows, Stretch, Gap, Placed, Passed, Place, AreApart, chunk_at, event_bytes, event_columns, stretch_columns, text_of, events_of, shown_events, is_newline, is_placed, holds_line, leads_to_place, is_inked_stretch, is_empty_code, is_written, is_raw_event, is_ref, asks_newline, asks_blank_line, is_light, is_light_mark, opens_body, column, padding, line_before, stretch_lines, MayStand, BreaksWhereAsked, KeepsBlanks, IsKept, BeginsClear, IsFirstInLine, events_since_ink, is_raw_or_ref, FollowsBlank, KeepsMargin, WrapsOnlyIfNeeded, IsBounded, FitsWidth, PadsToMargin, StandsAlone, room_of, BreaksForRoom, HasBlankLine, widest, IsLayout}
 use Rattle.bpaf_doc.proofs.lemmas.Console.Layout.State.{State, has_text, IsShallow, Next, Grows, Suits, IsClear, blank_page, Written, nothing, more, Ends, as_is, with_newline, broken, padded, placing}
-use Rattle.bpaf_doc.proofs.lemmas.Console.Layout.Back.{each_back, by_cases, EachPlace, by_grows, Fills, fills_grows, Agrees, agrees_grows, column_back, EachPassed, NoInk, no_ink_grows, IsStarting, starting_grows, next_event, text_stays, text_written, begins_margin, lines_margin, by_mark, heavy}
+use Rattle.bpaf_doc.proofs.lemmas.Console.Layout.Back.{each_back, by_cases, EachPlace, by_grows, Fills, fills_grows, Agrees, agrees_grows, column_back, EachPassed, NoInk, no_ink_grows, IsStarting, starting_grows, next_event, text_stays, text_written, begins_margin, lines_margin, by_mark, heavy, each_grows, same_padded}
 use Rattle.bpaf_doc.proofs.lemmas.Console.Layout.Margin.{AtMargin, at_margin_grows}
 use Rattle.bpaf_doc.proofs.lemmas.Console.Layout.Bound.{EachFront, Within, IsBare, WritesNone, IsNarrow, bare_grows, bound, within_grows}
 use Rattle.bpaf_doc.proofs.lemmas.Console.Layout.Pads.{FitsBefore, fits_width_grows, holds_back, IsLed, Leads, led_grows, leads_at, HasNoPads, IsPending, pending_grows, PadsOnly, pads_only_grows, pads_back, body_back, pads_only}
@@ -24,9 +24,9 @@ use Rattle.bpaf_doc.proofs.lemmas.Console.Layout.Reach.{Rule, sum_of, IsRun, Has
 use Rattle.bpaf_doc.proofs.lemmas.Console.Layout.Room.{ComesInOrder, in_order_grows, IsAfterAll, after_all_grows, part_later, is_chunk, allowance, is_idle, idle_all, idle, idle_sound}
 use Rattle.bpaf_doc.proofs.lemmas.Console.Layout.Alone.{IsHeavy, heavy_grows, AloneBefore, alone_grows}
 use Rattle.bpaf_doc.proofs.lemmas.Console.Layout.Split.{events_back, events_grows, Cut, has_newline, inked_line, inked_since}
-use Rattle.bpaf_doc.proofs.lemmas.Console.Layout.Blank.{IsAskedBlank, asked_blank_grows, IsFreshAtZero, fresh_grows, HasBlankBefore, blank_before_grows, text_back, text_back_cons, IsAskedLine, asked_line_grows, IsFreeOfDebt, free_of_debt_grows, owes_line}
+use Rattle.bpaf_doc.proofs.lemmas.Console.Layout.Blank.{IsAskedBlank, asked_blank_grows, IsFreshAtZero, fresh_grows, HasBlankBefore, blank_before_grows, text_back, text_back_cons, IsAskedLine, asked_line_grows, IsFreeOfDebt, free_of_debt_grows, owes_line, owes_begins}
 use Rattle.bpaf_doc.proofs.lemmas.Console.Layout.Kept.{InOrder, order_grows, IsSettled, settled_grows, IsUnsettled, unsettled_grows, IsSmall, IsKeptSince, kept_since_grows, KeepsBefore, keeps_before_grows, AllKept}
-use Rattle.bpaf_doc.proofs.lemmas.Console.Layout.Needed.{is_plain, light, light_sound, light_marks}
+use Rattle.bpaf_doc.proofs.lemmas.Console.Layout.Needed.{light, light_sound, light_marks}
 use Rattle.bpaf_doc.proofs.lemmas.Console.Layout.AtMargin.{IsLast, last_grows, IsAtStart, start_grows, AfterBlank, IsExact, exact_grows, is_quiet}
 use Rattle.bpaf_doc.proofs.lemmas.Console.Layout.Cuts.{MayEnd, IsWhole, whole_grows, may_end_line}
 use Rattle.bpaf_doc.proofs.lemmas.Console.Layout.Turned.{reverse_cons, any_turned, all_turned, sum_turned, events_turned, events_between, column_turned, line_turned, padding_turned, body_turned, quiet_turned, lines_bounded, turned_at}
@@ -325,13 +325,11 @@ module _ (width : ℕ) (document : List Part) (st : State) (final : List Stretch
     needed_law : WrapsOnlyIfNeeded width stretches
     needed_law = λ before between e f h ordinary second kind line.
         let inked : is_inked (chunk_at e) ≡ true = h.first_inked in
-        let plain : is_plain (chunk_at e) ≡ true = rw (ordinary, inked) refl in
         let sums : sum_of event_columns (events_back (reverse between)) ≡ sum_by event_columns (events_of between) = sums_turned event_columns between in
         elim kind [
-          | inl l ↦ let over : width < column before + columns e.bytes + sum_of event_columns (events_back (reverse between)) + columns f.bytes =
-              over_width light clearly.room.2 before between e f h (plain, events_all is_light between ∙ l) line in omega arith
+          | inl l ↦ omega (arith, over_width light clearly.room.2 before between e f h ((rw (ordinary, inked) refl), events_all is_light between ∙ l) line)
           | inr l ↦ let over : width < column before + columns e.bytes + sum_of event_columns (events_back (reverse between)) + columns f.bytes =
-              over_width light_marks clearly.room.3 before between e f h (plain, events_all is_light_mark between ∙ l) line in omega arith
+              over_width light_marks clearly.room.3 before between e f h ((rw (ordinary, inked) refl), events_all is_light_mark between ∙ l) line in omega arith
         ]
 
     padding_is : (before : List Stretch) → padding before ≡ pads_back (reverse before)
@@ -340,10 +338,7 @@ module _ (width : ℕ) (document : List Part) (st : State) (final : List Stretch
     fits_law : FitsWidth width stretches
     fits_law = λ before after f s holds.
         let held : holds_back (reverse before) ≡ true = sym (line_turned holds_line (reverse before)) ∙ ap (λ ys. list_any holds_line (line_before ys)) (reverse-reverse before) ∙ holds in
-        let fits : column_back (reverse before) + columns f.bytes ≤ width + pads_back (reverse before) = one_at (FitsBefore width) clearly.fits before after f s held in
-        let here : column before ≡ column_back (reverse before) = column_is before in
-        let pads : padding before ≡ pads_back (reverse before) = padding_is before in
-        omega arith
+        omega (arith, padding_is before, column_is before, one_at (FitsBefore width) clearly.fits before after f s held)
 
     padded_law : PadsToMargin document stretches
     padded_law = record {

@@ -17,11 +17,11 @@ use Rattle.bpaf_doc.specs.Console.Steps.Pairs.{KnowsPairs}
 use Rattle.bpaf_doc.proofs.lemmas.Console.Hiding.{Counts, Counts-more, is_hidden-Counts}
 use Rattle.bpaf_doc.proofs.lemmas.Console.Layout.Back.{by_test, by_cases}
 use Rattle.bpaf_doc.proofs.lemmas.Console.Layout.Turned.{reverse_cons}
-use Rattle.bpaf_doc.proofs.lemmas.Console.Margins.{top, stack_at, stack_at-more, shifted, shift_at, shift_at-skipped, shift_at-shown, margin-le, margin-indent, margin-level, tab_stop-le}
+use Rattle.bpaf_doc.proofs.lemmas.Console.Margins.{top, stack_at, stack_at-more, shifted, shift_at, shift_at-shown, margin-le, margin-indent, margin-level, tab_stop-le}
 use Rattle.bpaf_doc.proofs.lemmas.Console.Pairs.{KnowsPairs-more, knows_start, skips_is}
 use Rattle.bpaf_doc.proofs.lemmas.Splitter.Pieces.{IsGood}
 use Rattle.bpaf_doc.proofs.lemmas.Console.Sheet.Whole.{get_from_drop, drop_next, Each, text_good}
-use Rattle.bpaf_doc.proofs.lemmas.Console.Tabs.{widest_from, tab_stop-walk}
+use Rattle.bpaf_doc.proofs.lemmas.Console.Tabs.{widest_from, walk}
 use Rattle.std.specs.List.{enumerate_from}
 use Rattle.bpaf_doc.specs.Console.Steps.Text.{console_text}
 use Rattle.bpaf_doc.specs.declared.buffer.Block.TheVariants as blocks
@@ -166,7 +166,7 @@ module _ (full : Bool) (document : List Part) (few : length document < 2 ^ 59) w
     walk_any_start : Walk (index + 1) rest next (hidden_after full hidden (Start b)) (whole.start_put next index b s)
     walk_any_start =
         by_test (Walk (index + 1) rest next (hidden_after full hidden (Start b))) (whole.skips next index b) s (page.opened b (whole.is_adjacent b next) s)
-        (λ e. walk_still index (Start b) rest pairs hidden s w next s start_known.0 refl refl (shift_at-skipped document index (Start b) (sym start_skips ∙ e))) (λ e. walk_start (sym start_skips ∙ e))
+        (λ e. walk_still index (Start b) rest pairs hidden s w next s start_known.0 refl refl (rw (sym start_skips ∙ e) refl)) (λ e. walk_start (sym start_skips ∙ e))
 
   -- an end
   module _ (index : ℕ) (rest : List Part) (b : Block) (pairs : Pairs) (hidden : ℕ) (s : Sheet) (w : Walk index (End b ∷ rest) pairs hidden s) where
@@ -183,11 +183,11 @@ module _ (full : Bool) (document : List Part) (few : length document < 2 ^ 59) w
     walk_any_end : Walk (index + 1) rest pairs (hidden_after full hidden (End b)) (whole.end_put pairs index b s)
     walk_any_end =
         by_test (Walk (index + 1) rest pairs (hidden_after full hidden (End b))) (whole.skips pairs index b) s (page.closed b s)
-        (λ e. walk_still index (End b) rest pairs hidden s w pairs s end_knows refl refl (shift_at-skipped document index (End b) (sym end_skips ∙ e))) (λ e. walk_end (sym end_skips ∙ e))
+        (λ e. walk_still index (End b) rest pairs hidden s w pairs s end_knows refl refl (rw (sym end_skips ∙ e) refl)) (λ e. walk_end (sym end_skips ∙ e))
 
   tab_is : whole.tab_stop_from 0 false 0 document ≡ tab_stop document
   tab_is =
-      let stop : widest_from 0 false 0 document + 4 ≡ tab_stop document = tab_stop-walk document in
+      let stop : widest_from 0 false 0 document + 4 ≡ tab_stop document = ap (λ n. n + 4) (walk document [] document 0 refl) ∙ omega arith in
       let most : tab_stop document ≤ 28 = tab_stop-le document in omega (arith, same_walk document 0 false 0) where
         same_walk : (parts : List Part) (widest : ℕ) (in_term : Bool) (term : ℕ) → whole.tab_stop_from widest in_term term parts ≡ saturated (widest_from widest in_term term parts + 4)
         same_walk [] widest in_term term = refl
@@ -227,10 +227,7 @@ raw_is width level bytes weight p e = grind (arith, common_steps, is_empty, case
 
 text_is : (full : Bool) (width level : ℕ) (chunks : List Chunk) (p : PageSoFar) → Each IsGood chunks → page.chunks_put width level full chunks p ≡ exact.chunks_put width level (written_of full chunks) p
 text_is full width level [] p good = refl
-text_is full width level (Raw bytes weight ∷ chunks) p good =
-    grind (arith, text_is full width level chunks, raw_is, by_cases, nat_tests)
-text_is full width level (LineBreak ∷ chunks) p good = text_is full width level chunks (exact.on_new_line p) good.1
-text_is full width level (Paragraph ∷ chunks) p good = grind (arith, text_is full width level chunks)
+text_is full width level (x ∷ chunks) p good = grind (arith, text_is full width level chunks, raw_is, by_cases, nat_tests)
 
 -- ---- the parts
 
@@ -250,9 +247,7 @@ module _ (full : Bool) (document : List Part) (width : ℕ) (few : length docume
   part_same index rest (End b) pairs hidden s w wide = grind (arith, end_skips full document few index rest b pairs hidden s w, closed_keeps)
 
   same_width : (index : ℕ) (part : Part) (pairs : Pairs) (hidden : ℕ) (s : Sheet) → (whole.part_put full document index pairs hidden part s).width ≡ s.width
-  same_width index (Text bytes style) pairs hidden s = grind arith
-  same_width index (Start b) pairs hidden s = grind (arith, opened_keeps b (whole.is_adjacent b (whole.pairs_at document index b pairs)) s)
-  same_width index (End b) pairs hidden s = grind (arith, closed_keeps b s)
+  same_width z0 z1 pairs hidden s = grind (arith, opened_keeps, closed_keeps)
 
   parts_same : (parts : List Part) (index : ℕ) (pairs : Pairs) (hidden : ℕ) (s : Sheet) → Walk full document few index parts pairs hidden s → s.width ≡ width
       → (whole.parts_put full document index pairs hidden parts s).page ≡ exact.parts_put full width document (enumerate_from index parts) s.page

@@ -7,14 +7,11 @@ use Rattle.std.proofs.lemmas.Grind.{replicate_next, common_steps}
 use Rattle.std.proofs.lemmas.Slice.Eq.{ends_is, bytes_eq-Decides}
 use Rattle.std.proofs.lemmas.Bool.{cases_lt, and_parts, not-true, not-false}
 use Rattle.std.proofs.lemmas.Bool.Decides.{nat_tests, Decides-eqb}
-use Rattle.std.proofs.Math.Bool.{and-true, and-false}
 use Rattle.bpaf_doc.specs.Splitter.Chunks.{IsLine, columns, has_some}
-use Rattle.bpaf_doc.specs.Console.Layout.{Stretch, Gap, Placed, Event, Opens, Closes, event_bytes}
+use Rattle.bpaf_doc.specs.Console.Layout.{Stretch, Gap, Placed}
 use Rattle.bpaf_doc.specs.Console.Exact as page
 use Rattle.bpaf_doc.specs.Console.Exact.{PageSoFar, Request, NoBreak, NewLine, BlankLine}
-use Rattle.bpaf_doc.specs.declared.buffer.Block.{Block}
-use Rattle.bpaf_doc.specs.Shown.{mark_bytes}
-use Rattle.bpaf_doc.proofs.lemmas.Console.Layout.State.{State, Piece, Lines, none_asked, line_there, line_put, blank_there, second_put, both_put, Begins, first, stays, wraps, Places, places, drops, Pads, to_margin, IsPut, sat, padded, put, wrapped, dropped, spaced, on_new_line, has_text, ends_line, ends_blank, IsLegible, passed, asked_after, pending_after}
+use Rattle.bpaf_doc.proofs.lemmas.Console.Layout.State.{State, Piece, Lines, none_asked, line_there, line_put, blank_there, second_put, both_put, Begins, first, stays, wraps, Places, places, drops, Pads, to_margin, IsPut, sat, padded, put, wrapped, dropped, spaced, on_new_line, has_text, ends_line, ends_blank, IsLegible}
 use Rattle.bpaf_doc.proofs.lemmas.Console.Layout.Back.{by_cases, by_test, by_padded}
 use Rattle.bpaf_doc.proofs.lemmas.Console.Layout.Blank.{some_none, text_back, text_back_cons}
 use Rattle.bpaf_doc.proofs.lemmas.Console.Layout.Stretches.{no_text, some_text, text_ends_line, text_ends_blank, trim_text, legible_trimmed}
@@ -25,9 +22,7 @@ text_padded : (n : ℕ) (r : List Stretch) → text_back (padded n r) ≡ text_b
 text_padded zero r = sym (append-nil (text_back r))
 text_padded (suc n) r =
     text_back_cons (Gap 32) (padded n r) ∙ ap (λ (t : List ℕ). t ++ 32 ∷ []) (text_padded n r) ∙ append_assoc (text_back r) (replicate n 32) (32 ∷ [])
-    ∙ ap (λ t. text_back r ++ t) (more n) where
-      more : (n : ℕ) → let b : ℕ = 32 in replicate n b ++ b ∷ [] ≡ replicate (suc n) b
-      more n = let s : n + 1 ≡ suc n = omega arith in sym (replicate_next n 32) ∙ ap (λ (k : ℕ). replicate k 32) s
+    ∙ ap (λ t. text_back r ++ t) (let s : n + 1 ≡ suc n = omega arith in sym (replicate_next n 32) ∙ ap (λ (k : ℕ). replicate k 32) s)
 
 padded_more : (a b : ℕ) (r : List Stretch) → padded a (padded b r) ≡ padded (a + b) r
 padded_more zero b r = let e : 0 + b ≡ b = omega arith in ap (λ (n : ℕ). padded n r) (sym e)
@@ -152,42 +147,23 @@ module _ (level : ℕ) where
       (λ k. by_test (RawTo width p st) (bytes_eq p.bytes (32 ∷ [])) _ _
       (λ b. (dropped p.part p.bytes p.weight (wrapped lines.0), drops (some h) lines.0 lines.1 (over k) ((bytes_eq-Decides p.bytes (32 ∷ [])).0 b) refl, draws_dropped p (page.wrapped (page.request_met s)) (wrapped lines.0) turned))
       (λ b. from (page.wrapped (page.request_met s)) (wrapped lines.0) turned (wraps (some h) lines.0 lines.1 (over k) (λ e. let no : true ≡ false = sym ((bytes_eq-Decides p.bytes (32 ∷ [])).1 e) ∙ b in cc) refl)))
-      (λ k. from (page.request_met s) lines.0 lines.2 (stays (some h) lines.1 (under k))))
-      (λ h. from s st d (first (empty h) refl)) where
-        empty : has_some s.text ≡ false → has_text st.back ≡ false
-        empty h = elim (by_cases (has_text st.back)) [ inl t ↦ absurd (some_text st.back t (sym d.bytes ∙ some_none s.text h)) | inr t ↦ t ]
-
+      (λ k. from (page.request_met s) lines.0 lines.2 (stays (some h) lines.1 (grind (arith, nat_tests)))))
+      (λ h. from s st d (first (elim (by_cases (has_text st.back)) [ inl t ↦ absurd (some_text st.back t (sym d.bytes ∙ some_none s.text h)) | inr t ↦ t ]) refl)) where
         some : has_some s.text ≡ true → has_text st.back ≡ true
-        some h = elim (by_cases (has_text st.back)) [ inl t ↦ t | inr t ↦ absurd (let no : true ≡ false = sym h ∙ ap has_some (d.bytes ∙ no_text st.back t) in cc) ]
+        some h = elim (by_cases (has_text st.back)) [ inl t ↦ t | inr t ↦ absurd (cc (sym h ∙ ap has_some (d.bytes ∙ no_text st.back t))) ]
 
         lines : LinesTo st (page.request_met s)
         lines = lines_put s st d
 
-        column : (page.request_met s).column ≡ lines.0.column
-        column = lines.2.column
-
         over : page.is_too_wide width p.bytes (page.request_met s) ≡ true → width < sat (lines.0.column + columns p.bytes)
-        over k = grind (arith, column, nat_tests)
-
-        under : page.is_too_wide width p.bytes (page.request_met s) ≡ false → sat (lines.0.column + columns p.bytes) ≤ width
-        under k = grind (arith, column, nat_tests)
+        over k = grind (arith, nat_tests)
 
         turned : Draws (page.wrapped (page.request_met s)) (wrapped lines.0)
         turned = draws_wrapped (page.request_met s) lines.0 lines.2
 
         -- where it is placed
         from : (t : PageSoFar) (base : State) → Draws t base → Begins width st p base → RawTo width p st (page.placed level p.bytes p.weight t)
-        from t base drawn begins = let placed : PlacedTo p base (page.placed level p.bytes p.weight t) = put_placed p t base u l drawn in (placed.0, places base placed.1.0 begins placed.1.1 placed.1.2, placed.2)
+        from t base drawn begins =
+            let placed : PlacedTo p base (page.placed level p.bytes p.weight t) = put_placed p t base u l drawn in (placed.0, places base placed.1.0 begins placed.1.1 placed.1.2, placed.2)
 
 -- ---- the marks of a document
-
--- the backquote of a term reference, over a page on which all else is as the mark leaves it
-pub draws_marked : (level : ℕ) (event : Event) (b : Block) (s : PageSoFar) (st : State) → event_bytes event ≡ mark_bytes b → s.text ≡ text_back st.back → s.column ≡ st.column → s.column ≤ 18446744073709551615
-    → s.request ≡ asked_after event st.asked → s.is_pending ≡ pending_after event st.pending → IsLegible st.back → Draws level (page.backquoted b s) (passed event level st)
-draws_marked level event b s st e o c l a p g = grind (arith, by_test, text_back_cons, append-nil)
-
-pub draws_opened : (level next : ℕ) (b : Block) (s : PageSoFar) (st : State) → Draws level s st → Draws next (page.start_put b s) (passed (Opens b) next st)
-draws_opened level next b s st d = grind (arith, common_steps, draws_marked)
-
-pub draws_closed : (level next : ℕ) (b : Block) (s : PageSoFar) (st : State) → Draws level s st → Draws next (page.end_put b s) (passed (Closes b) next st)
-draws_closed level next b s st d = grind (arith, common_steps, draws_marked next (Closes b) b, and-false, and-true)

@@ -2,7 +2,7 @@
 use Rattle.std.specs.Prelude.{◌≡◌, ℕ, zero, suc, ◌+◌, ◌^◌, ◌<◌, ◌≤◌, ⊤, Bool, true, false, List, [], ◌∷◌, ◌++◌, length, take, drop, reverse, map, flat_map, All, codes, refl, if◌then◌else◌, IsUtf8, slice_get, Some}
 use Rattle.std.specs.List.{enumerate_from}
 use Rattle.std.specs.Str.{chars}
-use Rattle.std.proofs.Common.{sym, subst, ap, arith, inl, inr, ◌∙◌, append_assoc}
+use Rattle.std.proofs.Common.{sym, subst, ap, arith, ◌∙◌, append_assoc}
 use Rattle.std.proofs.lemmas.List.{append-nil, reverse-reverse, length-drop}
 use Rattle.std.proofs.lemmas.List.Elements.{All-get_or}
 use Rattle.std.proofs.lemmas.Option.{get_or_from_slice_get, slice_get_within}
@@ -30,9 +30,10 @@ use Rattle.bpaf_doc.proofs.lemmas.Console.Layout.Split.{events_back}
 use Rattle.bpaf_doc.proofs.lemmas.Console.Layout.Stretches.{text_utf8, trim_ink}
 use Rattle.bpaf_doc.proofs.lemmas.Console.Layout.Turned.{reverse_cons}
 use Rattle.bpaf_doc.proofs.lemmas.Console.Layout.Whole.{EachNext, layout_of_page, written_base, written_events}
-use Rattle.bpaf_doc.proofs.lemmas.Console.Margins.{top, stack_at, shift_at, shift_at-shown, shift_at-skipped, shift_at-text, top-margin, margin-le, margin-le-greatest, margin-level, margin-end}
+use Rattle.bpaf_doc.proofs.lemmas.Console.Margins.{top, stack_at, shift_at, shift_at-shown, top-margin, margin-le, margin-le-greatest, margin-level, falls_after, stack_at-more}
 use Rattle.bpaf_doc.proofs.lemmas.Console.Pairs.{skipped_bare}
-use Rattle.bpaf_doc.proofs.lemmas.Console.Sheet.Grows.{Draws, raw_placed, RawTo, draws_opened, draws_closed, draws_marked}
+use Rattle.bpaf_doc.proofs.lemmas.Console.Sheet.Grows.{Draws, raw_placed, RawTo}
+use Rattle.std.proofs.Math.Bool.{and-false, and-true}
 
 -- ---- what is known of the chunks of a text
 
@@ -220,27 +221,24 @@ module _ (full : Bool) (document : List Part) (width : ℕ) (few : length docume
   part_step : (index : ℕ) (part : Part) (rest : List Part) (s : PageSoFar) → Going index (part ∷ rest) s → Going (index + 1) rest (page.part_put full width document index part s)
   part_step index (Text bytes style) rest s g =
       let chunks : List Chunk = shown_chunks full (take index document) bytes in
-      let level : page.saturated (margin document index) ≡ margin document index = omega (arith, fits index (Text bytes style) rest s g) in
-      let still : shift_at document index (Text bytes style) ≡ Level = shift_at-text document index bytes style in
-      let u : IsUtf8 bytes = utf8 index bytes style (get_from_drop document index (Text bytes style) rest g.here) in
-      subst (λ n. Going (index + 1) rest (page.chunks_put width n chunks s)) (sym level)
+      let still : shift_at document index (Text bytes style) ≡ Level = grind arith in
+      subst (λ n. Going (index + 1) rest (page.chunks_put width n chunks s)) (sym (omega (arith, fits index (Text bytes style) rest s g)))
       (chunks_step index (Text bytes style) rest s g (map (chunk_next index) chunks) (page.chunks_put width (margin document index) chunks s) (sym (shows_chunks index chunks)) still (shallow_chunks (greatest_margin document) index chunks)
       (text_steps document width (margin document index) index chunks g.nexts s (before_chunks index (Text bytes style) rest s g still)
-      (grind (arith, each_taken, each_of_all IsText (chunks_of bytes) (text_chunks bytes u))) (grind (arith, each_taken, text_good bytes))))
+      (grind (arith, each_taken, each_of_all IsText (chunks_of bytes) (text_chunks bytes (utf8 index bytes style (get_from_drop document index (Text bytes style) rest g.here))))) (grind (arith, each_taken, text_good bytes))))
   part_step index (Start b) rest s g =
       by_test (Going (index + 1) rest) (is_skipped document index) s (page.start_put b s)
-      (λ e. quiet_step index (Start b) rest s g (rw e refl) (shift_at-skipped document index (Start b) e))
-      (λ e. mark_step index (Start b) rest s g (Opens b) (page.start_put b s) (rw e refl) (draws_opened (top (stack_at document index)) (margin document index) b s g.later.st g.later.draws)
+      (λ e. quiet_step index (Start b) rest s g (rw e refl) (rw e refl))
+      (λ e. mark_step index (Start b) rest s g (Opens b) (page.start_put b s) (rw e refl) (grind (arith, common_steps, by_test, text_back_cons, append-nil, g.later.draws))
       (open_suits b (margin document index) refl
-      (λ h. let same : margin document index ≡ top (stack_at document index) = margin-level document index (Start b) rest g.here (shift_at-shown document index (Start b) e ∙ grind arith) in
-      let is : top (stack_at document index) ≡ g.later.st.margin = g.later.draws.margin in omega arith)
+      (λ h. let is : top (stack_at document index) ≡ g.later.st.margin = g.later.draws.margin in omega (arith, margin-level document index (Start b) rest g.here (shift_at-shown document index (Start b) e ∙ grind arith)))
       (fits index (Start b) rest s g)))
   part_step index (End b) rest s g =
       by_test (Going (index + 1) rest) (is_skipped document index) s (page.end_put b s)
-      (λ e. quiet_step index (End b) rest s g (rw e refl) (shift_at-skipped document index (End b) e))
-      (λ e. mark_step index (End b) rest s g (Closes b) (page.end_put b s) (rw e refl) (draws_closed (top (stack_at document index)) (margin document index) b s g.later.st g.later.draws)
+      (λ e. quiet_step index (End b) rest s g (rw e refl) (rw e refl))
+      (λ e. mark_step index (End b) rest s g (Closes b) (page.end_put b s) (rw e refl) (grind (arith, common_steps, by_test, text_back_cons, append-nil, and-false, and-true, g.later.draws))
       (close_suits b (margin document index) refl
-      (let less : margin document index ≤ top (stack_at document index) = margin-end document index b rest g.here in
+      (let less : margin document index ≤ top (stack_at document index) = grind (arith, margin-level, top-margin, top, stack_at-more, falls_after, shift_at-shown, g.here) in
       let is : top (stack_at document index) ≡ g.later.st.margin = g.later.draws.margin in omega arith)
       (fits index (End b) rest s g)))
 
@@ -296,9 +294,7 @@ mark_if : (c : Bool) (b : Block) (event : Event) → event_ink event ≡ mark_by
 mark_if c b event is none = grind arith
 
 part_ink : (full : Bool) (document : List Part) (k : ℕ) (part : Part) → slice_get document k ≡ Some part → flat_map event_ink (part_events full document k part) ≡ shown_part_ink full (take k document) part
-part_ink full document k (Text bytes style) there = chunks_ink k (shown_chunks full (take k document) bytes)
-part_ink full document k (Start b) there = mark_if (is_skipped document k) b (Opens b) refl (skipped_bare document k b (inl there))
-part_ink full document k (End b) there = mark_if (is_skipped document k) b (Closes b) refl (skipped_bare document k b (inr there))
+part_ink z0 document k z3 there = grind (arith, chunks_ink, mark_if, skipped_bare, there)
 
 parts_ink : (full : Bool) (document parts : List Part) (k : ℕ) → drop k document ≡ parts
     → flat_map event_ink (events_from full document k parts) ≡ flat_map (λ (k, part). shown_part_ink full (take k document) part) (enumerate_from k parts)

@@ -1,10 +1,10 @@
 -- The walk over the parts gives the fragments of the document.
-use Rattle.std.proofs.Common.{◌≡◌, ℕ, zero, suc, ◌+◌, Bool, true, false, List, [], ◌∷◌, ◌++◌, length, take, map, refl, sym, ap, ◌∙◌, arith, append_assoc, append-nil, subst, inr, ◌<◌, ◌==◌, not, ◌⊎◌, flat_map, if◌then◌else◌}
+use Rattle.std.proofs.Common.{◌≡◌, ℕ, zero, suc, ◌+◌, Bool, true, false, List, [], ◌∷◌, ◌++◌, length, take, map, refl, sym, ◌∙◌, arith, append_assoc, append-nil, subst, inr, ◌<◌, ◌==◌, not, ◌⊎◌, flat_map, if◌then◌else◌}
 use Rattle.bpaf_doc.specs.declared.buffer.Style.{Style}
 use Rattle.std.specs.List.{enumerate_from, before_first, position_or_len}
 use Rattle.std.proofs.lemmas.List.{take_at, length_push, length-append, length-map}
 use Rattle.std.proofs.lemmas.Bool.{false≢true}
-use Rattle.bpaf_doc.specs.Buffer.Parts.{Part, Text}
+use Rattle.bpaf_doc.specs.Buffer.Parts.{Part}
 use Rattle.bpaf_doc.specs.Splitter.Chunks.{Chunk, Raw, IsLine, chunks_of, columns, is_paragraph}
 use Rattle.bpaf_doc.specs.Splitter.Steps.Runs.{IsRun}
 use Rattle.bpaf_doc.proofs.lemmas.Splitter.Runs.{AreWords, no_words, a_word, words_of_line}
@@ -62,9 +62,7 @@ before_through p [] = refl
 before_through p (x ∷ xs) = grind (arith, before_through p xs, one_more, before_first-skip)
 
 part_same : (full : Bool) (before : List Part) (part : Part) → part_walk full part (depth_after_all full 0 before) ≡ part_fragments full before part
-part_same true before (Text bytes style) = ap (part_walk true (Text bytes style)) (full_depth before)
-part_same false before (Text bytes style) = grind (arith, before_through, not_zero, depth_hides)
-part_same full before _ = refl
+part_same z0 before z2 = grind (arith, full_depth, before_through, not_zero, depth_hides)
 
 walk-along : (full : Bool) (before parts : List Part) → walk full (depth_after_all full 0 before) parts ≡ along (part_fragments full) before parts
 walk-along full before [] = refl
