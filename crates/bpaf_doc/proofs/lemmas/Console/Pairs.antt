@@ -117,18 +117,12 @@ skipped_from document k i (here, pair) h = grind (arith, any_from (skips documen
 -- ---- from part to part
 
 module _ (document : List Part) where
-  pub KnowsPairs-none : (pairs : Pairs) → pairs.end ≡ 0 → pairs.has_pair ≡ false → KnowsPairs document 0 pairs
-  KnowsPairs-none pairs e h = grind (arith, both_ways)
-
   -- over a part that is no start of Section4
   pub KnowsPairs-more : (index : ℕ) (pairs : Pairs) → (slice_get document index ≡ Some (Start blocks.Section4) → ⊥) → KnowsPairs document index pairs → KnowsPairs document (index + 1) pairs
   KnowsPairs-more index pairs other knows = grind arith
 
   -- a start before an end that is known
   module _ (index : ℕ) (pairs : Pairs) (here : slice_get document index ≡ Some (Start blocks.Section4)) (knows : KnowsPairs document index pairs) (before : index < pairs.end) where
-    shared : (i : ℕ) × (i < index) × (after_section4 document i ≡ pairs.end + 1) × (pairs.has_pair ≡ skips_pair document i)
-    shared = knows.ahead before
-
     pub shared_answer : pairs.has_pair ≡ skips_pair document index
     shared_answer = grind (arith, after_section4-shared)
 

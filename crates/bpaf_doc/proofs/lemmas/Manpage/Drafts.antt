@@ -20,8 +20,6 @@ use Rattle.bpaf_doc.specs.declared.buffer.Block.TheVariants as block
 use Rattle.bpaf_doc.proofs.lemmas.Manpage.LookingBack.{captured_texts-append, places-append}
 use Rattle.bpaf_doc.proofs.lemmas.Manpage.PageRead.{end_calls, place_calls, page_read}
 
--- ---- the pieces of the calls
-
 start_same : (b : Block) → flat_map pieces_of (control_calls (start_name b)) ≡ start_pieces b
 start_same b = grind arith
 

@@ -42,9 +42,6 @@ abbrev pub raw_cut : Bool → Bool → Marked → Fragment → List MarkdownSnip
 raw_cut is_fence is_code p f =
     if is_fence then new_line_snippets p.bytes ++ line_snippets f else (if is_code then open_snippets p.in_code ++ line_snippets f else (close_snippets p.in_code ++ Of f ∷ []))
 
-abbrev pub raw_marked : Bool → Bool → Marked → List ℕ → Marked
-raw_marked is_fence is_code p bytes = if is_fence then with_line (with_new_line p) bytes else (if is_code then with_line (open_code p) bytes else with_words p bytes)
-
 -- P of a weight, by these
 pub by_weight : (weight : ℕ) (P : Bool → Bool → Type 0) → ((weight == fence_weight) ≡ true → (c : Bool) → P true c)
     → ((weight == fence_weight) ≡ false → (weight == code_weight) ≡ true → P false true) → ((weight == fence_weight) ≡ false → (weight == code_weight) ≡ false → P false false)

@@ -13,12 +13,8 @@ use Rattle.bpaf_doc.proofs.lemmas.Markdown.Mind.{Agrees, Room, after_empty_is, a
 use Rattle.bpaf_doc.proofs.lemmas.Markdown.Meets.{room_for, at_start, markdown_meets}
 use Rattle.bpaf_doc.proofs.lemmas.Markdown.Runs.{marked-append}
 
--- ---- whether a code block is open
-
 code_push : (before : List Fragment) (f : Fragment) → is_in_code (before ++ f ∷ []) ≡ code_next (is_in_code before) f
 code_push before f = ap (λ fs. begins_with_code_line (filter decides_code fs)) (reverse-append before (f ∷ [])) ∙ (grind arith)
-
--- ---- what is kept in mind is what looking back says
 
 record Looks (before : List Fragment) (p : Marked) : Type 0 where
   headed : p.headed ≡ list_any is_header_start before
@@ -75,8 +71,6 @@ texts_same before p (f ∷ fs) h code room =
 -- the text that the code writes of a document
 pub text_exact : (document : List Part) (full : Bool) → length document < 2 ^ 64 → (with_item (marked_after_all blank_text (shown_fragments full document)) false).bytes ≡ markdown_after [] [] (shown_fragments full document)
 text_exact document full few = texts_same [] blank_text (shown_fragments full document) at_start refl (room_for document full few)
-
--- ---- its laws
 
 -- the bound is that of a count of the code; each document meets it
 pub text_laws : (document : List Part) (full : Bool) → length document < 2 ^ 64 → IsMarkdownOf document full (markdown_page full document)

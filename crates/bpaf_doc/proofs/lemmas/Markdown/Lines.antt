@@ -86,10 +86,6 @@ abbrev without_first : List Fragment → List Fragment
 without_first [] = []
 without_first (f ∷ fs) = fs
 
-abbrev first_or : Fragment → List Fragment → Fragment
-first_or d [] = d
-first_or d (f ∷ fs) = f
-
 other_stands : (before : List Fragment) (text : List ℕ) (ss : List MarkdownSnippet) (f : Fragment) → fragments_in ss ≡ f ∷ [] → shows is_whole_line f ≡ false → LinesStand before text ss
 other_stands before text (Put mark ∷ ss) f e o = other_stands before (text ++ mark_text mark) ss f e o
 other_stands before text x f e o = grind (arith, false≢true, marks_stand)
@@ -127,9 +123,6 @@ Keeps true p = (p.pending ≡ false) × (p.in_code ≡ true → EndsInBlankLine 
 
 never : {X : Type 0} (b : Bool) → b ≡ false → b ≡ true → X
 never b e h = absurd (false≢true (sym e ∙ h))
-
-pending_after : (p : Marked) (f : Fragment) → is_item_start f ≡ false → (marked_after p f).pending ≡ false
-pending_after p f e = ap (λ s. s.pending) (step-flags p f) ∙ ap (λ b. if b then true else false) e
 
 chunk_next : (p : Marked) (style : Style) (chunk : Chunk) → Keeps true p → Keeps true (marked_after p (Shown style chunk))
 chunk_next p style chunk keeps = grind (arith, common_steps, with_chunk, codes, false, by_weight, one_blank, blank_newline)

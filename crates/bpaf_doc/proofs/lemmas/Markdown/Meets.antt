@@ -65,8 +65,6 @@ room_for document full few =
 pub at_start : Agrees [] (flags blank_text)
 at_start = record { headed = refl; in_list = refl; item = none refl refl refl; starts = refl; ends = refl }
 
--- ---- the text
-
 -- the text of a document, in full or in brief, well nested or not
 pub markdown_meets : (document : List Part) (full : Bool) (answer : List ℕ) → length document < 2 ^ 64
     → answer ≡ (with_item (marked_after_all blank_text (shown_fragments full document)) false).bytes → IsMarkdownOf document full answer

@@ -14,8 +14,6 @@ use Rattle.bpaf_doc.proofs.lemmas.Markdown.Cut.{Flags, flags, flags_next, item-f
 use Rattle.bpaf_doc.proofs.lemmas.Markdown.Kept.{own_heading, item_heading, step-fragments}
 use Rattle.std.proofs.Math.Nat.{zero-add}
 
--- ---- one fragment more before
-
 suffix-push : (q : Fragment → Bool) (fs : List Fragment) (f : Fragment) → suffix_len q (fs ++ f ∷ []) ≡ cond (q f) (1 + suffix_len q fs) 0
 suffix-push q fs f = ap (λ xs. prefix_len q xs) (reverse-append fs (f ∷ []))
 
@@ -76,8 +74,6 @@ agrees_after before p f fs h room =
 
 pub same_mono : (before : List Fragment) (p : Marked) → Agrees before (flags p) → SameMono before p
 same_mono before p h = ap (λ n. nat_lt n (count_by is_mono_start before)) h.ends ∙ ap (λ n. nat_lt p.ends n) h.starts
-
--- ---- the text
 
 -- the text after all, with the dash of a last item
 pub all-spelled : (before : List Fragment) (p : Marked) (fs : List Fragment) → Agrees before (flags p) → Room before fs → (with_item (marked_after_all p fs) false).bytes ≡ p.bytes ++ spelled before (cut_from p fs)

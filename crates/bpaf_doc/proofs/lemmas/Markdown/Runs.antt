@@ -10,8 +10,6 @@ use Rattle.bpaf_doc.specs.Markdown.Steps.Page.{Marked, put, with_item, close_cod
 use Rattle.bpaf_doc.proofs.lemmas.Splitter.Runs.{AreWords, no_words, a_word, words_of_line}
 use Rattle.bpaf_doc.proofs.lemmas.Splitter.Widths.{columns_few}
 
--- ---- one fragment after another
-
 pub marked-append : (p : Marked) (front back : List Fragment) → marked_after_all p (front ++ back) ≡ marked_after_all (marked_after_all p front) back
 marked-append p [] back = refl
 marked-append p (f ∷ fs) back = marked-append (marked_after p f) fs back
@@ -62,8 +60,6 @@ run_marked p style run is = at (words_of_line run is.line) where
       ∙ put_on t (spelled t.ends t.starts bytes) (spelled t.ends t.starts rest)
       ∙ ap (put t) (spelled_on t.ends t.starts bytes rest ∙ ap (spelled t.ends t.starts) (sym et))
       ∙ ap (λ b. put t (if b then flat_map escaped_character run else run)) same.1
-
--- ---- a line of code in a code block that is open
 
 pub code_line_more : (p : Marked) (style : Style) (line : List ℕ) → p.in_code ≡ true → p.pending ≡ false → marked_after p (Shown style (Raw line code_weight)) ≡ with_line p line
 code_line_more p style line opened settled = grind (arith, codes, false)

@@ -61,8 +61,6 @@ in_order_of_pieces (piece gap there after rest chunk others ec et g h t l w s) t
 pub chunks_in_order : (text : List ℕ) → StandInOrder text 0 (chunks_of text)
 chunks_in_order text = in_order_of_pieces (pieces (spells_its_chunks text)) text [] [] refl refl
 
--- ---- the spelling
-
 pub spelled_once : (text : List ℕ) → IsSpelledOnce text
 spelled_once text = record { spelled = spells_its_chunks text; only = λ chunks s. only_its_chunks chunks text s }
 

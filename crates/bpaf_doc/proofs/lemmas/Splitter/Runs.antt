@@ -11,8 +11,6 @@ use Rattle.bpaf_doc.proofs.lemmas.Splitter.Cuts.{is_newline, line_from_no_newlin
 use Rattle.bpaf_doc.proofs.lemmas.Splitter.Printable.{line_columns_are}
 use Rattle.bpaf_doc.proofs.lemmas.Splitter.Spelling.{and_left, and_right, spells_its_chunks, only_its_chunks}
 
--- ---- lines
-
 no_newline_first : (text rest : List ℕ) → text ≡ 10 ∷ rest → IsLine text → ⊥
 no_newline_first text rest e l = let h : IsTrue (list_all is_line_byte (10 ∷ rest)) = subst (λ t. IsTrue (list_all is_line_byte t)) e l in cc
 

@@ -77,9 +77,6 @@ next_len text line rest next n h1 h2 h3 = grind (arith, length-append)
 rest_len : (text front rest : List ℕ) (n : ℕ) → text ≡ front ++ rest → 0 < length front → length text ≤ suc n → length rest ≤ n
 rest_len text front rest n e some h = grind (arith, length-append)
 
-not_zero : (text front rest : List ℕ) → text ≡ front ++ rest → 0 < length front → length text ≤ 0 → ⊥
-not_zero text front rest e some h = grind (arith, length-append)
-
 empty_len : (text : List ℕ) → length text ≤ 0 → text ≢ [] → ⊥
 empty_len [] h e = e refl
 empty_len (b ∷ text) h e = omega arith
@@ -121,10 +118,6 @@ joined n form line other_line next other_next others a b c = grind arith
 some_len : (bytes : List ℕ) → bytes ≢ [] → 0 < length bytes
 some_len [] e = absurd (e refl)
 some_len (b ∷ bytes) e = omega arith
-
-word_some : (bytes rest : List ℕ) → bytes ≢ [] → bytes ++ rest ≡ [] → ⊥
-word_some [] rest e none = e refl
-word_some (b ∷ bytes) rest e none = cc
 
 word_is : (n : ℕ) (bytes rest : List ℕ) (others : List Chunk) → IsWord bytes → IsWordEnd rest → others ≡ chunks_within n Plain rest
     → Raw bytes (columns bytes) ∷ others ≡ chunks_within (suc n) Plain (bytes ++ rest)

@@ -7,10 +7,6 @@ use Rattle.unicode_width.specs.declared.state.After.{After}
 use Rattle.unicode_width.specs.Width.{Reading, alone, past_selectors, in_context, past_emoji, step, read_before, str_width, plain}
 use Rattle.bpaf_doc.specs.Splitter.Chunks.{columns}
 
--- one of two readings
-abbrev pick : Bool → Reading → Reading → Reading
-pick b x y = if b then x else y
-
 alone_most : (c : ℕ) → (alone false c).0 ≤ 3
 unfolding alone
 alone_most c = grind (arith, nat_tests)

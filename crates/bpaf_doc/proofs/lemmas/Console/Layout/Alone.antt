@@ -57,7 +57,5 @@ heavy_grows {st = st} small start (breaking k chunk e a) h = subst IsHeavy (sym 
     let line : has_newline m ≡ true = line_since (Gap 10 ∷ Passed (Shows k chunk) ∷ st.back) (Passed (Shows k chunk) ∷ st.back) m before g refl there in absurd cc)
 heavy_grows {st = st} small start (passing event margin e a) h = grind (arith, cut_passed event st.back)
 
--- ---- the law
-
 pub alone_grows : {width : ℕ} {st after : State} {next : Next} → width < 1_000_000 → IsStarting st → IsHeavy st → Grows width st next after → EachPlace AloneBefore st.back → EachPlace AloneBefore after.back
 alone_grows small start h g all = each_grows AloneBefore (λ r f i x. x) (λ p base n e b d. alone_padded n base.back (place_of p) (alone_begins p base small start h b)) g all

@@ -226,8 +226,6 @@ no_ink_grows suits g h =
     (λ k chunk e. (by_break (λ c j. is_inked_event (Shows j c) ≡ false) suits e (λ j l m. refl) (λ j l m. refl), h))
     (λ event margin e. (by_mark (λ x m. is_inked_event x ≡ false) suits e (λ b m l u. refl) (λ b m l u. refl), h))
 
--- ---- ink is text
-
 pub ink_text : (r : List Stretch) → EachPlace Fills r → EachPassed NoInk r → list_any is_inked_stretch r ≡ true → has_text r ≡ true
 ink_text [] f q h = absurd cc
 ink_text (x ∷ r) f q h = grind (arith, ink_text r, inked_some)

@@ -106,8 +106,6 @@ pub owes_fresh : (r : List Stretch) → EachPlace Fills r → owes_blank r ≡ t
 owes_fresh (x ∷ r) f o h = grind (arith, owes_fresh r, last_fresh)
 owes_fresh _ f o h = h
 
--- ---- what is owed is asked for
-
 pub asked_blank_grows : {width : ℕ} {margin_of : ℕ → ℕ} {st after : State} {next : Next} → Suits margin_of st next
     → Grows width st next after → IsAskedBlank st → IsAskedBlank after
 asked_blank_grows {st = st} suits g h = grind (arith, by_grows, by_break)

@@ -196,11 +196,6 @@ module _ (width : ℕ) (rule : Rule) where
         → IsRoomy (passed event margin st)
     known_passed event margin st quiet h = grind (arith, cut_passed event st.back, passed event margin st, and_parts)
 
-    -- a break does not follow
-    no_break : {A : Type 0} {margin_of : ℕ → ℕ} (st : State) (next : Next) (k : ℕ) (chunk : Chunk) → Suits margin_of st next → next ≡ break k chunk
-        → rule.follows (Shows k chunk) ≡ true → A
-    no_break {A} st next k chunk suits e = grind (arith, by_break)
-
     known_broken : {margin_of : ℕ → ℕ} (st : State) (next : Next) (k : ℕ) (chunk : Chunk) → Suits margin_of st next → next ≡ break k chunk
         → IsRoomy (broken k chunk st)
     known_broken st next k chunk suits e = grind (arith, cut_gap 10 (Passed (Shows k chunk) ∷ st.back), cut_passed (Shows k chunk) st.back, and_parts)

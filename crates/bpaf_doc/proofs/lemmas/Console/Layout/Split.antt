@@ -138,8 +138,6 @@ pub inked_since : (m : List Stretch) (e : Place) (before : List Stretch) → is_
 inked_since [] e before i n = rw i refl
 inked_since (x ∷ m) e before i n = grind (arith, inked_since m e before i, or_parts)
 
--- ---- the page where a chunk begins
-
 -- a place with ink is ink
 pub ink_at : (m : List Stretch) (e : Place) (before : List Stretch) → is_inked (chunk_at e) ≡ true → list_any is_inked_stretch (m ++ Placed e ∷ before) ≡ true
 ink_at [] e before i = rw i refl

@@ -162,9 +162,6 @@ backquote_ink : has_some (ink (96 ∷ [])) ≡ true
 unfolding chars
 backquote_ink = refl
 
-event_ink : (event : Event) → has_some (event_bytes event) ≡ true → has_some (ink (event_bytes event)) ≡ true
-event_ink event h = grind (arith, backquote_ink)
-
 event_trim : (event : Event) → has_some (event_bytes event) ≡ true → trim_end (event_bytes event) ≡ event_bytes event
 unfolding chars trim_end lib.Utf8.encode
 event_trim event h = grind arith
@@ -188,8 +185,6 @@ trim_ink text u = ap (λ cs. filter is_not_whitespace cs) (chars-encodes (drop_t
 pub trim_text : (r : List Stretch) → IsLegible r → trim_end (text_back r) ≡ text_back (trimmed r)
 trim_text [] h = plain_trim [] no_ink_nil
 trim_text (x ∷ r) h = grind (arith, trim_text r, text_back_cons, trim_white, text_utf8, gap_plain, trim_some, trim_ink, trim_twice, plain_trim, no_ink_nil, bare_text, event_trim)
-
--- ---- what may be read stays so
 
 pub legible_trimmed : (r : List Stretch) → IsLegible r → IsLegible (trimmed r)
 legible_trimmed = by_trimmed (λ r t. IsLegible r → IsLegible t) (λ h. h) (λ b r t ih h. ih h.1) (λ e r i h. ((h.0.0, h.0.1, inr refl), h.1)) (λ e r t i ih h. ih h.1) (λ event r i h. h) (λ event r t i ih h. ih h)

@@ -165,8 +165,6 @@ lines_bounded bound back h =
           let same : ahead 0 a ≡ column_back (reverse a) = ap (λ ys. ahead 0 ys) (sym (reverse-reverse a)) ∙ ahead_back (reverse a) in
           omega (arith, front_at (λ r. column_back r ≤ bound) (reverse b) (reverse a) (subst (λ ys. EachFront (λ r. column_back r ≤ bound) ys) turned h))
 
--- ---- a place in order
-
 -- the stretches in order, cut at a place, are the page newest first, cut at it
 pub turned_at : (back before after : List Stretch) (x : Stretch) → reverse back ≡ before ++ x ∷ after → back ≡ reverse after ++ x ∷ reverse before
 turned_at back before after x s = grind (arith, reverse-reverse back, reverse-append before (x ∷ after), reverse_cons x after, append_assoc (reverse after) (x ∷ []) (reverse before))

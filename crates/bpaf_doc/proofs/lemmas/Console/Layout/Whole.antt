@@ -192,8 +192,6 @@ module _ {width : ℕ} {margin_of : ℕ → ℕ} {clear : State → Next → Typ
         lines = within_grows width deepest most small (written_base w).fills ih.bare (written_base w).agrees ih.margin parts.1.2 parts.1.1 g ih.lines;
       }
 
--- ---- the end of the page
-
 ends_events : {st : State} {final : List Stretch} → Ends st final → events_back final ≡ events_back st.back
 ends_events h = grind arith
 

@@ -223,8 +223,6 @@ raw_is : (width level : ℕ) (bytes : List ℕ) (weight : ℕ) (p : PageSoFar) �
 unfolding page.raw_put
 raw_is width level bytes weight p e = grind (arith, common_steps, is_empty, cases)
 
--- ---- the chunks of a text
-
 text_is : (full : Bool) (width level : ℕ) (chunks : List Chunk) (p : PageSoFar) → Each IsGood chunks → page.chunks_put width level full chunks p ≡ exact.chunks_put width level (written_of full chunks) p
 text_is full width level [] p good = refl
 text_is full width level (x ∷ chunks) p good = grind (arith, text_is full width level chunks, raw_is, by_cases, nat_tests)

@@ -165,5 +165,3 @@ module _ (level : ℕ) where
         from : (t : PageSoFar) (base : State) → Draws t base → Begins width st p base → RawTo width p st (page.placed level p.bytes p.weight t)
         from t base drawn begins =
             let placed : PlacedTo p base (page.placed level p.bytes p.weight t) = put_placed p t base u l drawn in (placed.0, places base placed.1.0 begins placed.1.1 placed.1.2, placed.2)
-
--- ---- the marks of a document

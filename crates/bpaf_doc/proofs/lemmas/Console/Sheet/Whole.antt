@@ -254,10 +254,7 @@ module _ (full : Bool) (document : List Part) (width : ℕ) (few : length docume
   going_on [] index s g = grind (arith, append-nil)
   going_on (part ∷ parts) index s g = going_on parts (index + 1) (page.part_put full width document index part s) (part_step index part parts s g)
 
-  abbrev whole : PageSoFar
-  whole = page.parts_put full width document (numbered document) page.empty_page
-
-  page_done : Done whole
+  page_done : Done (page.parts_put full width document (numbered document) page.empty_page)
   page_done = going_on document 0 page.empty_page (record {
     here = refl;
     nexts = [];
