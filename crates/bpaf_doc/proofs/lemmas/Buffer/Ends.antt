@@ -1,4 +1,4 @@
--- What the running ends give: the parts, their texts, and what is added behind them.
+-- What the running ends give: the parts, their texts, and what is added after them.
 use Rattle.std.proofs.lemmas.Grind.{common_steps}
 use Rattle.std.proofs.Common.{◌≡◌, ℕ, zero, suc, ◌+◌, ◌-◌, ◌^◌, ◌<◌, ◌≤◌, Bool, true, false, List, [], ◌∷◌, ◌++◌, All, map, length, get_or, take, drop, sym, refl, ap, arith, length-append, length-drop, take_all, append_assoc, append-nil, take-append-drop, subst, add-zero, if◌then◌else◌, Option, Some, None, option_to_list}
 use Rattle.std.proofs.Math.Seq.{take-add}
@@ -23,7 +23,7 @@ pub length-parts_from : (start : ℕ) (es : List PartEnd) (rest : List ℕ) → 
 length-parts_from start [] rest = refl
 length-parts_from start (e ∷ es) rest = ap suc (length-parts_from e.end es (drop (e.end - start) rest))
 
--- the bytes behind the first end
+-- the bytes after the first end
 left_over : (start : ℕ) (e : PartEnd) (rest : List ℕ) → IsEnd start e rest → e.end + length (drop (e.end - start) rest) ≡ start + length rest
 left_over start e rest is = omega (arith, length-drop (e.end - start) rest, is.not_below, is.within)
 
@@ -63,7 +63,7 @@ AreEnds-append start (e ∷ es) fs rest more are also = grind (arith, AreEnds-ap
 -- ---- a part without bytes
 
 module _ (start : ℕ) (es : List PartEnd) (rest : List ℕ) (k : Kind) where
-  -- behind the other ends
+  -- after the other ends
   abbrev empty_end : PartEnd
   empty_end = record { kind = k; end = start + length rest }
 
@@ -91,7 +91,7 @@ module _ (from to : ℕ) where
   CanMove-AreEnds start [] rest le are fits = All-nil (CanMove from to)
   CanMove-AreEnds start (e ∷ es) rest le are fits = grind (arith, CanMove-AreEnds e.end es (drop (e.end - start) rest), left_over)
 
--- ---- a text behind the others
+-- ---- a text after the others
 
 -- where a last text of its style is taken off, the text takes its place
 pub with_text_end-push : (es : List PartEnd) (e : PartEnd) (style : Style) (end : ℕ) → with_text_end (es ++ e ∷ []) style end ≡ es ++ end_then_text e style end
@@ -167,7 +167,7 @@ module _ (style : Style) (text : List ℕ) where
   AreEnds-with_text_end utf8 start end (e ∷ []) rest is are = after_are start end e.end rest is utf8 e.kind are
   AreEnds-with_text_end utf8 start end (e ∷ f ∷ es) rest is are = grind (arith, AreEnds-with_text_end utf8 e.end end (f ∷ es) (drop (e.end - start) rest), length-append, take-append-le, drop-append-le, left_over)
 
--- ---- the parts behind a place
+-- ---- the parts after a place
 
 pub end_before-bounds : (start : ℕ) (es : List PartEnd) (rest : List ℕ) (i : ℕ) → AreEnds start es rest → (start ≤ end_before start es i) × (end_before start es i ≤ start + length rest)
 end_before-bounds start es rest zero are = (omega arith, omega arith)

@@ -41,7 +41,7 @@ IsWellNested-in_block b ps inner nested also = search (rules, joined, append_ass
 
 -- ---- writes between the marks of a block
 
--- a start joins no text, so what is written behind it does not depend on what stands before
+-- a start joins no text, so what is written after it does not depend on what stands before
 module _ (ps : List Part) (b : Block) where
   with_writes-behind_start : (qs : List Part) (ws : List Write) → with_writes ((ps ++ Start b ∷ []) ++ qs) ws ≡ (ps ++ Start b ∷ []) ++ with_writes qs ws
   with_writes-behind_start qs [] = refl

@@ -19,7 +19,7 @@ IsLonger (Text bytes style) now = (more : List ℕ) × (now ≡ Text (bytes ++ m
 IsLonger (Start b) now = now ≡ Start b
 IsLonger (End b) now = now ≡ End b
 
--- the last part before may have become longer, and others may stand behind it
+-- the last part before may have become longer, and others may stand after it
 abbrev Extends : List Part → List Part → Type 0
 Extends [] now = Unit {0}
 Extends (p ∷ ps) [] = ⊥

@@ -1,4 +1,4 @@
--- Of two blanks that come to a line without room behind its margin nothing is left.
+-- Of two blanks that come to a line without room after its margin nothing is left.
 use Rattle.std.specs.Str.{trim_end}
 use Rattle.std.proofs.Common.{ap₂, arith, rules, ◌∙◌, append_assoc, lt-ltb, ◌≡◌, ℕ, zero, suc, ◌+◌, ◌<◌, ◌≤◌, ◌==◌, true, false, List, [], ◌∷◌, ◌++◌, codes, length, replicate, nat_lt, IsUtf8}
 use Rattle.std.proofs.lemmas.Bool.Decides.{nat_tests}
@@ -25,7 +25,7 @@ some_blank (x ∷ xs) = grind (arith, nat_tests)
 -- ---- what they leave of a page
 
 module _ (width margin : ℕ) where
-  -- the first stands behind the margin
+  -- the first stands after the margin
   abbrev filled : List ℕ → List ℕ
   filled text = (text ++ replicate margin 32) ++ 32 ∷ []
 

@@ -15,6 +15,6 @@ put width margin text line column some past narrow other = grind (arith, lt-ltb,
 pub code_put_is : (s : Sheet) → IsPastLine s → (line : List ℕ) → bytes_eq line (32 ∷ []) ≡ false → on (raw_put s.width (margin_of s) line 1000000) s ≡ on (code_put (margin_of s) line) s
 code_put_is s is line other = grind (arith, put s.width (margin_of s) s.page.text line s.page.column is.some is.past is.narrow other)
 
--- behind which the next one does
+-- after which the next one does
 pub past_again : (s : Sheet) → IsPastLine s → (line : List ℕ) → IsPastLine (on (code_put (margin_of s) line) s)
 past_again s is line = grind (arith, length-append)

@@ -30,7 +30,7 @@ slice_get-drop : {A : Type 0} (m n : ℕ) (xs : List A) → slice_get (drop m xs
 slice_get-drop (suc m) n (x ∷ xs) = grind (arith, slice_get-drop m n xs)
 slice_get-drop y n z = grind (arith, zero-add)
 
--- a place behind a usize has no part
+-- a place past a usize has no part
 pub slice_get-saturates : (document : List Part) (k : ℕ) → length document < 2 ^ 64 → slice_get document (min k 18446744073709551615) ≡ slice_get document k
 slice_get-saturates document k small = grind (arith, slice_get_past)
 

@@ -25,7 +25,7 @@ byte_at k [] = 0
 byte_at zero (b ∷ bs) = b
 byte_at (suc k) (b ∷ bs) = byte_at k bs
 
--- no text ends in a break when this is put behind it
+-- no text ends in a break when this is put after it
 abbrev EndsOther : List ℕ → Type 0
 EndsOther t = (text front : List ℕ) → text ++ t ≡ front ++ break_text → ⊥
 
@@ -44,7 +44,7 @@ line_ends_other b (c ∷ cs) h text front e = grind (arith, line_ends_other c cs
 line_is_other : (t : List ℕ) → list_all is_line_byte t ≡ true → IsOther t
 line_is_other t h = grind (arith, line_ends_other)
 
--- a tag with a newline behind it, by the letter before its `>`
+-- a tag with a newline after it, by the letter before its `>`
 tag_is_other : (t : List ℕ) → is_empty t ≡ false → nat_eq (byte_at 2 (reverse t)) 114 ≡ false → ((rest : List ℕ) → byte_at 2 (reverse t ++ rest) ≡ byte_at 2 (reverse t)) → IsOther t
 unfolding byte_at
 tag_is_other t some other stays =

@@ -76,7 +76,7 @@ plain_html bytes all = has_neither language.Html 60 62 html_marks bytes all
 pub plain_markdown : (bytes : List ℕ) → list_all (λ c. not (is_byte2 91 93 c)) bytes ≡ true → IsPlain language.Markdown bytes
 plain_markdown bytes all = has_neither language.Markdown 91 93 markdown_marks bytes all
 
--- a run that stays as it is and a block behind it are written, and the rest is not yet
+-- a run that stays as it is and a block after it are written, and the rest is not yet
 pub block_on : (f : ℕ → List ℕ) (all text block after out longer last : List ℕ) (at : ℕ) → flat_map f (take at text) ≡ take at text → drop at text ≡ block ++ after
     → longer ≡ out ++ take at text → last ≡ longer ++ flat_map f block → out ++ flat_map f text ≡ all → last ++ flat_map f after ≡ all
 block_on f all text block after out longer last at plain split l e so_far =

@@ -25,7 +25,7 @@ pub data AreWords : List Chunk → List ℕ → Type 0 where
 blank_columns : 1 ≡ columns (codes " ")
 blank_columns = line_columns_are (codes " ") refl
 
--- a text behind them adds its own
+-- a text after them adds its own
 abbrev Joins : List Chunk → List ℕ → Type 0
 Joins chunks text = (after : List Chunk) (back : List ℕ) → IsWordEnd back → Spells Plain after back → Spells Plain (chunks ++ after) (text ++ back)
 

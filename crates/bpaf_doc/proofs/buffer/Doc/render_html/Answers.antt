@@ -1,4 +1,4 @@
--- The page after all fragments, with the style sheet behind it, is the page as a function of the document, and so it has the laws.
+-- The page after all fragments, with the style sheet after it, is the page as a function of the document, and so it has the laws.
 use Rattle.std.proofs.Common.{rules, ◌≡◌, [], ◌++◌, sym, ◌∙◌, ap, subst}
 use Rattle.bpaf_doc.specs.Html.Fragments.{shown_fragments}
 use Rattle.bpaf_doc.specs.Html.Page.{IsHtmlPageOf, IsHtmlTextPageOf}

@@ -1,4 +1,4 @@
--- Behind a code or fence line a newline comes before the next place.
+-- After a code or fence line a newline comes before the next place.
 use Rattle.std.proofs.Common.{sym, subst, ap, arith, inl, inr, ◌∙◌, ◌≡◌, ℕ, ◌<◌, ◌≤◌, true, false, List, [], ◌∷◌, ◌++◌, refl, ◌⊎◌}
 use Rattle.std.proofs.lemmas.Bool.Decides.{nat_tests}
 use Rattle.bpaf_doc.specs.Splitter.Chunks.{is_whole_line}
@@ -26,9 +26,9 @@ lines_same_or_line {st} l = by_lines (SameOrLine st) l (same_page refl) (new_lin
 pub line_since : (r rest m before : List Stretch) (e : Place) → r ≡ Gap 10 ∷ rest → Cut r m e before → has_newline m ≡ true
 line_since r rest m before e is there = grind (arith, cut_gap 10 rest m e before)
 
--- ---- the column behind a code line
+-- ---- the column after a code line
 
--- behind a code or fence line the column is at least its weight
+-- after a code or fence line the column is at least its weight
 abbrev pub IsHeavy : State → Type 0
 IsHeavy st = (m before : List Stretch) (e : Place) → Cut st.back m e before → is_whole_line (chunk_at e) ≡ true → has_newline m ≡ false → 1_000_000 ≤ st.column
 

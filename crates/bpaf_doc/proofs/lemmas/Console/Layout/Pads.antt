@@ -43,7 +43,7 @@ no_text_holds [] t p = refl
 no_text_holds (x ∷ r) t p = grind (arith, no_text_holds r, or_false_left, or_false_right)
 
 module _ (width : ℕ) where
-  -- behind a place or a backquote, a chunk fits but for the blanks before it
+  -- after a place or a backquote, a chunk fits but for the blanks before it
   abbrev pub FitsBefore : List Stretch → Place → Type 0
   FitsBefore r f = holds_back r ≡ true → column_back r + columns f.bytes ≤ width + pads_back r
 
@@ -59,7 +59,7 @@ module _ (width : ℕ) where
 
 -- ---- added blanks stand before a place
 
--- Each blank leads to a place, where what stands behind these stretches does, or does not.
+-- Each blank leads to a place, where what stands after these stretches does, or does not.
 abbrev pub Leads : Bool → List Stretch → Type 0
 Leads place [] = ⊤
 Leads place (Gap b ∷ r) = ((b == 32) ≡ true → place ≡ true) × Leads ((b == 32) && place) r

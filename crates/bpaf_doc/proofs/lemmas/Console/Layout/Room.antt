@@ -51,7 +51,7 @@ after_all_grows {st = st} {next = next} suits h g all = each_grows IsAfterAll (�
   core : {width : ℕ} (p : Piece) (base : State) (n : ℕ) → next ≡ raw p → Begins width st p base → Pads base n → IsAfterAll (padded n base.back) (place_of p)
   core p base n e b d = subst (Since false p.part) (sym (same_padded events_back (λ x. refl) n base.back ∙ events_begins b)) (h.next p.part (fits_of suits e).order (fits_of suits e).moved)
 
--- a chunk behind a mark is of a later text
+-- a chunk after a mark is of a later text
 pub part_later : (strict : Bool) (k : ℕ) (m before : List Stretch) (e : Place) → Since strict k (events_back (m ++ Placed e ∷ before))
     → (strict ≡ true) ⊎ (list_all is_chunk (events_back m) ≡ false) → e.part < k
 part_later strict k [] before e h s = grind arith
