@@ -10,7 +10,6 @@ use Rattle.bpaf_doc.specs.declared.buffer.Block.TheVariants as blocks
 use Rattle.bpaf_doc.specs.declared.buffer.Block.{Block}
 use Rattle.bpaf_doc.specs.declared.console.pairs.Pairs.{Pairs}
 use Rattle.bpaf_doc.specs.Buffer.Parts.{Part, Start, End}
-use Rattle.bpaf_doc.specs.Shown.{mark_bytes}
 use Rattle.bpaf_doc.specs.Console.Margin.{is_section4_start, is_section4_end, has_empty_block, after_section4, skips_pair, is_skipped}
 use Rattle.bpaf_doc.specs.Console.Steps.Pairs.{SkipsAt, HasMarkAt, KnowsPairs}
 use Rattle.bpaf_doc.specs.Console.Steps.Text as whole
@@ -68,7 +67,7 @@ empty_block-from : (parts : List Part) → slice_get parts 0 ≡ Some (Start blo
 empty_block-from parts h i = grind arith
 
 -- and what stands at the places of a skipped pair
-pair_there : (document : List Part) (i : ℕ) → skips_pair document i ≡ true
+pub pair_there : (document : List Part) (i : ℕ) → skips_pair document i ≡ true
     → (slice_get document (after_section4 document i) ≡ Some (Start blocks.Block)) × (slice_get document (after_section4 document i + 1) ≡ Some (End blocks.Block))
 pair_there document i h = at (after_section4 document i) h where
   at : (k : ℕ) → has_empty_block (drop k document) ≡ true → (slice_get document k ≡ Some (Start blocks.Block)) × (slice_get document (k + 1) ≡ Some (End blocks.Block))
@@ -103,13 +102,9 @@ module _ (f : ℕ → Part → Bool) where
 abbrev skips : List Part → ℕ → ℕ → Part → Bool
 skips document k i part = (is_section4_start part && skips_pair document i) && ((k == after_section4 document i) || (k == after_section4 document i + 1))
 
-skipped_by : (document : List Part) (k : ℕ) → is_skipped document k ≡ true
+pub skipped_by : (document : List Part) (k : ℕ) → is_skipped document k ≡ true
     → (i : ℕ) × SkipsAt document i × ((k ≡ after_section4 document i) ⊎ (k ≡ after_section4 document i + 1))
 skipped_by document k h = grind (arith, any_found (skips document k) document 0 h, and_parts, start_is, nat_tests)
-
--- no mark with a backquote is skipped
-pub skipped_bare : (document : List Part) (k : ℕ) (b : Block) → HasMarkAt document k b → is_skipped document k ≡ true → mark_bytes b ≡ []
-skipped_bare document k b mark h = grind (arith, skipped_by, pair_there)
 
 skipped_from : (document : List Part) (k i : ℕ) → SkipsAt document i → (k ≡ after_section4 document i) ⊎ (k ≡ after_section4 document i + 1) → is_skipped document k ≡ true
 skipped_from document k i (here, pair) h = grind (arith, any_from (skips document k) document 0 i (Start blocks.Section4) here, zero-add i, nat_tests)

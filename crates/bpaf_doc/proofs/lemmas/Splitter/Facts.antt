@@ -8,7 +8,7 @@ use Rattle.bpaf_doc.specs.Buffer.Parts.{ink}
 use Rattle.bpaf_doc.specs.Splitter.Chunks.{Chunk, chunk_ink, chunks_of}
 use Rattle.bpaf_doc.specs.Splitter.Promises.{IsGap, IsOneLine, IsPlace, IsSpelledOnce, IsText, StandInOrder, StandsFor, is_gap_byte}
 use Rattle.bpaf_doc.proofs.lemmas.Splitter.Spelling.{spells_its_chunks, only_its_chunks, spells_in}
-use Rattle.bpaf_doc.proofs.lemmas.Splitter.Pieces.{Pieces, none, piece, pieces, good_line, IsUtf8-blank}
+use Rattle.bpaf_doc.proofs.lemmas.Splitter.Pieces.{Pieces, none, piece, pieces, IsUtf8-blank}
 use Rattle.bpaf_doc.proofs.lemmas.Splitter.Ink.{ink-nil, ink-append, ink_after_gap, gap_ink}
 use Rattle.bpaf_doc.proofs.lemmas.Splitter.FirstChunk.{chunks_of-plain}
 
@@ -26,7 +26,7 @@ ink_of_chunks text u = ink_of_pieces (pieces (spells_its_chunks text)) u
 
 one_line_of_pieces : {chunks : List Chunk} {text : List ℕ} → Pieces chunks text → All IsOneLine chunks
 one_line_of_pieces {chunks} (none ec et) = All-same IsOneLine chunks [] ec (All-nil IsOneLine)
-one_line_of_pieces {chunks} (piece gap there after rest chunk others ec et g h t l w s) = grind (arith, one_line_of_pieces s, good_line, All-same, All-cons)
+one_line_of_pieces {chunks} (piece gap there after rest chunk others ec et g h t l w s) = grind (arith, one_line_of_pieces s, All-same, All-cons)
 
 -- no chunk has a newline in it
 pub one_line_chunks : (text : List ℕ) → All IsOneLine (chunks_of text)

@@ -7,7 +7,7 @@ use Rattle.std.proofs.lemmas.List.{append-nil, get_or_at, take_at, drop_at, leng
 use Rattle.std.proofs.lemmas.Str.{IsUtf8-nil, IsUtf8-append, IsUtf8-encode, encode_ascii, IsUtf8-take, IsUtf8-drop, IsCharBoundary-before_ascii, IsCharBoundary-after_ascii}
 use Rattle.bpaf_doc.specs.Splitter.Chunks.{Chunk, Raw, Paragraph, LineBreak, Form, Spells, nothing, code_line, fence, before_code, paragraph, line_break, newline, blank, word, opening, later, closing, closing_paragraph, is_word_byte, code_weight, fence_weight, columns, has_some, IsLine, IsLineEnd, IsOrdinary, IsPastNewline, IsWord}
 use Rattle.unicode_width.specs.Width.{str_width, step, past_emoji}
-use Rattle.bpaf_doc.specs.Splitter.Promises.{IsGap, IsOneLine, StandsFor, is_gap_byte}
+use Rattle.bpaf_doc.specs.Splitter.Promises.{IsGap, StandsFor, is_gap_byte}
 use Rattle.bpaf_doc.proofs.lemmas.Splitter.Spelling.{and_left, and_right, starts_front}
 use Rattle.std.proofs.lemmas.Bool.Decides.{nat_tests}
 
@@ -58,10 +58,6 @@ abbrev pub IsGood : Chunk → Type 0
 IsGood (Raw bytes weight) = IsLine bytes × (weight < 1_000_000 → weight ≡ columns bytes) × (IsOrdinary (Raw bytes weight) → weight ≡ columns bytes) × (IsOrdinary (Raw bytes weight) → has_some bytes ≡ true)
 IsGood Paragraph = Unit {0}
 IsGood LineBreak = Unit {0}
-
--- it has no newline
-pub good_line : (chunk : Chunk) → IsGood chunk → IsOneLine chunk
-good_line chunk h = grind arith
 
 -- a word is in one line
 pub word_line : (bytes : List ℕ) → IsTrue (list_all is_word_byte bytes) → IsLine bytes

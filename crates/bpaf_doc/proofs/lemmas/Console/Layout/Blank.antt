@@ -132,11 +132,12 @@ HasNoRaw m = list_any is_raw_event (events_back m) ≡ false
 line_between : (m : List Stretch) (e : Place) (before : List Stretch) → HasNoRaw m → has_some e.shown ≡ true → ends_line (m ++ Placed e ∷ before) ≡ true → EndsLine m
 line_between [] e before none some h = let no : false ≡ true = rw some at h in absurd cc
 line_between (Gap b ∷ m) e before none some h = grind (arith, eqb-true b 10 h, text_back_cons (Gap b) m)
-line_between (x ∷ m) e before none some h = grind (arith, line_between m, or_false_right, text_back_cons, some_none, append-nil)
+line_between (x ∷ m) e before none some h = grind (arith, line_between m, or_false_right, text_back_cons, append-nil)
 
 blank_between : (m : List Stretch) (e : Place) (before : List Stretch) → HasNoRaw m → has_some e.shown ≡ true → ends_blank (m ++ Placed e ∷ before) ≡ true → HasBlankLine (text_back m)
 blank_between [] e before none some h = let no : false ≡ true = rw some at h in absurd cc
-blank_between (x ∷ m) e before none some h = grind (arith, common_steps, blank_between m, eqb-true, and_parts, line_between, text_back_cons, append_assoc, append-nil, or_false_right, some_none)
+blank_between (x ∷ m) e before none some h =
+    grind (arith, common_steps, blank_between m, eqb-true, and_parts, line_between, text_back_cons, append_assoc, append-nil, or_false_right)
 
 blank_padded : (n : ℕ) (m : List Stretch) → HasBlankLine (text_back m) → HasBlankLine (text_back (padded n m))
 blank_padded zero m h = h

@@ -13,7 +13,7 @@ use Rattle.bpaf_doc.specs.Buffer.Parts.{ink}
 use Rattle.bpaf_doc.specs.Splitter.Chunks.{has_some, IsLine}
 use Rattle.bpaf_doc.specs.Console.Layout.{Event, Stretch, Gap, Placed, Passed, Place, event_bytes, stretch_bytes, is_newline}
 use Rattle.bpaf_doc.proofs.lemmas.Console.Layout.State.{has_text, ends_line, ends_blank, trimmed, IsLegible}
-use Rattle.bpaf_doc.proofs.lemmas.Console.Layout.Blank.{text_back, text_back_cons, some_none}
+use Rattle.bpaf_doc.proofs.lemmas.Console.Layout.Blank.{text_back, text_back_cons}
 
 -- ---- trimming
 
@@ -83,18 +83,17 @@ trim_line text u l = let front : (rest : List ℕ) × (text ≡ trim_end text ++
 
 -- ---- the text of a page
 
-pub event_utf8 : (event : Event) → IsUtf8 (event_bytes event)
-event_utf8 z0 = grind (arith, IsUtf8-nil, IsUtf8-from_ascii)
-
 shown_utf8 : (e : Place) → IsUtf8 e.bytes → (e.shown ≡ e.bytes) ⊎ (e.shown ≡ trim_end e.bytes) → IsUtf8 e.shown
 shown_utf8 e u (inl s) = subst IsUtf8 (sym s) u
 shown_utf8 e u (inr s) = subst IsUtf8 (sym s) (trim_utf8 e.bytes u)
 
 pub text_utf8 : (r : List Stretch) → IsLegible r → IsUtf8 (text_back r)
 text_utf8 [] h = IsUtf8-nil
-text_utf8 (Gap b ∷ r) h = subst IsUtf8 (sym (text_back_cons (Gap b) r)) (IsUtf8-append (text_back r) (b ∷ []) (text_utf8 r h.1) (grind (arith, IsUtf8-from_ascii)))
+text_utf8 (Gap b ∷ r) h =
+    subst IsUtf8 (sym (text_back_cons (Gap b) r)) (IsUtf8-append (text_back r) (b ∷ []) (text_utf8 r h.1) (grind (arith, IsUtf8-from_ascii)))
 text_utf8 (Placed e ∷ r) h = subst IsUtf8 (sym (text_back_cons (Placed e) r)) (IsUtf8-append (text_back r) e.shown (text_utf8 r h.1) (shown_utf8 e h.0.0 h.0.2))
-text_utf8 (Passed event ∷ r) h = subst IsUtf8 (sym (text_back_cons (Passed event) r)) (IsUtf8-append (text_back r) (event_bytes event) (text_utf8 r h) (event_utf8 event))
+text_utf8 (Passed event ∷ r) h =
+    subst IsUtf8 (sym (text_back_cons (Passed event) r)) (IsUtf8-append (text_back r) (event_bytes event) (text_utf8 r h) (grind (arith, IsUtf8-nil, IsUtf8-from_ascii)))
 
 -- ---- where the text ends
 
@@ -105,11 +104,11 @@ snoc_some (x ∷ xs) ys h = λ none. absurd cc
 -- a page without bytes has an empty text, and only such a page
 pub no_text : (r : List Stretch) → has_text r ≡ false → text_back r ≡ []
 no_text [] h = refl
-no_text (x ∷ r) h = grind (arith, no_text r, some_none, or_parts, text_back_cons)
+no_text (x ∷ r) h = grind (arith, no_text r, or_parts, text_back_cons)
 
 pub some_text : (r : List Stretch) → has_text r ≡ true → text_back r ≢ []
 some_text [] h = λ e. absurd cc
-some_text (x ∷ r) h = grind (arith, some_text r, snoc_some, text_back_cons, append-nil, some_none)
+some_text (x ∷ r) h = grind (arith, some_text r, snoc_some, text_back_cons, append-nil)
 
 -- a list of some bytes ends in one of them
 record LastByte (xs : List ℕ) : Type 0 where
@@ -133,9 +132,6 @@ ends_in r x front s e =
     append_assoc (text_back r) last.front (last.last ∷ []) ∙ ap (λ t. text_back r ++ t) (sym last.is) ∙ sym (text_back_cons x r) ∙ e in
     (last.front, last.is ∙ ap (λ (b : ℕ). last.front ++ b ∷ []) (same_from_push (text_back r ++ last.front) front last.last 10 whole).1)
 
-bare_text : (r : List Stretch) (x : Stretch) → has_some (stretch_bytes x) ≡ false → text_back (x ∷ r) ≡ text_back r
-bare_text r x s = text_back_cons x r ∙ ap (λ t. text_back r ++ t) (some_none (stretch_bytes x) s) ∙ append-nil (text_back r)
-
 -- no place and no event ends in a newline
 no_end : (r : List Stretch) (x : Stretch) (front : List ℕ) → IsLegible (x ∷ r) → is_newline x ≡ false → has_some (stretch_bytes x) ≡ true → text_back (x ∷ r) ≡ front ++ 10 ∷ [] → ⊥
 no_end r (Gap b) front h n s e = grind (arith, text_back_cons, same_from_push, nat_tests)
@@ -146,11 +142,11 @@ no_end r (Passed event) front h n s e = line_end_lem (ends_in r (Passed event) f
 -- a text that ends in a newline is one of a page that does
 pub text_ends_line : (r : List Stretch) (front : List ℕ) → IsLegible r → text_back r ≡ front ++ 10 ∷ [] → ends_line r ≡ true
 text_ends_line [] front h e = absurd (snoc_some front (10 ∷ []) refl (sym e))
-text_ends_line (x ∷ r) front h e = grind (arith, text_ends_line r, no_end r x front h, bare_text r x, by_cases)
+text_ends_line (x ∷ r) front h e = grind (arith, text_ends_line r, no_end r x front h, text_back_cons, text_back, append-nil, by_cases)
 
 pub text_ends_blank : (r : List Stretch) (front : List ℕ) → IsLegible r → text_back r ≡ (front ++ 10 ∷ []) ++ 10 ∷ [] → ends_blank r ≡ true
 text_ends_blank [] front h e = absurd (snoc_some (front ++ 10 ∷ []) (10 ∷ []) refl (sym e))
-text_ends_blank (x ∷ r) front h e = grind (arith, text_ends_blank r, text_back_cons, same_from_push, text_ends_line, no_end, bare_text, by_cases)
+text_ends_blank (x ∷ r) front h e = grind (arith, text_ends_blank r, text_back_cons, same_from_push, text_ends_line, no_end, text_back, append-nil, by_cases)
 
 -- ---- the trimmed page
 
@@ -184,7 +180,8 @@ trim_ink text u = ap (λ cs. filter is_not_whitespace cs) (chars-encodes (drop_t
 
 pub trim_text : (r : List Stretch) → IsLegible r → trim_end (text_back r) ≡ text_back (trimmed r)
 trim_text [] h = plain_trim [] no_ink_nil
-trim_text (x ∷ r) h = grind (arith, trim_text r, text_back_cons, trim_white, text_utf8, gap_plain, trim_some, trim_ink, trim_twice, plain_trim, no_ink_nil, bare_text, event_trim)
+trim_text (x ∷ r) h =
+    grind (arith, trim_text r, text_back_cons, trim_white, text_utf8, gap_plain, trim_some, trim_ink, trim_twice, plain_trim, no_ink_nil, text_back, append-nil, event_trim)
 
 pub legible_trimmed : (r : List Stretch) → IsLegible r → IsLegible (trimmed r)
 legible_trimmed = by_trimmed (λ r t. IsLegible r → IsLegible t) (λ h. h) (λ b r t ih h. ih h.1) (λ e r i h. ((h.0.0, h.0.1, inr refl), h.1)) (λ e r t i ih h. ih h.1) (λ event r i h. h) (λ event r t i ih h. ih h)

@@ -219,9 +219,7 @@ passed_back Q [] r h = h
 passed_back Q (s ∷ m) r h = grind (arith, passed_back Q m r)
 
 may_stand : (m r : List Stretch) (x : Stretch) → MayEnd false (m ++ x ∷ r) → EachPassed NoInk (m ++ x ∷ r) → MayStand x (reverse m)
-may_stand m r x h q = at x (known_end m false x r [] (λ t. absurd cc) h) q where
-  at : (x : Stretch) → KnownEnd m x r [] → EachPassed NoInk (m ++ x ∷ r) → MayStand x (reverse m)
-  at x h1 h2 = grind (arith, append-nil, passed_back)
+may_stand m r x h q = grind (arith, append-nil, passed_back, (known_end m false x r [] (λ t. absurd cc) h))
 
 -- ---- the laws
 

@@ -213,15 +213,9 @@ module _ (full : Bool) (document : List Part) (few : length document < 2 ^ 59) w
 is_empty : (text : List ℕ) → (length text == 0) ≡ not (has_some text)
 is_empty text = grind (arith, nat_tests)
 
--- the cases of a Raw chunk, in the order of the rules
-cases : (some wide blank : Bool) (s a w : PageSoFar) (put : PageSoFar → PageSoFar)
-    → (if (not (not some) && wide) && blank then (if not some then s else if wide then w else a) else put (if not some then s else if wide then w else a))
-    ≡ (if some then (if wide then (if blank then w else put w) else put a) else put s)
-cases some wide blank s a w put = grind arith
-
 raw_is : (width level : ℕ) (bytes : List ℕ) (weight : ℕ) (p : PageSoFar) → page.columns_of bytes weight ≡ columns bytes → page.raw_put width level bytes weight p ≡ exact.raw_put width level bytes weight p
 unfolding page.raw_put
-raw_is width level bytes weight p e = grind (arith, common_steps, is_empty, cases)
+raw_is width level bytes weight p e = grind (arith, common_steps, is_empty)
 
 text_is : (full : Bool) (width level : ℕ) (chunks : List Chunk) (p : PageSoFar) → Each IsGood chunks → page.chunks_put width level full chunks p ≡ exact.chunks_put width level (written_of full chunks) p
 text_is full width level [] p good = refl
@@ -244,15 +238,12 @@ module _ (full : Bool) (document : List Part) (width : ℕ) (few : length docume
   part_same index rest (Start b) pairs hidden s w wide = grind (arith, start_skips full document few index rest b pairs hidden s w, opened_keeps)
   part_same index rest (End b) pairs hidden s w wide = grind (arith, end_skips full document few index rest b pairs hidden s w, closed_keeps)
 
-  same_width : (index : ℕ) (part : Part) (pairs : Pairs) (hidden : ℕ) (s : Sheet) → (whole.part_put full document index pairs hidden part s).width ≡ s.width
-  same_width z0 z1 pairs hidden s = grind (arith, opened_keeps, closed_keeps)
-
   parts_same : (parts : List Part) (index : ℕ) (pairs : Pairs) (hidden : ℕ) (s : Sheet) → Walk full document few index parts pairs hidden s → s.width ≡ width
       → (whole.parts_put full document index pairs hidden parts s).page ≡ exact.parts_put full width document (enumerate_from index parts) s.page
   parts_same [] index pairs hidden s w wide = refl
   parts_same (part ∷ parts) index pairs hidden s w wide =
       parts_same parts (index + 1) (whole.pairs_after document index pairs part) (hidden_after full hidden part) (whole.part_put full document index pairs hidden part s)
-      (walk_part full document few index parts part pairs hidden s w) (same_width index part pairs hidden s ∙ wide)
+      (walk_part full document few index parts part pairs hidden s w) ((grind (arith, opened_keeps, closed_keeps)) ∙ wide)
       ∙ ap (exact.parts_put full width document (enumerate_from (index + 1) parts)) (part_same index parts part pairs hidden s w wide)
 
   text_page : console_text full width document ≡ console_page full width document

@@ -8,7 +8,6 @@ use Rattle.std.proofs.lemmas.List.Elements.{All-get_or}
 use Rattle.std.proofs.lemmas.Option.{get_or_from_slice_get, slice_get_within}
 use Rattle.std.proofs.lemmas.Grind.{flat_map-append, common_steps}
 use Rattle.bpaf_doc.proofs.lemmas.Splitter.Pieces.{Pieces, none as no_pieces, piece as stands, pieces, IsGood}
-use Rattle.bpaf_doc.specs.declared.buffer.Block.{Block}
 use Rattle.bpaf_doc.specs.declared.buffer.Style.{Style}
 use Rattle.bpaf_doc.specs.Buffer.Parts.{Part, Text, Start, End, ink, part_bytes, HasUtf8Texts}
 use Rattle.bpaf_doc.specs.Splitter.Chunks.{Chunk, Raw, Paragraph, LineBreak, IsLine, IsOrdinary, has_some, columns, chunks_of, chunk_ink, Plain}
@@ -25,13 +24,13 @@ use Rattle.bpaf_doc.proofs.lemmas.Splitter.Spelling.{spells_in}
 use Rattle.bpaf_doc.proofs.lemmas.Console.Ink.{ink-backquote}
 use Rattle.bpaf_doc.proofs.lemmas.Console.Layout.State.{State, piece, Next, raw, break, mark, placing, breaking, passing, Fits, Suits, raw_suits, paragraph_suits, line_break_suits, open_suits, close_suits, Written, nothing, more, blank_page, broken, passed, chunk_next, IsLegible, IsShallow, Ends, as_is, with_newline}
 use Rattle.bpaf_doc.proofs.lemmas.Console.Layout.Back.{by_test, EachPassed, NoInk, next_event}
-use Rattle.bpaf_doc.proofs.lemmas.Console.Layout.Blank.{text_back, text_back_cons, some_none}
+use Rattle.bpaf_doc.proofs.lemmas.Console.Layout.Blank.{text_back, text_back_cons}
 use Rattle.bpaf_doc.proofs.lemmas.Console.Layout.Split.{events_back}
 use Rattle.bpaf_doc.proofs.lemmas.Console.Layout.Stretches.{text_utf8, trim_ink}
 use Rattle.bpaf_doc.proofs.lemmas.Console.Layout.Turned.{reverse_cons}
 use Rattle.bpaf_doc.proofs.lemmas.Console.Layout.Whole.{EachNext, layout_of_page, written_base, written_events}
 use Rattle.bpaf_doc.proofs.lemmas.Console.Margins.{top, stack_at, shift_at, shift_at-shown, top-margin, margin-le, margin-le-greatest, margin-level, falls_after, stack_at-more}
-use Rattle.bpaf_doc.proofs.lemmas.Console.Pairs.{skipped_bare}
+use Rattle.bpaf_doc.proofs.lemmas.Console.Pairs.{pair_there, skipped_by}
 use Rattle.bpaf_doc.proofs.lemmas.Console.Sheet.Grows.{Draws, raw_placed, RawTo}
 use Rattle.std.proofs.Math.Bool.{and-false, and-true}
 
@@ -279,7 +278,7 @@ event_ink (Closes b) = mark_bytes b
 ink_back : (r : List Stretch) → IsLegible r → EachPassed NoInk r → ink (text_back r) ≡ flat_map event_ink (reverse (events_back r))
 ink_back [] legible none = ink-nil
 ink_back (x ∷ r) legible none =
-    grind (arith, ink_back r, text_back_cons, ink, gap_ink, text_utf8, ink-append, trim_ink, reverse_cons, flat_map-append, append-nil, ink-nil, some_none, ink-backquote)
+    grind (arith, ink_back r, text_back_cons, ink, gap_ink, text_utf8, ink-append, trim_ink, reverse_cons, flat_map-append, append-nil, ink-nil, ink-backquote)
 
 -- ---- the ink of what is shown
 
@@ -287,11 +286,8 @@ chunks_ink : (k : ℕ) (chunks : List Chunk) → flat_map event_ink (map (λ chu
 chunks_ink k [] = refl
 chunks_ink k (chunk ∷ chunks) = ap (λ more. chunk_ink chunk ++ more) (chunks_ink k chunks)
 
-mark_if : (c : Bool) (b : Block) (event : Event) → event_ink event ≡ mark_bytes b → (c ≡ true → mark_bytes b ≡ []) → flat_map event_ink (if c then [] else event ∷ []) ≡ mark_bytes b
-mark_if c b event is none = grind arith
-
 part_ink : (full : Bool) (document : List Part) (k : ℕ) (part : Part) → slice_get document k ≡ Some part → flat_map event_ink (part_events full document k part) ≡ shown_part_ink full (take k document) part
-part_ink z0 document k z3 there = grind (arith, chunks_ink, mark_if, skipped_bare, there)
+part_ink z0 document k z3 there = grind (arith, chunks_ink, skipped_by, pair_there, there)
 
 parts_ink : (full : Bool) (document parts : List Part) (k : ℕ) → drop k document ≡ parts
     → flat_map event_ink (events_from full document k parts) ≡ flat_map (λ (k, part). shown_part_ink full (take k document) part) (enumerate_from k parts)

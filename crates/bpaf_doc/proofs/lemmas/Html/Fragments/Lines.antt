@@ -7,7 +7,7 @@ use Rattle.bpaf_doc.specs.Buffer.Parts.{Part}
 use Rattle.bpaf_doc.specs.Splitter.Chunks.{Chunk, Raw, Paragraph, LineBreak, is_line_byte, chunks_of}
 use Rattle.bpaf_doc.specs.Html.Fragments.{Fragment, Shown}
 use Rattle.bpaf_doc.specs.Html.Steps.Walk.{walk, depth_after}
-use Rattle.bpaf_doc.proofs.lemmas.Splitter.Pieces.{Pieces, none, piece, pieces, good_line}
+use Rattle.bpaf_doc.proofs.lemmas.Splitter.Pieces.{Pieces, none, piece, pieces}
 use Rattle.bpaf_doc.proofs.lemmas.Splitter.Spelling.{spells_its_chunks}
 
 -- no newline in it
@@ -22,7 +22,7 @@ fragment_is_line _ = true
 
 lines_of_pieces : {chunks : List Chunk} {text : List ℕ} → Pieces chunks text → list_all chunk_is_line chunks ≡ true
 lines_of_pieces (none ec et) = ap (list_all chunk_is_line) ec
-lines_of_pieces (piece gap there after rest chunk others ec et g h t good w s) = grind (arith, lines_of_pieces s, good_line, and_from)
+lines_of_pieces (piece gap there after rest chunk others ec et g h t good w s) = grind (arith, lines_of_pieces s, and_from)
 
 pub lines_of : (text : List ℕ) → list_all chunk_is_line (chunks_of text) ≡ true
 lines_of text = lines_of_pieces (pieces (spells_its_chunks text))
