@@ -147,50 +147,50 @@ module _ (width : ℕ) (rule : Rule) where
         → Begins width st p base → Pads base n → IsRoomy st → IsRoomy (put n p.part p.bytes p.weight base)
     known_put p base n small f start agrees weighed b d h =
         λ m before e there run. at m before e run (cut_cons (Placed (place_of p)) (padded n base.back) m e before there) where
-      at : (m before : List Stretch) (e : Place) → IsRun m e → FirstOrLater (Placed (place_of p)) (padded n base.back) m e before
-          → Known (put n p.part p.bytes p.weight base) m e before
-      at m before e run (here none is rest) = grind (arith, no_text_column, agrees_lines, column_padded)
-      at m before e run (later rest is there) =
-          let parts : (rule.follows (shown p) ≡ true) × IsRun rest e = grind (arith, and_parts) in
-          let chunk : (rule.has_chunks ≡ true) × (p.weight ≤ rule.takes (shown p)) × ((columns p.bytes ≤ rule.takes (shown p)) ⊎ (width < rule.takes (shown p))) = sound.chunk p weighed parts.0 in
-          let ready : Ready p base rest e before = ready_padded p base n start h b rest before e there parts.1 in
-          let total : rule.taken (events_back m) ≡ rule.taken (shown p ∷ events_back rest) = ap rule.taken (ap events_back is) in
-          let a : base.column + n ≤ end_of (events_back rest) e before = grind arith in
-          record {
-            reach = record {
-              column = omega arith;
-              asked = refl;
-              margin = λ c. let old : base.margin ≤ end_of (events_back rest) e before = ready.reach.margin c in omega arith;
-              pending = λ c t. absurd cc;
-            };
-            needed = λ t.
-                let over : width < end_of (events_back rest) e before + rule.takes (shown p) =
-                passes width (end_of (events_back rest) e before) (columns p.bytes) (rule.takes (shown p)) chunk.2 (ready.needed (sym (ap has_newline is) ∙ t)) in omega arith;
-          }
+          at : (m before : List Stretch) (e : Place) → IsRun m e → FirstOrLater (Placed (place_of p)) (padded n base.back) m e before
+              → Known (put n p.part p.bytes p.weight base) m e before
+          at m before e run (here none is rest) = grind (arith, no_text_column, agrees_lines, column_padded)
+          at m before e run (later rest is there) =
+              let parts : (rule.follows (shown p) ≡ true) × IsRun rest e = grind (arith, and_parts) in
+              let chunk : (rule.has_chunks ≡ true) × (p.weight ≤ rule.takes (shown p)) × ((columns p.bytes ≤ rule.takes (shown p)) ⊎ (width < rule.takes (shown p))) = sound.chunk p weighed parts.0 in
+              let ready : Ready p base rest e before = ready_padded p base n start h b rest before e there parts.1 in
+              let total : rule.taken (events_back m) ≡ rule.taken (shown p ∷ events_back rest) = ap rule.taken (ap events_back is) in
+              let a : base.column + n ≤ end_of (events_back rest) e before = grind arith in
+              record {
+                reach = record {
+                  column = omega arith;
+                  asked = refl;
+                  margin = λ c. let old : base.margin ≤ end_of (events_back rest) e before = ready.reach.margin c in omega arith;
+                  pending = λ c t. absurd cc;
+                };
+                needed = λ t.
+                    let over : width < end_of (events_back rest) e before + rule.takes (shown p) =
+                    passes width (end_of (events_back rest) e before) (columns p.bytes) (rule.takes (shown p)) chunk.2 (ready.needed (sym (ap has_newline is) ∙ t)) in omega arith;
+              }
 
     known_dropped : {st mid : State} (p : Piece) → IsWeighed p → Lines st mid → width < sat (mid.column + columns p.bytes) → IsRoomy st
         → IsRoomy (dropped p.part p.bytes p.weight (wrapped mid))
     known_dropped {mid = mid} p weighed l w h =
         λ m before e there run. at m before e run (cut_passed (shown p) (Gap 10 ∷ trimmed mid.back) m e before there) where
-      at : (m before : List Stretch) (e : Place) → IsRun m e → After (λ x. Passed (shown p) ∷ x) (Gap 10 ∷ trimmed mid.back) m e before
-          → Known (dropped p.part p.bytes p.weight (wrapped mid)) m e before
-      at m before e run found =
-          let gap : After (λ x. Gap 10 ∷ x) (trimmed mid.back) found.rest e before = cut_gap 10 (trimmed mid.back) found.rest e before found.there in
-          let parts : (rule.follows (shown p) ≡ true) × IsRun gap.rest e = grind (arith, and_parts) in
-          let reach : InReach (end_of (events_back gap.rest) e before) mid = known_trimmed h l gap.rest before e gap.there parts.1 in
-          let total : rule.taken (events_back m) ≡ rule.taken (shown p ∷ events_back gap.rest) = ap rule.taken (ap events_back found.is ∙ ap (λ es. shown p ∷ es) (ap events_back gap.is)) in
-          let column : mid.column ≤ end_of (events_back gap.rest) e before = reach.column in
-          record {
-            reach = record {
-              column = omega arith;
-              asked = reach.asked;
-              margin = λ c. let old : mid.margin ≤ end_of (events_back gap.rest) e before = reach.margin c in omega arith;
-              pending = λ c t. let two : mid.column + 2 ≤ end_of (events_back gap.rest) e before = reach.pending c t in omega arith;
-            };
-            needed = λ t.
-                let over : width < end_of (events_back gap.rest) e before + rule.takes (shown p) =
-                passes width (end_of (events_back gap.rest) e before) (columns p.bytes) (rule.takes (shown p)) (sound.chunk p weighed parts.0).2 (omega arith) in omega arith;
-          }
+          at : (m before : List Stretch) (e : Place) → IsRun m e → After (λ x. Passed (shown p) ∷ x) (Gap 10 ∷ trimmed mid.back) m e before
+              → Known (dropped p.part p.bytes p.weight (wrapped mid)) m e before
+          at m before e run found =
+              let gap : After (λ x. Gap 10 ∷ x) (trimmed mid.back) found.rest e before = cut_gap 10 (trimmed mid.back) found.rest e before found.there in
+              let parts : (rule.follows (shown p) ≡ true) × IsRun gap.rest e = grind (arith, and_parts) in
+              let reach : InReach (end_of (events_back gap.rest) e before) mid = known_trimmed h l gap.rest before e gap.there parts.1 in
+              let total : rule.taken (events_back m) ≡ rule.taken (shown p ∷ events_back gap.rest) = ap rule.taken (ap events_back found.is ∙ ap (λ es. shown p ∷ es) (ap events_back gap.is)) in
+              let column : mid.column ≤ end_of (events_back gap.rest) e before = reach.column in
+              record {
+                reach = record {
+                  column = omega arith;
+                  asked = reach.asked;
+                  margin = λ c. let old : mid.margin ≤ end_of (events_back gap.rest) e before = reach.margin c in omega arith;
+                  pending = λ c t. let two : mid.column + 2 ≤ end_of (events_back gap.rest) e before = reach.pending c t in omega arith;
+                };
+                needed = λ t.
+                    let over : width < end_of (events_back gap.rest) e before + rule.takes (shown p) =
+                    passes width (end_of (events_back gap.rest) e before) (columns p.bytes) (rule.takes (shown p)) (sound.chunk p weighed parts.0).2 (omega arith) in omega arith;
+              }
 
     known_passed : (event : Event) (margin : ℕ) (st : State) → (rule.follows event ≡ true → IsQuiet rule st.margin margin event) → IsRoomy st
         → IsRoomy (passed event margin st)
