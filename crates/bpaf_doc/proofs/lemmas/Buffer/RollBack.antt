@@ -5,12 +5,10 @@ use Rattle.std.proofs.lemmas.List.{drop-take, drop_all, length-take-le, take-tak
 use Rattle.std.proofs.lemmas.List.Elements.{All-head, All-tail}
 use Rattle.bpaf_doc.specs.declared.buffer.Style.{Style}
 use Rattle.bpaf_doc.specs.declared.buffer.Kind.{Kind}
-use Rattle.bpaf_doc.specs.declared.buffer.Kind.TheVariants as kind
 use Rattle.bpaf_doc.specs.declared.buffer.PartEnd.{PartEnd}
 use Rattle.bpaf_doc.specs.Buffer.Steps.Ends.{AreEnds, IsEnd, MayTake, part_with, parts_from, with_last_end}
 use Rattle.bpaf_doc.specs.Buffer.Growth.{Grows, Reached, IsCheckpointOf}
 use Rattle.bpaf_doc.specs.Buffer.Parts.{Part, Text, Start, End, HasUtf8Texts, document_bytes, part_bytes}
-use Rattle.bpaf_doc.specs.Buffer.Writes as write
 use Rattle.bpaf_doc.specs.Buffer.Writes.{Write, with_text, with_write, with_writes}
 
 -- a part now is the part before, or a text that became longer

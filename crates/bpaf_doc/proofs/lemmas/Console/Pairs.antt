@@ -3,7 +3,7 @@ use Rattle.std.specs.List.{list_any, position_or_len, enumerate_from}
 use Rattle.std.proofs.Common.{sym, ◌∙◌, ap, subst, inl, inr, arith, drop-drop, ◌≡◌, ℕ, suc, ◌+◌, ◌-◌, ◌^◌, ◌<◌, ◌≤◌, min, Bool, true, false, ◌&&◌, ◌||◌, ◌==◌, ◌⊎◌, IsTrue, ◌↔◌, List, [], ◌∷◌, Some, length, refl, drop, slice_get, Option, nat_le, nat_lt}
 use Rattle.std.proofs.lemmas.Option.{slice_get_past}
 use Rattle.std.proofs.lemmas.Bool.Decides.{nat_tests}
-use Rattle.std.proofs.lemmas.Bool.{both_ways, and_from, and_parts, false≢true}
+use Rattle.std.proofs.lemmas.Bool.{and_from, and_parts, false≢true}
 use Rattle.std.proofs.Math.Nat.{zero-add, add-zero}
 use Rattle.std.proofs.Math.Bool.{and-true, and-false}
 use Rattle.bpaf_doc.specs.declared.buffer.Block.TheVariants as blocks

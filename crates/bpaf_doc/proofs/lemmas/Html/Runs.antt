@@ -1,5 +1,5 @@
 -- A run that is written at once is its chunks written one after another.
-use Rattle.std.proofs.Common.{arith, ◌≡◌, List, ℕ, [], map, sym, ap, ap₂, ◌∙◌, append_assoc, append-nil}
+use Rattle.std.proofs.Common.{arith, ◌≡◌, List, ℕ, map, sym, ap, ap₂, ◌∙◌, append_assoc, append-nil}
 use Rattle.std.proofs.lemmas.List.Concat.{flat_map-append}
 use Rattle.std.proofs.Math.Bool.{and-true}
 use Rattle.bpaf_doc.specs.declared.buffer.Style.{Style}

@@ -8,7 +8,6 @@ use Rattle.std.proofs.lemmas.Str.Ascii.{IsAscii-nil, IsAscii-cons}
 use lib.Utf8.{encode, encodes, scalar, scalars}
 use Rattle.bpaf_roff.proofs.lemmas.EscapedText.{High, high_encode}
 use Rattle.bpaf_doc.specs.declared.html.Language.{Language}
-use Rattle.bpaf_doc.specs.declared.html.Language.TheVariants as language
 use Rattle.bpaf_doc.specs.Html.Steps.View.{spelling_of}
 
 low : (l : Language) (b : ℕ) → b < 128 → IsAscii (spelling_of l b)

@@ -1,5 +1,5 @@
 -- What looking back from a place gives after one more part: what a loop over the parts keeps.
-use Rattle.std.proofs.Common.{◌∙◌, append_assoc, arith, ◌≡◌, List, [], ◌∷◌, ◌++◌, if◌then◌else◌, refl}
+use Rattle.std.proofs.Common.{append_assoc, arith, ◌≡◌, List, [], ◌∷◌, ◌++◌, if◌then◌else◌, refl}
 use Rattle.std.proofs.lemmas.List.{append-nil, reverse-append, drop-append-le, drop_all, length-append}
 use Rattle.std.proofs.lemmas.List.Concat.{flat_map-append}
 use Rattle.bpaf_doc.specs.Buffer.Parts.{Part}

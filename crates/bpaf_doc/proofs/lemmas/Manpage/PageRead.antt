@@ -2,7 +2,7 @@
 use Rattle.std.specs.List.{AllByRecursion}
 use Rattle.std.specs.Str.{str_to_ascii_uppercase}
 use Rattle.std.proofs.lemmas.Result.{IfOk-weaker}
-use Rattle.std.proofs.Common.{ap, ◌∙◌, sym, subst, append_assoc, arith, ◌≡◌, ◌≢◌, ℕ, true, List, [], ◌∷◌, ◌++◌, Option, Some, None, map, flat_map, codes, if◌then◌else◌, Result, IfOk, refl}
+use Rattle.std.proofs.Common.{ap, ◌∙◌, sym, subst, append_assoc, arith, ◌≡◌, ℕ, true, List, [], ◌∷◌, ◌++◌, Option, Some, None, map, flat_map, codes, if◌then◌else◌, Result, IfOk, refl}
 use Rattle.bpaf_roff.specs.Escaping.{is_line_start, signs, text_after, escaped}
 use Rattle.bpaf_roff.specs.Roff.{Script, control_pieces, preamble, rendering}
 use Rattle.bpaf_roff.specs.declared.escape.Apostrophes.TheVariants.{Handle}

@@ -9,11 +9,11 @@ use Rattle.std.proofs.lemmas.Bool.{false≢true, and_parts, eqb-true}
 use Rattle.bpaf_doc.specs.declared.buffer.Style.{Style}
 use Rattle.bpaf_doc.specs.Splitter.Chunks.{Chunk, Raw, fence_weight, is_whole_line}
 use Rattle.bpaf_doc.specs.Html.Fragments.{Fragment, TextStart, Shown, TextEnd, shows}
-use Rattle.bpaf_doc.specs.Markdown.Page.{mark_text, MarkdownSnippet, fragment_text, EndsInBlankLine, is_item_start}
+use Rattle.bpaf_doc.specs.Markdown.Page.{mark_text, MarkdownSnippet, fragment_text, EndsInBlankLine}
 use Rattle.bpaf_doc.specs.Snippets.{Put, Of, fragments_in}
 use Rattle.bpaf_doc.specs.Markdown.Steps.Page.{Marked, put, starts_line, with_new_line, open_code, with_chunk, marked_after}
 use Rattle.bpaf_doc.proofs.lemmas.Lists.Passing.{passes}
-use Rattle.bpaf_doc.proofs.lemmas.Markdown.Cut.{raw_cut, by_weight, spelled, own_snippets, snippets_of, cut_from, item_snippets, open_snippets, close_snippets, line_snippets, new_line_snippets, flags, step-flags, step-code, item_marks, step-spelled, new_line-spelled, open-spelled, new_line_marks}
+use Rattle.bpaf_doc.proofs.lemmas.Markdown.Cut.{raw_cut, by_weight, spelled, own_snippets, snippets_of, cut_from, item_snippets, open_snippets, close_snippets, line_snippets, new_line_snippets, flags, step-code, item_marks, step-spelled, new_line-spelled, open-spelled, new_line_marks}
 use Rattle.bpaf_doc.proofs.lemmas.Markdown.Kept.{step-fragments}
 use Rattle.bpaf_doc.proofs.lemmas.Markdown.Mind.{Agrees, Room, agrees_after, rooms_next, same_mono}
 

@@ -1,7 +1,7 @@
 -- The ink of a text in parts.
 use Rattle.std.specs.Char.{is_not_whitespace}
 use Rattle.std.specs.Str.{IsUtf8, chars}
-use Rattle.std.proofs.Common.{sym, ◌∙◌, ap, arith, append-nil, ◌≡◌, ℕ, ◌⊎◌, List, [], ◌∷◌, ◌++◌, refl, filter}
+use Rattle.std.proofs.Common.{sym, ◌∙◌, ap, arith, append-nil, ◌≡◌, ℕ, List, [], ◌∷◌, ◌++◌, refl, filter}
 use Rattle.std.proofs.lemmas.Bool.Decides.{nat_tests}
 use Rattle.std.proofs.lemmas.List.Elements.{filter-append}
 use Rattle.std.proofs.lemmas.Str.{chars-append, chars-nil}

@@ -7,7 +7,7 @@ use Rattle.bpaf_doc.specs.Console.Exact.{Request, NoBreak}
 use Rattle.bpaf_doc.specs.Splitter.Chunks.{Chunk, Raw, Paragraph, LineBreak, columns, IsOrdinary}
 use Rattle.bpaf_doc.specs.Console.Layout.{Event, Shows, Opens, Closes, Stretch, Gap, Placed, Passed, Place, chunk_at, event_bytes, is_inline_block}
 use Rattle.bpaf_doc.proofs.lemmas.Console.Layout.State.{State, Piece, Lines, Pads, Begins, first, stays, wraps, Next, raw, break, mark, Grows, padded, trimmed, sat, wrapped, put, passed, dropped, broken, asked_after, pending_after, Suits, IsShallow}
-use Rattle.bpaf_doc.proofs.lemmas.Console.Layout.Back.{EachPlace, each_grows, place_of, fits_of, same_padded, by_mark, by_break, by_grows, Fills, column_back, column_padded, Agrees, IsStarting, agrees_lines, no_text_column}
+use Rattle.bpaf_doc.proofs.lemmas.Console.Layout.Back.{EachPlace, each_grows, place_of, fits_of, same_padded, by_mark, by_grows, Fills, column_back, column_padded, Agrees, IsStarting, agrees_lines, no_text_column}
 use Rattle.bpaf_doc.proofs.lemmas.Console.Layout.Alone.{place_in}
 use Rattle.bpaf_doc.proofs.lemmas.Console.Layout.Split.{events_back, after_lines, Cut, FirstOrLater, here, later, cut_cons, cut_gap, cut_passed, cut_padded, FromTrimmed, cut_trimmed, has_newline, After}
 

@@ -1,7 +1,7 @@
 -- Each step of the exact page is a step of the console's rules.
 use Rattle.std.specs.List.{ends_with}
 use Rattle.std.specs.Str.{bytes_eq}
-use Rattle.std.proofs.Common.{sym, subst, ap, arith, inl, inr, ◌∙◌, append_assoc, ◌≡◌, ℕ, zero, suc, ◌+◌, ◌-◌, ◌<◌, ◌≤◌, true, false, not, ◌&&◌, ◌||◌, List, [], ◌∷◌, ◌++◌, length, take, replicate, refl, ◌⊎◌, IsUtf8, nat_eq, nat_le}
+use Rattle.std.proofs.Common.{sym, subst, ap, arith, inl, inr, ◌∙◌, append_assoc, ◌≡◌, ℕ, zero, suc, ◌+◌, ◌-◌, ◌<◌, ◌≤◌, true, false, not, ◌&&◌, List, [], ◌∷◌, ◌++◌, length, take, replicate, refl, ◌⊎◌, IsUtf8, nat_eq, nat_le}
 use Rattle.std.proofs.lemmas.List.{append-nil, same_from_push}
 use Rattle.std.proofs.lemmas.Grind.{replicate_next, common_steps}
 use Rattle.std.proofs.lemmas.Slice.Eq.{ends_is, bytes_eq-Decides}

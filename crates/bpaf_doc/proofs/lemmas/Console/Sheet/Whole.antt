@@ -1,7 +1,6 @@
 -- The exact page is a layout of its document, with the console's ink.
-use Rattle.std.specs.Prelude.{◌≡◌, ℕ, zero, suc, ◌+◌, ◌^◌, ◌<◌, ◌≤◌, ⊤, Bool, true, false, List, [], ◌∷◌, ◌++◌, length, take, drop, reverse, map, flat_map, All, codes, refl, if◌then◌else◌, IsUtf8, slice_get, Some}
+use Rattle.std.specs.Prelude.{◌≡◌, ℕ, zero, suc, ◌+◌, ◌^◌, ◌<◌, ◌≤◌, ⊤, Bool, true, false, List, [], ◌∷◌, ◌++◌, length, take, drop, reverse, map, flat_map, All, refl, IsUtf8, slice_get, Some}
 use Rattle.std.specs.List.{enumerate_from}
-use Rattle.std.specs.Str.{chars}
 use Rattle.std.proofs.Common.{sym, subst, ap, arith, ◌∙◌, append_assoc}
 use Rattle.std.proofs.lemmas.List.{append-nil, reverse-reverse, length-drop}
 use Rattle.std.proofs.lemmas.List.Elements.{All-get_or}
@@ -10,7 +9,7 @@ use Rattle.std.proofs.lemmas.Grind.{flat_map-append, common_steps}
 use Rattle.bpaf_doc.proofs.lemmas.Splitter.Pieces.{Pieces, none as no_pieces, piece as stands, pieces, IsGood}
 use Rattle.bpaf_doc.specs.declared.buffer.Style.{Style}
 use Rattle.bpaf_doc.specs.Buffer.Parts.{Part, Text, Start, End, ink, part_bytes, HasUtf8Texts}
-use Rattle.bpaf_doc.specs.Splitter.Chunks.{Chunk, Raw, Paragraph, LineBreak, IsLine, IsOrdinary, has_some, columns, chunks_of, chunk_ink, Plain}
+use Rattle.bpaf_doc.specs.Splitter.Chunks.{Chunk, Raw, Paragraph, LineBreak, chunks_of, chunk_ink, Plain}
 use Rattle.bpaf_doc.specs.Splitter.Promises.{IsText}
 use Rattle.bpaf_doc.specs.Shown.{console_ink, mark_bytes, numbered, shown_chunks, shown_part_ink}
 use Rattle.bpaf_doc.specs.Console.Margin.{margin, greatest_margin, is_skipped, Level}

@@ -1,5 +1,5 @@
 -- No chunk of a text has a newline in it, so no fragment of a document has.
-use Rattle.std.proofs.Common.{arith, ◌≡◌, ℕ, suc, Bool, true, List, [], ◌∷◌, take, refl, ap, ◌∙◌}
+use Rattle.std.proofs.Common.{arith, ◌≡◌, ℕ, suc, Bool, true, List, [], ◌∷◌, take, refl, ap}
 use Rattle.std.specs.List.{list_all}
 use Rattle.std.proofs.lemmas.List.Folds.{list_all-append, list_all-map}
 use Rattle.std.proofs.lemmas.Bool.{and_parts, and_from}
