@@ -42,12 +42,9 @@ unfolding IsLonger
 longer_still p before bytes style h = grind (arith, append_assoc)
 
 Extends-with_text : (ps qs : List Part) (bytes : List ℕ) (style : Style) → Extends ps qs → Extends ps (with_text qs bytes style)
-Extends-with_text [] qs bytes style h = tt
-Extends-with_text (p ∷ ps) [] bytes style h = absurd h
 Extends-with_text (p ∷ []) (q ∷ []) bytes style h = grind (arith, longer_still)
-Extends-with_text (p ∷ []) (q ∷ r ∷ qs) bytes style h = h
-Extends-with_text (p ∷ p' ∷ ps) (q ∷ []) bytes style h = absurd h.1
 Extends-with_text (p ∷ p' ∷ ps) (q ∷ r ∷ qs) bytes style h = (h.0, Extends-with_text (p' ∷ ps) (r ∷ qs) bytes style h.1)
+Extends-with_text ps qs bytes style h = grind arith
 
 Extends-with_writes : (ps qs : List Part) (ws : List Write) → Extends ps qs → Extends ps (with_writes qs ws)
 Extends-with_writes ps qs [] h = h
@@ -109,17 +106,15 @@ cut_next start last e f es rest p q ps at is shown cut =
 
 cut_all : (ps : List Part) (start last : ℕ) (es : List PartEnd) (rest : List ℕ) → last ≡ start + length (document_bytes ps)
     → AreEnds start es rest → HasUtf8Texts ps → Extends ps (parts_from start es rest) → IsCut start last es rest ps
-cut_all [] start last es rest at are utf8 h = grind arith
-cut_all (p ∷ ps) start last [] rest at are utf8 h = absurd h
 cut_all (p ∷ []) start last (e ∷ es) rest at are utf8 h =
     cut_last start last e es rest p at are.0 (All-head (λ part. IsUtf8 (part_bytes part)) p [] utf8) (cut_back e.kind (e.end - start) rest p h)
-cut_all (p ∷ q ∷ ps) start last (e ∷ []) rest at are utf8 h = absurd h.1
 cut_all (p ∷ q ∷ ps) start last (e ∷ f ∷ es) rest at are utf8 h =
     let n = e.end - start in
     let bytes : length (part_bytes p) ≡ n = grind (arith, length-take-le) in
     cut_next start last e f es rest p q ps at are.0 h.0
     (cut_all (q ∷ ps) e.end last (f ∷ es) (drop n rest) (omega (arith, at, bytes, are.0.not_below, length-append (part_bytes p) (document_bytes (q ∷ ps)))) are.1
     (All-tail (λ part. IsUtf8 (part_bytes part)) p (q ∷ ps) utf8) h.1)
+cut_all ps start last es rest at are utf8 h = grind arith
 
 -- a document that only grew since the checkpoint, cut back
 pub is_cut : (es : List PartEnd) (payload : List ℕ) (before : List Part) (at : Reached) → AreEnds 0 es payload → IsCheckpointOf before at → Grows before (parts_from 0 es payload)

@@ -91,9 +91,7 @@ module _ (f : ℕ → Part → Bool) where
         → (list_any (λ (i, part). f i part) (enumerate_from (k + 1) ps) ≡ true → (i : ℕ) × (part : Part) × (slice_get ps i ≡ Some part) × (f (k + 1 + i) part ≡ true))
         → (i : ℕ) × (part : Part) × (slice_get (p ∷ ps) i ≡ Some part) × (f (k + i) part ≡ true)
     at true e h more = (0, p, refl, ap (λ n. f n p) (add-zero k) ∙ e)
-    at false e h more = next (more h) where
-      next : ((i : ℕ) × (part : Part) × (slice_get ps i ≡ Some part) × (f (k + 1 + i) part ≡ true)) → (i : ℕ) × (part : Part) × (slice_get (p ∷ ps) i ≡ Some part) × (f (k + i) part ≡ true)
-      next (i, part, here, holds) = (suc i, part, here, ap (λ n. f n part) (omega arith) ∙ holds)
+    at false e h more = let found = more h in (suc found.0, found.1, found.2, ap (λ n. f n found.1) (omega arith) ∙ found.3)
 
   any_from : (parts : List Part) (k i : ℕ) (part : Part) → slice_get parts i ≡ Some part → f (k + i) part ≡ true → list_any (λ (i, part). f i part) (enumerate_from k parts) ≡ true
   any_from (p ∷ ps) k (suc i) part here h = grind (arith, any_from ps (k + 1) i part here)
@@ -136,14 +134,8 @@ module _ (document : List Part) where
     not_end : (i : ℕ) → index + 1 ≡ after_section4 document i → ⊥
     not_end i same = false≢true (end_there document i index (Start blocks.Section4) same here)
 
-    not_first : (i : ℕ) → skips_pair document i ≡ true → index ≡ after_section4 document i → ⊥
-    not_first i pair same = grind (arith, pair_there)
-
-    not_second : (i : ℕ) → skips_pair document i ≡ true → index ≡ after_section4 document i + 1 → ⊥
-    not_second i pair same = grind (arith, pair_there)
-
     at : (i : ℕ) → SkipsAt document i → (i < index) ⊎ (i ≡ index) → ((after_section4 document i ≡ next.end + 1) × (next.has_pair ≡ true)) ⊎ (after_section4 document i + 2 < index + 1)
-    at i h1 h2 = grind (arith, not_end, not_first, not_second)
+    at i h1 h2 = grind (arith, not_end i, pair_there document i)
 
   -- ---- what it tells of a mark
 
@@ -169,12 +161,8 @@ module _ (document : List Part) where
 -- a mark at one of the two places, and a mark of another block
 module _ (document : List Part) (index : ℕ) (pairs : Pairs) (block : Block) (knows : KnowsPairs document (index + 1) pairs) (mark : HasMarkAt document index block) where
   pub skipped-is : (within : Bool) → (IsTrue within ↔ (pairs.has_pair ≡ true) × (pairs.end < index) × (index ≤ pairs.end + 2)) → within ≡ is_skipped document index
-  skipped-is within w = same_tests within (is_skipped document index) (λ h. there (w.0 h)) (λ h. w.1 (back (skipped-shown document index pairs block knows mark h))) where
-    there : (pairs.has_pair ≡ true) × (pairs.end < index) × (index ≤ pairs.end + 2) → is_skipped document index ≡ true
-    there (h, l, m) = skipped-known document index pairs knows h l m
-
-    back : (pairs.has_pair ≡ true) × (block ≡ blocks.Block) × (pairs.end < index) × (index ≤ pairs.end + 2) → (pairs.has_pair ≡ true) × (pairs.end < index) × (index ≤ pairs.end + 2)
-    back (h, b, l, m) = (h, l, m)
+  skipped-is within w = same_tests within (is_skipped document index) (λ h. skipped-known document index pairs knows (w.0 h).0 (w.0 h).1 (w.0 h).2)
+      (λ h. let shown = skipped-shown document index pairs block knows mark h in w.1 (shown.0, shown.2, shown.3))
 
   pub skipped-other : (block ≡ blocks.Block → ⊥) → false ≡ is_skipped document index
   skipped-other other = same_tests false (is_skipped document index) (λ h. absurd (false≢true h)) (λ h. absurd (other (skipped-shown document index pairs block knows mark h).1))

@@ -70,18 +70,9 @@ plain_fences q [] h = (refl, refl)
 plain_fences q (s ∷ ss) h = grind (arith, plain_fences q ss, false≢true, and_parts)
 
 own_fences : (p : Marked) (f : Fragment) → Fences p.in_code (own_snippets p f) (code_next p.in_code f)
-own_fences p (TextStart styles.Text) = plain_fences p.in_code (own_snippets p (TextStart styles.Text)) refl
-own_fences p (TextStart style) = plain_fences p.in_code (own_snippets p (TextStart style)) refl
 own_fences p (Shown style (Raw bytes weight)) = grind (arith, by_weight, then_fences, raw_stands, eqb-true, not, code_weight, and-false, fence_weight)
-own_fences p (Shown style Paragraph) = grind (arith, plain_fences)
-own_fences p (Shown style LineBreak) = plain_fences p.in_code (own_snippets p (Shown style LineBreak)) refl
-own_fences p (TextEnd styles.Text) =
-    then_fences p.in_code false false (end_code_snippets p.in_code) (map Put (reverse (style_marks styles.Text)) ++ Of (TextEnd styles.Text) ∷ []) (grind arith) (refl, refl)
-own_fences p (TextEnd style) =
-    then_fences p.in_code false false (end_code_snippets p.in_code) (map Put (reverse (style_marks style)) ++ Of (TextEnd style) ∷ []) (grind arith) (refl, refl)
-own_fences p Hidden = plain_fences p.in_code (own_snippets p Hidden) refl
-own_fences p (Start b) = plain_fences p.in_code (start_snippets p b) (grind arith)
-own_fences p (End b) = grind (arith, plain_fences)
+own_fences p (TextEnd style) = grind (arith, then_fences p.in_code false false (end_code_snippets p.in_code), plain_fences)
+own_fences p f = grind (arith, plain_fences)
 
 cut_fenced : (p : Marked) (fs : List Fragment) → well_fenced p.in_code (cut_from p fs) ≡ true
 cut_fenced p [] = (item_fences p.in_code p.pending false).0

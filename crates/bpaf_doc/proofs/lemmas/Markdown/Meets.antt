@@ -28,8 +28,7 @@ walk_form full depth [] = refl
 walk_form full zero (Text bytes style ∷ parts) =
     grind (arith, walk_form full (depth_after full (Text bytes style) zero) parts, append_assoc, chunks_form)
 walk_form full (suc depth) (Text bytes style ∷ parts) = walk_form full (suc depth) parts
-walk_form full depth (PartStart b ∷ parts) = walk_form full (depth_after full (PartStart b) depth) parts
-walk_form full depth (PartEnd b ∷ parts) = walk_form full (depth_after full (PartEnd b) depth) parts
+walk_form full depth (part ∷ parts) = walk_form full (depth_after full part depth) parts
 
 -- a test of marks alone counts no more than there are parts
 abbrev Counts : (Fragment → Bool) → Type 0

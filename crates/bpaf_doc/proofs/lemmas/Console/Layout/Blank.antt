@@ -8,7 +8,7 @@ use Rattle.bpaf_doc.specs.Splitter.Chunks.{columns, is_inked, has_some}
 use Rattle.bpaf_doc.specs.Console.Layout.{Event, Stretch, Gap, Placed, Passed, Place, chunk_at, event_bytes, stretch_bytes, asks_blank_line, is_raw_event, text_of, HasBlankLine, is_inked_stretch, asks_newline}
 use Rattle.bpaf_doc.specs.Console.Exact.{BlankLine}
 use Rattle.bpaf_doc.proofs.lemmas.Console.Layout.State.{State, Piece, Lines, Pads, Begins, first, stays, wraps, Next, raw, Grows, padded, trimmed, ends_line, ends_blank, passed, Suits, is_nothing}
-use Rattle.bpaf_doc.proofs.lemmas.Console.Layout.Back.{by_cases, EachPlace, each_grows, place_of, lines_back, by_trimmed, same_padded, by_break, by_grows, Fills, inked_some, no_bytes, EachPassed, NoInk, ink_text, or_true_right, or_false_left, or_false_right, each_begins, fills_cut}
+use Rattle.bpaf_doc.proofs.lemmas.Console.Layout.Back.{each_back, by_cases, EachPlace, each_grows, place_of, lines_back, by_trimmed, same_padded, by_break, by_grows, Fills, inked_some, no_bytes, EachPassed, NoInk, ink_text, or_true_right, or_false_left, or_false_right, each_begins, fills_cut}
 use Rattle.bpaf_doc.proofs.lemmas.Console.Layout.Split.{events_back, Cut, cut_padded, ink_at, inked_line, After}
 
 -- ---- a newline
@@ -193,10 +193,5 @@ module _ (width : ℕ) where
         let asked : list_any asks_blank_line (events_back cut_there.rest) ≡ true = subst (λ es. list_any asks_blank_line es ≡ true) (ap events_back cut_there.is ∙ same_padded events_back (λ x. refl) n cut_there.rest) asks in
         let owed : owes_blank base.back ≡ true = subst (λ x. owes_blank x ≡ true) (sym cut_there.there) (owes_between cut_there.rest e before bare i asked) in
         let ends : ends_blank base.back ≡ true = blank_begins f q h z b fits cut_there.rest before e cut_there.there i owed in
-        let shown : has_some e.shown ≡ true = inked_shown cut_there.rest e before (subst (λ x. EachPlace Fills x) cut_there.there (each_begins Fills fills_cut b f)) i in
-        subst (λ x. HasBlankLine (text_back x)) (sym cut_there.is) (blank_padded n cut_there.rest (blank_between cut_there.rest e before bare shown (subst (λ x. ends_blank x ≡ true) cut_there.there ends))) where
-          inked_shown : (m : List Stretch) (e : Place) (before : List Stretch) → EachPlace Fills (m ++ Placed e ∷ before) → is_inked (chunk_at e) ≡ true → has_some e.shown ≡ true
-          inked_shown [] e before f i = f.0 ∙ inked_some e.bytes i
-          inked_shown (Gap b ∷ m) e before f i = inked_shown m e before f i
-          inked_shown (Placed g ∷ m) e before f i = inked_shown m e before f.1 i
-          inked_shown (Passed event ∷ m) e before f i = inked_shown m e before f i
+        let shown : has_some e.shown ≡ true = (each_back Fills cut_there.rest (Placed e ∷ before) (subst (λ x. EachPlace Fills x) cut_there.there (each_begins Fills fills_cut b f))).0 ∙ inked_some e.bytes i in
+        subst (λ x. HasBlankLine (text_back x)) (sym cut_there.is) (blank_padded n cut_there.rest (blank_between cut_there.rest e before bare shown (subst (λ x. ends_blank x ≡ true) cut_there.there ends)))
