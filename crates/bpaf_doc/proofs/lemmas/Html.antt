@@ -1,4 +1,5 @@
 -- Lemmas about HTML pages. `Fragments`: what HTML and markdown are made of.
+pub mod Words
 pub mod Fragments
 pub mod Spelled
 pub mod SpelledText

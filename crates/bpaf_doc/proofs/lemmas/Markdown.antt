@@ -1,4 +1,5 @@
 -- Lemmas about markdown pages.
+pub mod Words
 pub mod Cut
 pub mod Kept
 pub mod Mind

@@ -1,4 +1,5 @@
 -- Lemmas about the chunks of a text.
+pub mod Words
 pub mod Spelling
 pub mod FirstChunk
 pub mod Cuts

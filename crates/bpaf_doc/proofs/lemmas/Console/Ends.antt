@@ -1,16 +1,10 @@
 -- A text that ends in a printable ASCII character has no White_Space at its end.
-use Rattle.std.proofs.lemmas.Grind.{common_steps}
-use Rattle.std.specs.Char.{is_ascii_graphic, is_whitespace, is_not_whitespace}
+use Rattle.bpaf_doc.proofs.lemmas.Console.Words.{common_steps, is_ascii_graphic, is_whitespace, is_not_whitespace, nat_tests, chars-IsAscii, encodes-chars, IsUtf8-from_ascii, IsUtf8-string_bytes, encode_ascii, ink, has_some, replicate-append-replicate}
 use Rattle.std.specs.Str.{trim_end}
 use Rattle.std.proofs.Common.{ap, arith, ◌∙◌, ◌≡◌, ℕ, ◌<◌, true, false, List, [], ◌∷◌, ◌++◌, refl, filter, IsUtf8}
-use Rattle.std.proofs.lemmas.Bool.Decides.{nat_tests}
-use Rattle.std.proofs.lemmas.Str.{chars-IsAscii, encodes-chars, IsUtf8-from_ascii, IsUtf8-string_bytes, encode_ascii}
-use Rattle.bpaf_doc.specs.Buffer.Parts.{ink}
-use Rattle.bpaf_doc.specs.Splitter.Chunks.{has_some}
 use Rattle.bpaf_doc.proofs.lemmas.Console.Ink.{trim-boundary, trim-cut}
 use Rattle.bpaf_doc.proofs.lemmas.Splitter.Pieces.{utf8_cut}
 use Rattle.bpaf_doc.proofs.lemmas.Console.Layout.Stretches.{trim_some}
-use Rattle.std.proofs.lemmas.List.{replicate-append-replicate}
 
 small : (b : ℕ) → is_ascii_graphic b ≡ true → b < 128
 small b h = grind (arith, nat_tests)

@@ -1,12 +1,6 @@
 -- Counting the inline blocks that have to end before texts are shown again comes to what the definition of hidden texts says.
-use Rattle.std.proofs.Common.{sym, ◌∙◌, ap, arith, append_assoc, append-nil, ◌≡◌, ℕ, zero, suc, Bool, false, not, ◌&&◌, ◌||◌, ◌==◌, List, [], ◌∷◌, ◌++◌, nat_le}
-use Rattle.std.proofs.lemmas.Bool.Decides.{nat_tests}
-use Rattle.std.proofs.Math.Bool.{or-false}
-use Rattle.bpaf_doc.specs.declared.buffer.Block.{Block}
-use Rattle.bpaf_doc.specs.Buffer.Parts.{Part, Start}
+use Rattle.bpaf_doc.proofs.lemmas.Console.Words.{sym, ◌∙◌, ap, arith, append_assoc, append-nil, ◌≡◌, ℕ, zero, suc, Bool, false, not, ◌&&◌, ◌||◌, ◌==◌, List, [], ◌∷◌, ◌++◌, nat_le, nat_tests, or-false, Block, Part, Start, stays_open, is_inline_start, is_inline_end, breaks_off, is_hidden, is_inline, hidden_after}
 use Rattle.bpaf_doc.proofs.lemmas.Lists.Opening.{closed, stays_open_is}
-use Rattle.bpaf_doc.specs.Shown.{stays_open, is_inline_start, is_inline_end, breaks_off, is_hidden}
-use Rattle.bpaf_doc.specs.Console.Steps.Hiding.{is_inline, hidden_after}
 
 start_is : (b : Block) → is_inline_start (Start b) ≡ is_inline b
 start_is b = grind arith

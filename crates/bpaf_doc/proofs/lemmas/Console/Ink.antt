@@ -1,8 +1,6 @@
 -- The ink of what the console puts, and a text without its blank end.
 use Rattle.std.specs.Str.{chars, IsUtf8, IsCharBoundary, IsTrimEnd}
-use Rattle.std.proofs.Common.{sym, ◌∙◌, ap, arith, ◌≡◌, ℕ, List, [], ◌∷◌, refl, length, take}
-use Rattle.std.proofs.lemmas.Str.{IsCharBoundary-from_take}
-use Rattle.bpaf_doc.specs.Buffer.Parts.{ink}
+use Rattle.bpaf_doc.proofs.lemmas.Console.Words.{sym, ◌∙◌, ap, arith, ◌≡◌, ℕ, List, [], ◌∷◌, refl, length, take, IsCharBoundary-from_take, ink}
 
 -- ---- the ink of what is put after a text
 

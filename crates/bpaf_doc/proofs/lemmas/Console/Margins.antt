@@ -1,13 +1,6 @@
 -- A stack of margins, walked over the marks of a document, has the margin at each place on top.
-use Rattle.std.specs.Prelude.{◌≡◌, ℕ, zero, suc, ◌+◌, ◌*◌, ◌<◌, ◌≤◌, max, ⊤, false, List, [], ◌∷◌, ◌++◌, length, refl, map, filter, take, drop, fold, get_or, nat_le, if◌then◌else◌}
-use Rattle.std.specs.List.{enumerate_from}
-use Rattle.std.proofs.Common.{sym, ◌∙◌, ap, arith, add-one}
-use Rattle.std.proofs.lemmas.Bool.Decides.{nat_tests}
-use Rattle.std.proofs.Math.Nat.{zero-add, add-zero}
-use Rattle.bpaf_doc.specs.Buffer.Parts.{Part}
-use Rattle.bpaf_doc.specs.Shown.{stays_open}
+use Rattle.bpaf_doc.proofs.lemmas.Console.Words.{◌≡◌, ℕ, zero, suc, ◌+◌, ◌*◌, ◌<◌, ◌≤◌, max, ⊤, false, List, [], ◌∷◌, ◌++◌, length, refl, map, filter, take, drop, fold, get_or, nat_le, if◌then◌else◌, enumerate_from, sym, ◌∙◌, ap, arith, add-one, nat_tests, zero-add, add-zero, Part, stays_open, greatest, is_skipped, term_lengths, tab_stop, Shift, Indent, Outdent, Level, part_shift, shifts, is_indent, is_outdent, indents_in_force, margin, greatest_margin}
 use Rattle.bpaf_doc.proofs.lemmas.Lists.Opening.{closed, stays_open_is}
-use Rattle.bpaf_doc.specs.Console.Margin.{greatest, is_skipped, term_lengths, tab_stop, Shift, Indent, Outdent, Level, part_shift, shifts, is_indent, is_outdent, indents_in_force, margin, greatest_margin}
 
 -- ---- the stack, newest first
 

@@ -1,10 +1,5 @@
 -- What a loop over the parts keeps of the page that it writes.
-use Rattle.std.proofs.Common.{arith, ◌≡◌, ℕ, ◌+◌, ◌≤◌, Bool, false, List, ◌∷◌, length}
-use Rattle.bpaf_doc.specs.declared.console.pairs.Pairs.{Pairs}
-use Rattle.bpaf_doc.specs.Buffer.Parts.{Part}
-use Rattle.bpaf_doc.specs.Console.Steps.Hiding.{hidden_after}
-use Rattle.bpaf_doc.specs.Console.Steps.Page.{Sheet, blank_sheet}
-use Rattle.bpaf_doc.specs.Console.Steps.Text.{pairs_after, part_put, parts_put, no_pairs, tab_stop_from, whole_page}
+use Rattle.bpaf_doc.proofs.lemmas.Console.Words.{arith, ◌≡◌, ℕ, ◌+◌, ◌≤◌, Bool, false, List, ◌∷◌, length, Pairs, Part, hidden_after, Sheet, blank_sheet, pairs_after, part_put, parts_put, no_pairs, tab_stop_from, whole_page}
 
 -- The parts that are left, from this place on, make the page whole.
 pub record IsPageLeft (full : Bool) (document : List Part) (whole : Sheet) (index : ℕ) (pairs : Pairs) (hidden : ℕ) (parts : List Part) (page : Sheet) : Type 0 where

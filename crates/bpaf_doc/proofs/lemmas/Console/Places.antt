@@ -1,8 +1,6 @@
 -- The first Section4 end of what follows a place, found by looking at one part after another.
-use Rattle.std.proofs.lemmas.Grind.{common_steps}
+use Rattle.bpaf_doc.proofs.lemmas.Console.Words.{common_steps, arith, ◌≡◌, ℕ, zero, suc, ◌+◌, ◌<◌, true, false, Some, List, [], ◌∷◌, refl, length, drop, Part}
 use Rattle.std.specs.List.{slice_get, position_or_len}
-use Rattle.std.proofs.Common.{arith, ◌≡◌, ℕ, zero, suc, ◌+◌, ◌<◌, true, false, Some, List, [], ◌∷◌, refl, length, drop}
-use Rattle.bpaf_doc.specs.Buffer.Parts.{Part}
 use Rattle.bpaf_doc.specs.Console.Steps.Text.{is_section4_end}
 
 -- how many parts stand before it

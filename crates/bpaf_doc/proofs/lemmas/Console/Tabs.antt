@@ -1,17 +1,6 @@
 -- One walk over the parts gives the tab stop.
-use Rattle.std.proofs.lemmas.Grind.{common_steps}
-use Rattle.std.specs.List.{list_any, before_first, after_last, enumerate_from}
-use Rattle.std.proofs.Common.{sym, ◌∙◌, arith, append_assoc, length-append, take_at, ◌≡◌, ℕ, ◌+◌, min, max, Bool, true, false, not, ◌&&◌, List, [], ◌∷◌, ◌++◌, length, refl, map, filter, take, fold, sum_by, nat_le, if◌then◌else◌}
-use Rattle.std.proofs.lemmas.List.Folds.{list_any-append}
-use Rattle.std.proofs.lemmas.List.Sums.{sum_by-cons, take_while-cons}
-use Rattle.std.proofs.lemmas.Bool.Decides.{nat_tests}
-use Rattle.std.proofs.Math.Bool.{and-false, and-true, or-false}
-use Rattle.std.proofs.Math.Nat.{zero-add}
+use Rattle.bpaf_doc.proofs.lemmas.Console.Words.{common_steps, list_any, before_first, after_last, enumerate_from, sym, ◌∙◌, arith, append_assoc, length-append, take_at, ◌≡◌, ℕ, ◌+◌, min, max, Bool, true, false, not, ◌&&◌, List, [], ◌∷◌, ◌++◌, length, refl, map, filter, take, fold, sum_by, nat_le, if◌then◌else◌, list_any-append, sum_by-cons, take_while-cons, nat_tests, and-false, and-true, or-false, zero-add, Part, Text, Start, End, columns, is_term_start, is_term_end, text_columns, term_length, drop-append-le, drop_all, reverse-append}
 use Rattle.bpaf_doc.specs.declared.buffer.Block.TheVariants as blocks
-use Rattle.bpaf_doc.specs.Buffer.Parts.{Part, Text, Start, End}
-use Rattle.bpaf_doc.specs.Splitter.Chunks.{columns}
-use Rattle.bpaf_doc.specs.Console.Margin.{is_term_start, is_term_end, text_columns, term_length}
-use Rattle.std.proofs.lemmas.List.{drop-append-le, drop_all, reverse-append}
 
 -- ---- the walk
 

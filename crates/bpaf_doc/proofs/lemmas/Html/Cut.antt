@@ -1,15 +1,7 @@
 -- The snippets that make up a page.
-use Rattle.std.proofs.Common.{◌≡◌, ℕ, Bool, List, [], ◌∷◌, ◌++◌, refl, sym, append_assoc, append-nil, arith, flat_map, filter, reverse, if◌then◌else◌}
-use Rattle.std.proofs.lemmas.List.Concat.{flat_map-append}
-use Rattle.std.proofs.lemmas.List.Elements.{filter-append}
-use Rattle.bpaf_doc.specs.declared.buffer.Block.{Block}
+use Rattle.bpaf_doc.proofs.lemmas.Html.Words.{◌≡◌, ℕ, Bool, List, [], ◌∷◌, ◌++◌, refl, sym, append_assoc, append-nil, arith, flat_map, filter, reverse, if◌then◌else◌, flat_map-append, filter-append, Block, Raw, Paragraph, LineBreak, Fragment, TextStart, Shown, TextEnd, Hidden, Start, End, HtmlSnippet, Break, Newline, snippet_text, open_each, close_each, style_elements, block_elements, is_style_tag, styled_snippets, Put, Of, fragments_in, is_mark_or_fragment, Written, page_after, page_after_all, first_or_false, is_header}
 use Rattle.bpaf_doc.specs.declared.buffer.Block.TheVariants as blocks
-use Rattle.bpaf_doc.specs.Splitter.Chunks.{Raw, Paragraph, LineBreak}
-use Rattle.bpaf_doc.specs.Html.Fragments.{Fragment, TextStart, Shown, TextEnd, Hidden, Start, End}
-use Rattle.bpaf_doc.specs.Html.Page.{HtmlSnippet, Break, Newline, snippet_text, open_each, close_each, style_elements, block_elements, is_style_tag, styled_snippets}
-use Rattle.bpaf_doc.specs.Snippets.{Put, Of, fragments_in, is_mark_or_fragment}
 use Rattle.bpaf_doc.proofs.lemmas.Snippets.{fragments-append}
-use Rattle.bpaf_doc.specs.Html.Steps.Page.{Written, page_after, page_after_all, first_or_false, is_header}
 
 -- a break before a mark of a header
 abbrev pub heading_snippets : Bool → Block → List HtmlSnippet

@@ -1,11 +1,5 @@
 -- The pages that the code writes are what `IsHtmlOf` promises.
-use Rattle.std.proofs.Common.{◌≡◌, ℕ, Bool, true, List, sym, ap, ◌∙◌, subst, arith, filter}
-use Rattle.std.specs.List.{list_all}
-use Rattle.bpaf_doc.specs.Buffer.Parts.{Part, IsWellNested}
-use Rattle.bpaf_doc.specs.Splitter.Chunks.{is_line_byte}
-use Rattle.bpaf_doc.specs.Html.Fragments.{Fragment, shown_fragments}
-use Rattle.bpaf_doc.specs.Html.Page.{IsHtmlOf, IsWellNestedHtml, erased, html_text}
-use Rattle.bpaf_doc.specs.Html.Steps.Page.{blank_page, page_after_all}
+use Rattle.bpaf_doc.proofs.lemmas.Html.Words.{◌≡◌, ℕ, Bool, true, List, sym, ap, ◌∙◌, subst, arith, filter, list_all, Part, IsWellNested, is_line_byte, Fragment, shown_fragments, IsHtmlOf, IsWellNestedHtml, erased, html_text, blank_page, page_after_all}
 use Rattle.bpaf_doc.proofs.lemmas.Html.Fragments.Walking.{walked}
 use Rattle.bpaf_doc.proofs.lemmas.Html.Fragments.Lines.{fragment_is_line, walk_lines}
 use Rattle.bpaf_doc.proofs.lemmas.Html.Fragments.Nests.{Nests, walk_nests}

@@ -1,11 +1,5 @@
 -- A run that is written at once is its chunks written one after another.
-use Rattle.std.proofs.Common.{arith, ◌≡◌, List, ℕ, map, sym, ap, ap₂, ◌∙◌, append_assoc, append-nil}
-use Rattle.std.proofs.lemmas.List.Concat.{flat_map-append}
-use Rattle.std.proofs.Math.Bool.{and-true}
-use Rattle.bpaf_doc.specs.declared.buffer.Style.{Style}
-use Rattle.bpaf_doc.specs.Splitter.Chunks.{Chunk, chunks_of, IsLine}
-use Rattle.bpaf_doc.specs.Html.Fragments.{Shown}
-use Rattle.bpaf_doc.specs.Html.Steps.Page.{Written, with_words, page_after_all}
+use Rattle.bpaf_doc.proofs.lemmas.Html.Words.{arith, ◌≡◌, List, ℕ, map, sym, ap, ap₂, ◌∙◌, append_assoc, append-nil, flat_map-append, and-true, Style, Chunk, chunks_of, IsLine, Shown, Written, with_words, page_after_all}
 use Rattle.bpaf_doc.proofs.lemmas.Splitter.Runs.{AreWords, no_words, a_word, words_of_line}
 
 words_page : {chunks : List Chunk} {text : List ℕ} → AreWords chunks text → (p : Written) (style : Style) → page_after_all p (map (Shown style) chunks) ≡ with_words p text

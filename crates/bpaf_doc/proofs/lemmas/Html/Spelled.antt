@@ -1,16 +1,8 @@
 -- A text in another spelling: a run that stays as it is, a character that doesn't, and the rest.
-use Rattle.std.proofs.Common.{sym, ap, ap₂, subst, ⊎_elim, inl, inr, ◌∙◌, arith, get_or, append_assoc, length-take, lit<, take-append-drop, get_or-take, ◌≡◌, ◌≢◌, ℕ, suc, ◌<◌, ◌≤◌, Bool, true, false, not, List, [], ◌∷◌, ◌++◌, refl, length, take, drop, flat_map, Option, Some, None, MatchOption}
+use Rattle.bpaf_doc.proofs.lemmas.Html.Words.{sym, ap, ap₂, subst, ⊎_elim, inl, inr, ◌∙◌, arith, get_or, append_assoc, length-take, lit<, take-append-drop, get_or-take, ◌≡◌, ◌≢◌, ℕ, suc, ◌<◌, ◌≤◌, Bool, true, false, not, List, [], ◌∷◌, ◌++◌, refl, length, take, drop, flat_map, Option, Some, None, MatchOption, cases_lt, nat_tests, list_all, AllPass-from_list_all, IsCharBoundary-after_ascii, Language, spelling_of, IsPlain, IsFirstSpelled, flat_map-append}
 use Rattle.std.specs.Str.{IsUtf8, IsCharBoundary}
-use Rattle.std.proofs.lemmas.Bool.{cases_lt}
-use Rattle.std.proofs.lemmas.Bool.Decides.{nat_tests}
-use Rattle.std.specs.List.{list_all}
-use Rattle.std.proofs.lemmas.List.Sums.{AllPass-from_list_all}
-use Rattle.std.proofs.lemmas.Str.{IsCharBoundary-after_ascii}
 use Rattle.memchr.specs.Find.{NoneBefore, Passes, IsFirstByte, is_byte2}
-use Rattle.bpaf_doc.specs.declared.html.Language.{Language}
 use Rattle.bpaf_doc.specs.declared.html.Language.TheVariants as language
-use Rattle.bpaf_doc.specs.Html.Steps.View.{spelling_of, IsPlain, IsFirstSpelled}
-use Rattle.std.proofs.lemmas.List.Concat.{flat_map-append}
 
 -- bytes of which none passes the test, where those that don't stay as they are
 pub plain_run : (f : ℕ → List ℕ) (test : ℕ → Bool) → ((b : ℕ) → test b ≡ false → f b ≡ b ∷ []) → (bytes : List ℕ)

@@ -1,14 +1,10 @@
 -- A text in another spelling is a text.
 use Rattle.std.specs.Char.{IsScalar}
 use Rattle.std.proofs.Common.{inl, inr, arith, append-nil, ◌≡◌, ℕ, ◌<◌, ◌≤◌, true, List, [], ◌∷◌, refl, flat_map, IsUtf8, IsAscii}
-use Rattle.std.proofs.lemmas.List.Concat.{flat_map-append}
-use Rattle.std.proofs.lemmas.Bool.{and_parts, ne_eqb, cases_lt}
-use Rattle.std.proofs.lemmas.Str.{IsUtf8-append, IsUtf8-nil, IsUtf8-from_ascii, IsUtf8-encode, encode_ascii}
+use Rattle.bpaf_doc.proofs.lemmas.Html.Words.{flat_map-append, and_parts, ne_eqb, cases_lt, IsUtf8-append, IsUtf8-nil, IsUtf8-from_ascii, IsUtf8-encode, encode_ascii, Language, spelling_of}
 use Rattle.std.proofs.lemmas.Str.Ascii.{IsAscii-nil, IsAscii-cons}
 use lib.Utf8.{encode, encodes, scalar, scalars}
 use Rattle.bpaf_roff.proofs.lemmas.EscapedText.{High, high_encode}
-use Rattle.bpaf_doc.specs.declared.html.Language.{Language}
-use Rattle.bpaf_doc.specs.Html.Steps.View.{spelling_of}
 
 low : (l : Language) (b : ℕ) → b < 128 → IsAscii (spelling_of l b)
 low l b h = grind (arith, IsAscii-cons, IsAscii-nil)

@@ -1,10 +1,5 @@
 -- A page without its tags and newlines is the HTML text.
-use Rattle.std.proofs.Common.{arith, ◌≡◌, ℕ, true, List, [], ◌∷◌, ◌++◌, refl, append_assoc, flat_map, filter}
-use Rattle.std.specs.List.{list_all}
-use Rattle.std.proofs.lemmas.Bool.{and_parts}
-use Rattle.bpaf_doc.specs.Splitter.Chunks.{is_line_byte}
-use Rattle.bpaf_doc.specs.Html.Page.{erased, escaped_character, fragment_text, HtmlSnippet}
-use Rattle.bpaf_doc.specs.Snippets.{fragments_in}
+use Rattle.bpaf_doc.proofs.lemmas.Html.Words.{arith, ◌≡◌, ℕ, true, List, [], ◌∷◌, ◌++◌, refl, append_assoc, flat_map, filter, list_all, and_parts, is_line_byte, erased, escaped_character, fragment_text, HtmlSnippet, fragments_in}
 use Rattle.bpaf_doc.proofs.lemmas.Html.Fragments.Lines.{fragment_is_line}
 use Rattle.bpaf_doc.proofs.lemmas.Html.Cut.{spelled}
 

@@ -1,16 +1,8 @@
 -- The snippets that make up a markdown text, and what it keeps in mind between fragments.
-use Rattle.std.proofs.lemmas.Grind.{common_steps}
-use Rattle.std.proofs.Common.{◌≡◌, ℕ, Bool, true, false, List, [], ◌∷◌, ◌++◌, map, refl, sym, ap, ◌∙◌, append_assoc, append-nil, nat_lt, arith, not, ◌==◌, reverse, codes, if◌then◌else◌}
-use Rattle.std.proofs.Math.Bool.{and-true, and-false}
-use Rattle.bpaf_doc.specs.declared.buffer.Style.{Style}
+use Rattle.bpaf_doc.proofs.lemmas.Markdown.Words.{common_steps, ◌≡◌, ℕ, Bool, true, false, List, [], ◌∷◌, ◌++◌, map, refl, sym, ap, ◌∙◌, append_assoc, append-nil, nat_lt, arith, not, ◌==◌, reverse, codes, if◌then◌else◌, and-true, and-false, Style, Raw, Paragraph, LineBreak, code_weight, fence_weight, is_ordinary, Fragment, TextStart, Shown, TextEnd, Hidden, Start, End, TextFence, Fence, Heading, SecondHeading, ThirdHeading, Dash, LongDash, Blank, Newline, mark_text, MarkdownSnippet, is_in_mono, fragment_text, snippet_text, flat_map_places_from, style_marks, is_header_start, is_item_start, is_mono_start, is_mono_end, Put, Of, fragments_in, Marked, put, starts_line, starts_paragraph, with_new_line, with_item, open_code, close_code, with_raw, own_after, is_term_end, marked_after, one_more}
 use Rattle.bpaf_doc.specs.declared.buffer.Block.{Block}
 use Rattle.bpaf_doc.specs.declared.buffer.Block.TheVariants as blocks
-use Rattle.bpaf_doc.specs.Splitter.Chunks.{Raw, Paragraph, LineBreak, code_weight, fence_weight, is_ordinary}
-use Rattle.bpaf_doc.specs.Html.Fragments.{Fragment, TextStart, Shown, TextEnd, Hidden, Start, End}
-use Rattle.bpaf_doc.specs.Markdown.Page.{TextFence, Fence, Heading, SecondHeading, ThirdHeading, Dash, LongDash, Blank, Newline, mark_text, MarkdownSnippet, is_in_mono, fragment_text, snippet_text, flat_map_places_from, style_marks, is_header_start, is_item_start, is_mono_start, is_mono_end}
-use Rattle.bpaf_doc.specs.Snippets.{Put, Of, fragments_in}
 use Rattle.bpaf_doc.proofs.lemmas.Snippets.{fragments-append}
-use Rattle.bpaf_doc.specs.Markdown.Steps.Page.{Marked, put, starts_line, starts_paragraph, with_new_line, with_item, open_code, close_code, with_raw, own_after, is_term_end, marked_after, one_more}
 
 abbrev pub blanks : List MarkdownSnippet
 blanks = Put Blank ∷ Put Blank ∷ []

@@ -1,18 +1,9 @@
 -- Fences open and close in turn, and code stands between them.
-use Rattle.std.proofs.lemmas.Grind.{common_steps}
-use Rattle.std.proofs.Common.{◌≡◌, ℕ, ◌+◌, ◌<◌, Bool, true, false, List, [], ◌∷◌, ◌++◌, map, refl, ap, ◌∙◌, arith, not, ◌&&◌, ◌||◌, reverse, IsTrue}
-use Rattle.std.specs.List.{list_all}
-use Rattle.std.proofs.lemmas.Bool.{false≢true, eqb-true, and_parts, and_from}
+use Rattle.bpaf_doc.proofs.lemmas.Markdown.Words.{common_steps, ◌≡◌, ℕ, ◌+◌, ◌<◌, Bool, true, false, List, [], ◌∷◌, ◌++◌, map, refl, ap, ◌∙◌, arith, not, ◌&&◌, ◌||◌, reverse, IsTrue, list_all, false≢true, eqb-true, and_parts, and_from, Raw, Paragraph, LineBreak, is_ordinary, is_code_line, code_weight, fence_weight, Fragment, TextStart, Shown, TextEnd, Hidden, Start, End, shows, TextFence, Fence, MarkdownSnippet, style_marks, is_fence, opened_fences, closed_fences, is_text_end, Put, Of, Marked, marked_after, and-false}
 use Rattle.bpaf_doc.specs.declared.buffer.Style.TheVariants as styles
-use Rattle.bpaf_doc.specs.Splitter.Chunks.{Raw, Paragraph, LineBreak, is_ordinary, is_code_line, code_weight, fence_weight}
-use Rattle.bpaf_doc.specs.Html.Fragments.{Fragment, TextStart, Shown, TextEnd, Hidden, Start, End, shows}
-use Rattle.bpaf_doc.specs.Markdown.Page.{TextFence, Fence, MarkdownSnippet, style_marks, is_fence, opened_fences, closed_fences, is_text_end}
-use Rattle.bpaf_doc.specs.Snippets.{Put, Of}
-use Rattle.bpaf_doc.specs.Markdown.Steps.Page.{Marked, marked_after}
 use Rattle.bpaf_doc.proofs.lemmas.Lists.Counting.{one_if, count_by-cons}
 use Rattle.bpaf_doc.proofs.lemmas.Lists.Passing.{state_after, passes, passes_back, passes_both, passes_first}
 use Rattle.bpaf_doc.proofs.lemmas.Markdown.Cut.{by_weight, start_snippets, own_snippets, cut_from, item_snippets, end_code_snippets, code_next, step-code, item-code}
-use Rattle.std.proofs.Math.Bool.{and-false}
 
 -- where a block is open: a fence with `text` opens one, another closes it
 abbrev may_stand : Bool → MarkdownSnippet → Bool

@@ -1,11 +1,6 @@
 -- What stays of the snippets under a test.
-use Rattle.std.proofs.Common.{◌≡◌, Bool, false, List, [], ◌∷◌, arith, filter, flat_map, if◌then◌else◌}
-use Rattle.std.proofs.lemmas.List.Elements.{filter-append}
+use Rattle.bpaf_doc.proofs.lemmas.Markdown.Words.{◌≡◌, Bool, false, List, [], ◌∷◌, arith, filter, flat_map, if◌then◌else◌, filter-append, Fragment, Start, Mark, Heading, SecondHeading, ThirdHeading, Dash, LongDash, styled_snippets, is_style_mark, fragments_in, is_mark_or_fragment, Marked, marked_after}
 use Rattle.bpaf_doc.specs.declared.buffer.Block.TheVariants as blocks
-use Rattle.bpaf_doc.specs.Html.Fragments.{Fragment, Start}
-use Rattle.bpaf_doc.specs.Markdown.Page.{Mark, Heading, SecondHeading, ThirdHeading, Dash, LongDash, styled_snippets, is_style_mark}
-use Rattle.bpaf_doc.specs.Snippets.{fragments_in, is_mark_or_fragment}
-use Rattle.bpaf_doc.specs.Markdown.Steps.Page.{Marked, marked_after}
 use Rattle.bpaf_doc.proofs.lemmas.Markdown.Cut.{snippets_of, cut_from, item_marks}
 use Rattle.bpaf_doc.proofs.lemmas.Snippets.{fragments-append}
 

@@ -1,8 +1,5 @@
 -- A text that begins with a newline and four blanks begins with a code line.
-use Rattle.std.proofs.Common.{ap, sym, ◌∙◌, arith, length-take, take-append-drop, ◌≡◌, ℕ, List, ◌∷◌, ◌++◌, codes, drop, length, refl, take}
-use Rattle.std.specs.Str.{IsUtf8, IsCharBoundary}
-use Rattle.std.proofs.lemmas.Str.{IsCharBoundary-from_take}
-use Rattle.bpaf_doc.specs.Splitter.Chunks.{Chunk, Raw, Plain, IsLine, IsLineEnd, chunks_in, chunks_of, code_weight}
+use Rattle.bpaf_doc.proofs.lemmas.Splitter.Words.{ap, sym, ◌∙◌, arith, length-take, take-append-drop, ◌≡◌, ℕ, List, ◌∷◌, ◌++◌, codes, drop, length, refl, take, IsUtf8, IsCharBoundary, IsCharBoundary-from_take, Chunk, Raw, Plain, IsLine, IsLineEnd, chunks_in, chunks_of, code_weight}
 use Rattle.bpaf_doc.proofs.lemmas.Splitter.FirstChunk.{code_line_first}
 
 whole : (text : List ℕ) → take 5 text ≡ codes "\n    " → text ≡ codes "\n    " ++ drop 5 text

@@ -1,16 +1,6 @@
 -- Where a line and a word end.
-use Rattle.std.specs.Char.{char_set_contains}
-use Rattle.std.specs.Str.{NoCharPasses}
-use Rattle.std.specs.Str.Pattern.{HasPassingCharAt}
-use Rattle.std.specs.List.{list_all}
-use Rattle.std.proofs.Common.{inl, inr, arith, get_or, length-take, get_or-take, ◌≡◌, ◌≢◌, ℕ, suc, ◌<◌, ◌≤◌, Bool, true, false, IsTrue, List, [], ◌∷◌, refl, length, take, drop, Option, MatchOption, unwrap_or}
-use Rattle.std.proofs.lemmas.Str.{NoCharPasses-byte}
-use Rattle.std.proofs.lemmas.Str.Pattern.{drop_at_char}
-use Rattle.std.proofs.lemmas.Bool.{cases_lt}
-use Rattle.std.proofs.lemmas.Bool.Decides.{nat_tests}
-use Rattle.memchr.specs.Find.{Nowhere, NoneBefore, Passes, is_byte}
+use Rattle.bpaf_doc.proofs.lemmas.Splitter.Words.{char_set_contains, NoCharPasses, HasPassingCharAt, list_all, inl, inr, arith, get_or, length-take, get_or-take, ◌≡◌, ◌≢◌, ℕ, suc, ◌<◌, ◌≤◌, Bool, true, false, IsTrue, List, [], ◌∷◌, refl, length, take, drop, Option, MatchOption, unwrap_or, NoCharPasses-byte, drop_at_char, cases_lt, nat_tests, Nowhere, NoneBefore, Passes, is_byte, is_line_byte, is_word_byte, IsLine, IsLineEnd, IsWordEnd, IsPastNewline}
 use denote.Ref.{Bor}
-use Rattle.bpaf_doc.specs.Splitter.Chunks.{is_line_byte, is_word_byte, IsLine, IsLineEnd, IsWordEnd, IsPastNewline}
 
 -- the test of a newline or a blank
 abbrev pub is_cut : ℕ → Bool

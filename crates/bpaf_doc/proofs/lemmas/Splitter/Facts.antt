@@ -1,12 +1,5 @@
 -- What holds of the chunks of each text.
-use Rattle.std.specs.List.{All, flat_map}
-use Rattle.std.specs.Str.{IsUtf8}
-use Rattle.std.proofs.Common.{sym, ◌∙◌, ap, subst, arith, append_assoc, append-nil, take_at, drop_at, length-append, ◌≡◌, ℕ, List, [], ◌++◌, refl, length}
-use Rattle.std.proofs.lemmas.List.Elements.{All-nil, All-cons, All-same}
-use Rattle.std.proofs.lemmas.List.Folds.{list_all-append}
-use Rattle.bpaf_doc.specs.Buffer.Parts.{ink}
-use Rattle.bpaf_doc.specs.Splitter.Chunks.{Chunk, chunk_ink, chunks_of}
-use Rattle.bpaf_doc.specs.Splitter.Promises.{IsGap, IsOneLine, IsPlace, IsSpelledOnce, IsText, StandInOrder, StandsFor, is_gap_byte}
+use Rattle.bpaf_doc.proofs.lemmas.Splitter.Words.{All, flat_map, IsUtf8, sym, ◌∙◌, ap, subst, arith, append_assoc, append-nil, take_at, drop_at, length-append, ◌≡◌, ℕ, List, [], ◌++◌, refl, length, All-nil, All-cons, All-same, list_all-append, ink, Chunk, chunk_ink, chunks_of, IsGap, IsOneLine, IsPlace, IsSpelledOnce, IsText, StandInOrder, StandsFor, is_gap_byte}
 use Rattle.bpaf_doc.proofs.lemmas.Splitter.Spelling.{spells_its_chunks, only_its_chunks, spells_in}
 use Rattle.bpaf_doc.proofs.lemmas.Splitter.Pieces.{Pieces, none, piece, pieces, IsUtf8-blank}
 use Rattle.bpaf_doc.proofs.lemmas.Splitter.Ink.{ink-nil, ink-append, ink_after_gap, gap_ink}

@@ -1,12 +1,6 @@
 -- The ink of a text in parts.
-use Rattle.std.specs.Char.{is_not_whitespace}
+use Rattle.bpaf_doc.proofs.lemmas.Splitter.Words.{is_not_whitespace, sym, ◌∙◌, ap, arith, append-nil, ◌≡◌, ℕ, List, [], ◌∷◌, ◌++◌, refl, filter, nat_tests, filter-append, chars-append, chars-nil, ink, IsGap}
 use Rattle.std.specs.Str.{IsUtf8, chars}
-use Rattle.std.proofs.Common.{sym, ◌∙◌, ap, arith, append-nil, ◌≡◌, ℕ, List, [], ◌∷◌, ◌++◌, refl, filter}
-use Rattle.std.proofs.lemmas.Bool.Decides.{nat_tests}
-use Rattle.std.proofs.lemmas.List.Elements.{filter-append}
-use Rattle.std.proofs.lemmas.Str.{chars-append, chars-nil}
-use Rattle.bpaf_doc.specs.Buffer.Parts.{ink}
-use Rattle.bpaf_doc.specs.Splitter.Promises.{IsGap}
 use Rattle.bpaf_doc.proofs.lemmas.Splitter.Spelling.{and_left, and_right}
 
 newline_chars : (rest : List ℕ) → chars (10 ∷ rest) ≡ 10 ∷ chars rest

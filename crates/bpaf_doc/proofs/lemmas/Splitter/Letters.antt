@@ -1,24 +1,12 @@
 -- Latin letters of two bytes take a column each, as printable ASCII does.
-use Rattle.std.specs.Int.{is_in_range}
-use Rattle.std.specs.List.{list_all}
-use Rattle.std.specs.Str.{IsUtf8}
-use Rattle.std.proofs.Common.{sym, ap, ap₂, ◌∙◌, ◌⊎◌, inl, inr, get_or, arith, ◌≡◌, ℕ, ◌+◌, ◌/◌, ◌%◌, ◌<◌, ◌≤◌, ◌==◌, Bool, true, false, ◌&&◌, ◌||◌, nat_lt, List, [], ◌∷◌, refl, length, take, drop, sum_by, if◌then◌else◌}
+use Rattle.bpaf_doc.proofs.lemmas.Splitter.Words.{is_in_range, list_all, IsUtf8, sym, ap, ap₂, ◌∙◌, ◌⊎◌, inl, inr, get_or, arith, ◌≡◌, ℕ, ◌+◌, ◌/◌, ◌%◌, ◌<◌, ◌≤◌, ◌==◌, Bool, true, false, ◌&&◌, ◌||◌, nat_lt, List, [], ◌∷◌, refl, length, take, drop, sum_by, if◌then◌else◌, and_parts, cases_lt, lt-ltb, le-ltb, eqb-true, nat_tests, list_all-append, list_all_more, take_more, take_rest, sum_by-append, sum_by-cons, count_by-le-length, chars_from_encodes, is_simple, is_simple_kind, width_or_zero, str_width-simple, IsWordEnd, columns, is_line_byte, IsRunEnd, IsLettered, is_lettered, begins, letters}
 use Rattle.std.proofs.Math.Utf8.{encode, encodes}
-use Rattle.std.proofs.lemmas.Bool.{and_parts, cases_lt, lt-ltb, le-ltb, eqb-true}
-use Rattle.std.proofs.lemmas.Bool.Decides.{nat_tests}
-use Rattle.std.proofs.lemmas.List.Folds.{list_all-append, list_all_more}
-use Rattle.std.proofs.lemmas.List.{take_more, take_rest}
-use Rattle.std.proofs.lemmas.List.Sums.{sum_by-append, sum_by-cons, count_by-le-length}
-use Rattle.std.proofs.lemmas.Str.{chars_from_encodes}
 use Rattle.ucd_table.proofs.Facts.{passes_below, Stepped-below}
 use Rattle.unicode_width.specs.declared.kind.Kind.{Kind}
 use Rattle.unicode_width.specs.Kind.{kind}
 use Rattle.unicode_width.specs.Width.{alone, char_width, of_kind}
 use Rattle.unicode_width.proofs.KindLemmas.{kind_stepped}
-use Rattle.unicode_width.proofs.Rules.{is_simple, is_simple_kind, width_or_zero, str_width-simple}
 use Rattle.unicode_width.proofs.Computing.{unicode_width}
-use Rattle.bpaf_doc.specs.Splitter.Chunks.{IsWordEnd, columns, is_line_byte}
-use Rattle.bpaf_doc.specs.Splitter.Steps.Runs.{IsRunEnd, IsLettered, is_lettered, begins, letters}
 use Rattle.bpaf_doc.proofs.lemmas.Splitter.Printable.{each}
 use Rattle.bpaf_doc.proofs.lemmas.Splitter.Runs.{tested_front, line_ends, blank_ends}
 

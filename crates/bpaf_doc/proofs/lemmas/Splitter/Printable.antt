@@ -1,16 +1,6 @@
 -- Printable ASCII without blanks is a word, and each of its characters takes a column.
-use Rattle.std.specs.Char.{is_ascii_graphic}
-use Rattle.std.specs.Int.{is_in_range}
-use Rattle.std.specs.List.{All, list_all}
-use Rattle.std.specs.Str.{IsAscii, IsUtf8, IsCharBoundary}
-use Rattle.std.proofs.Common.{arith, ◌≡◌, ℕ, ◌<◌, ◌≤◌, Bool, true, IsTrue, List, [], ◌∷◌, refl, length, take}
-use Rattle.std.proofs.lemmas.Bool.{and_parts}
-use Rattle.std.proofs.lemmas.Bool.Decides.{nat_tests}
-use Rattle.std.proofs.lemmas.List.Sums.{AllPass-from_list_all}
-use Rattle.std.proofs.lemmas.Str.{chars-IsAscii, IsUtf8-from_ascii, IsCharBoundary-from_take}
+use Rattle.bpaf_doc.proofs.lemmas.Splitter.Words.{is_ascii_graphic, is_in_range, All, list_all, IsAscii, IsUtf8, IsCharBoundary, arith, ◌≡◌, ℕ, ◌<◌, ◌≤◌, Bool, true, IsTrue, List, [], ◌∷◌, refl, length, take, and_parts, nat_tests, AllPass-from_list_all, chars-IsAscii, IsUtf8-from_ascii, IsCharBoundary-from_take, str_width-printable, columns, is_word_byte}
 use Rattle.std.proofs.lemmas.Str.Ascii.{IsAscii-from_all}
-use Rattle.unicode_width.proofs.Rules.{str_width-printable}
-use Rattle.bpaf_doc.specs.Splitter.Chunks.{columns, is_word_byte}
 
 -- what each of them is: no newline and no blank, printable, and ASCII
 word_one : (b : ℕ) → is_ascii_graphic b ≡ true → is_word_byte b ≡ true

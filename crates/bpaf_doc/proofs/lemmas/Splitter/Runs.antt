@@ -1,12 +1,5 @@
 -- The chunks of a run, and of a text that begins with one.
-use Rattle.std.specs.List.{list_all}
-use Rattle.std.proofs.Common.{sym, ◌∙◌, ap, subst, inl, inr, arith, append_assoc, get_or, take-append-drop, take_all, drop-cons, length-take, ◌≡◌, ℕ, ◌<◌, ◌≤◌, Bool, true, IsTrue, ◌⊎◌, List, [], ◌∷◌, ◌++◌, codes, refl, length, take, drop, Option, Some, None, unwrap_or}
-use Rattle.std.proofs.lemmas.List.{take-take, drop_all, get_or-take}
-use Rattle.memchr.specs.Find.{Nowhere, NoneBefore, NoneAfter, Passes, IsLastByte, is_byte}
-use Rattle.std.proofs.lemmas.List.Folds.{list_all-append}
-use Rattle.std.proofs.lemmas.Bool.Decides.{nat_tests}
-use Rattle.bpaf_doc.specs.Splitter.Chunks.{Chunk, Raw, Form, Plain, Spells, nothing, code_line, fence, before_code, paragraph, line_break, newline, blank, word, chunks_of, columns, is_line_byte, IsLine, IsLineEnd, IsWordEnd}
-use Rattle.bpaf_doc.specs.Splitter.Steps.Runs.{IsRunEnd}
+use Rattle.bpaf_doc.proofs.lemmas.Splitter.Words.{list_all, sym, ◌∙◌, ap, subst, inl, inr, arith, append_assoc, get_or, take-append-drop, take_all, drop-cons, length-take, ◌≡◌, ℕ, ◌<◌, ◌≤◌, Bool, true, IsTrue, ◌⊎◌, List, [], ◌∷◌, ◌++◌, codes, refl, length, take, drop, Option, Some, None, unwrap_or, take-take, drop_all, get_or-take, Nowhere, NoneBefore, NoneAfter, Passes, IsLastByte, is_byte, list_all-append, nat_tests, Chunk, Raw, Form, Plain, Spells, nothing, code_line, fence, before_code, paragraph, line_break, newline, blank, word, chunks_of, columns, is_line_byte, IsLine, IsLineEnd, IsWordEnd, IsRunEnd}
 use Rattle.bpaf_doc.proofs.lemmas.Splitter.Cuts.{is_newline, line_from_no_newline, line_before_newline}
 use Rattle.bpaf_doc.proofs.lemmas.Splitter.Printable.{line_columns_are}
 use Rattle.bpaf_doc.proofs.lemmas.Splitter.Spelling.{and_left, and_right, spells_its_chunks, only_its_chunks}

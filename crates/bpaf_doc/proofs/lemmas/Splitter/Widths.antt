@@ -1,11 +1,9 @@
 -- How many columns a text takes at most: three for each character.
-use Rattle.std.proofs.Common.{arith, ℕ, zero, suc, ◌+◌, ◌-◌, ◌*◌, ◌<◌, ◌≤◌, false, List, [], ◌∷◌, length}
+use Rattle.bpaf_doc.proofs.lemmas.Splitter.Words.{arith, ℕ, zero, suc, ◌+◌, ◌-◌, ◌*◌, ◌<◌, ◌≤◌, false, List, [], ◌∷◌, length, nat_tests, columns}
 use Rattle.std.specs.Str.{chars, chars_after, continuation_len, lead_bits}
-use Rattle.std.proofs.lemmas.Bool.Decides.{nat_tests}
 use Rattle.unicode_width.specs.declared.state.State.{State}
 use Rattle.unicode_width.specs.declared.state.After.{After}
 use Rattle.unicode_width.specs.Width.{Reading, alone, past_selectors, in_context, past_emoji, step, read_before, str_width, plain}
-use Rattle.bpaf_doc.specs.Splitter.Chunks.{columns}
 
 alone_most : (c : ℕ) → (alone false c).0 ≤ 3
 unfolding alone

@@ -1,9 +1,6 @@
 -- The rules of what is light: a line is broken between ordinary chunks with light chunks and marks between them only where the second would
 -- pass the width.
-use Rattle.std.proofs.Common.{arith, ℕ, Bool, true, false, ◌&&◌}
-use Rattle.std.proofs.lemmas.Bool.{and_parts}
-use Rattle.bpaf_doc.specs.Splitter.Chunks.{Chunk, is_inked, is_ordinary}
-use Rattle.bpaf_doc.specs.Console.Layout.{event_columns, is_light, is_light_mark}
+use Rattle.bpaf_doc.proofs.lemmas.Console.Words.{arith, ℕ, Bool, true, false, ◌&&◌, and_parts, Chunk, is_inked, is_ordinary, event_columns, is_light, is_light_mark}
 use Rattle.bpaf_doc.proofs.lemmas.Console.Layout.Reach.{Rule, IsSound, sum_of}
 
 -- an ordinary inked chunk

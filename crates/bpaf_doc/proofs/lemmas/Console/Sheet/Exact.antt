@@ -1,19 +1,6 @@
 -- The page that the code writes is the page as a function of the document: the walk over its marks, and the whole.
 use Rattle.std.proofs.Common.{sym, ap, arith, inl, inr, ◌∙◌, ◌≡◌, ℕ, zero, suc, ◌+◌, ◌-◌, ◌^◌, ◌<◌, ◌≤◌, Bool, true, false, not, ◌&&◌, ◌==◌, List, [], ◌∷◌, ◌++◌, length, take, drop, reverse, refl, if◌then◌else◌, slice_get, Some, IfOk, Result, String, string_bytes}
-use Rattle.std.proofs.lemmas.Grind.{common_steps}
-use Rattle.std.proofs.lemmas.List.{length-drop, length-reverse, take_at}
-use Rattle.std.proofs.lemmas.Bool.Decides.{nat_tests}
-use Rattle.bpaf_doc.specs.declared.console.pairs.Pairs.{Pairs}
-use Rattle.bpaf_doc.specs.declared.buffer.Block.{Block}
-use Rattle.bpaf_doc.specs.declared.buffer.Style.{Style}
-use Rattle.bpaf_doc.specs.Buffer.Parts.{Part, Text, Start, End}
-use Rattle.bpaf_doc.specs.Splitter.Chunks.{Chunk, Raw, Paragraph, LineBreak, columns, chunks_of, has_some}
-use Rattle.bpaf_doc.specs.Shown.{is_hidden, shown_chunks, through_paragraph}
-use Rattle.bpaf_doc.specs.Console.Margin.{margin, is_skipped, skips_pair, is_section4_start, tab_stop, Shift, Indent, Level, part_shift}
-use Rattle.bpaf_doc.specs.Console.Exact.{saturated, PageSoFar, console_page}
-use Rattle.bpaf_doc.specs.Console.Steps.Hiding.{hidden_after}
-use Rattle.bpaf_doc.specs.Console.Steps.Page.{Sheet, blank_sheet}
-use Rattle.bpaf_doc.specs.Console.Steps.Pairs.{KnowsPairs}
+use Rattle.bpaf_doc.proofs.lemmas.Console.Words.{common_steps, length-drop, length-reverse, take_at, nat_tests, Pairs, Block, Style, Part, Text, Start, End, Chunk, Raw, Paragraph, LineBreak, columns, chunks_of, has_some, is_hidden, shown_chunks, through_paragraph, margin, is_skipped, skips_pair, is_section4_start, tab_stop, Shift, Indent, Level, part_shift, saturated, PageSoFar, console_page, hidden_after, Sheet, blank_sheet, KnowsPairs, enumerate_from, console_text}
 use Rattle.bpaf_doc.proofs.lemmas.Console.Hiding.{Counts, Counts-more, is_hidden-Counts}
 use Rattle.bpaf_doc.proofs.lemmas.Console.Layout.Back.{by_test, by_cases}
 use Rattle.bpaf_doc.proofs.lemmas.Console.Layout.Turned.{reverse_cons}
@@ -22,8 +9,6 @@ use Rattle.bpaf_doc.proofs.lemmas.Console.Pairs.{KnowsPairs-more, knows_start, s
 use Rattle.bpaf_doc.proofs.lemmas.Splitter.Pieces.{IsGood}
 use Rattle.bpaf_doc.proofs.lemmas.Console.Sheet.Whole.{get_from_drop, drop_next, Each, text_good}
 use Rattle.bpaf_doc.proofs.lemmas.Console.Tabs.{widest_from, walk}
-use Rattle.std.specs.List.{enumerate_from}
-use Rattle.bpaf_doc.specs.Console.Steps.Text.{console_text}
 use Rattle.bpaf_doc.specs.declared.buffer.Block.TheVariants as blocks
 use Rattle.bpaf_doc.specs.Console.Steps.Page as page
 use Rattle.bpaf_doc.specs.Console.Steps.Text as whole

@@ -1,16 +1,8 @@
 -- Each step of the exact page is a step of the console's rules.
-use Rattle.std.specs.List.{ends_with}
-use Rattle.std.specs.Str.{bytes_eq}
+use Rattle.bpaf_doc.proofs.lemmas.Console.Words.{ends_with, bytes_eq, append-nil, same_from_push, replicate_next, common_steps, cases_lt, and_parts, not-true, not-false, nat_tests, Decides-eqb, IsLine, columns, has_some, Stretch, Gap, Placed, PageSoFar, Request, NoBreak, NewLine, BlankLine}
 use Rattle.std.proofs.Common.{sym, subst, ap, arith, inl, inr, ◌∙◌, append_assoc, ◌≡◌, ℕ, zero, suc, ◌+◌, ◌-◌, ◌<◌, ◌≤◌, true, false, not, ◌&&◌, List, [], ◌∷◌, ◌++◌, length, take, replicate, refl, ◌⊎◌, IsUtf8, nat_eq, nat_le}
-use Rattle.std.proofs.lemmas.List.{append-nil, same_from_push}
-use Rattle.std.proofs.lemmas.Grind.{replicate_next, common_steps}
 use Rattle.std.proofs.lemmas.Slice.Eq.{ends_is, bytes_eq-Decides}
-use Rattle.std.proofs.lemmas.Bool.{cases_lt, and_parts, not-true, not-false}
-use Rattle.std.proofs.lemmas.Bool.Decides.{nat_tests, Decides-eqb}
-use Rattle.bpaf_doc.specs.Splitter.Chunks.{IsLine, columns, has_some}
-use Rattle.bpaf_doc.specs.Console.Layout.{Stretch, Gap, Placed}
 use Rattle.bpaf_doc.specs.Console.Exact as page
-use Rattle.bpaf_doc.specs.Console.Exact.{PageSoFar, Request, NoBreak, NewLine, BlankLine}
 use Rattle.bpaf_doc.proofs.lemmas.Console.Layout.State.{State, Piece, Lines, none_asked, line_there, line_put, blank_there, second_put, both_put, Begins, first, stays, wraps, Places, places, drops, Pads, to_margin, IsPut, sat, padded, put, wrapped, dropped, spaced, on_new_line, has_text, ends_line, ends_blank, IsLegible}
 use Rattle.bpaf_doc.proofs.lemmas.Console.Layout.Back.{by_cases, by_test, by_padded}
 use Rattle.bpaf_doc.proofs.lemmas.Console.Layout.Blank.{some_none, text_back, text_back_cons}

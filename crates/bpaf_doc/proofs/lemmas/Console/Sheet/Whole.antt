@@ -1,22 +1,10 @@
 -- The exact page is a layout of its document, with the console's ink.
 use Rattle.std.specs.Prelude.{◌≡◌, ℕ, zero, suc, ◌+◌, ◌^◌, ◌<◌, ◌≤◌, ⊤, Bool, true, false, List, [], ◌∷◌, ◌++◌, length, take, drop, reverse, map, flat_map, All, refl, IsUtf8, slice_get, Some}
-use Rattle.std.specs.List.{enumerate_from}
-use Rattle.std.proofs.Common.{sym, subst, ap, arith, ◌∙◌, append_assoc}
-use Rattle.std.proofs.lemmas.List.{append-nil, reverse-reverse, length-drop}
-use Rattle.std.proofs.lemmas.List.Elements.{All-get_or}
-use Rattle.std.proofs.lemmas.Option.{get_or_from_slice_get, slice_get_within}
-use Rattle.std.proofs.lemmas.Grind.{flat_map-append, common_steps}
+use Rattle.bpaf_doc.proofs.lemmas.Console.Words.{enumerate_from, sym, subst, ap, arith, ◌∙◌, append_assoc, append-nil, reverse-reverse, length-drop, All-get_or, get_or_from_slice_get, slice_get_within, flat_map-append, common_steps, Style, Part, Text, Start, End, ink, part_bytes, HasUtf8Texts, IsText, console_ink, mark_bytes, numbered, shown_chunks, shown_part_ink, margin, greatest_margin, is_skipped, Level, Event, Shows, Opens, Closes, part_events, shown_events, IsLayout, Stretch, Gap, Passed, PageSoFar, console_page, and-false, and-true}
 use Rattle.bpaf_doc.proofs.lemmas.Splitter.Pieces.{Pieces, none as no_pieces, piece as stands, pieces, IsGood}
-use Rattle.bpaf_doc.specs.declared.buffer.Style.{Style}
-use Rattle.bpaf_doc.specs.Buffer.Parts.{Part, Text, Start, End, ink, part_bytes, HasUtf8Texts}
 use Rattle.bpaf_doc.specs.Splitter.Chunks.{Chunk, Raw, Paragraph, LineBreak, chunks_of, chunk_ink, Plain}
-use Rattle.bpaf_doc.specs.Splitter.Promises.{IsText}
-use Rattle.bpaf_doc.specs.Shown.{console_ink, mark_bytes, numbered, shown_chunks, shown_part_ink}
-use Rattle.bpaf_doc.specs.Console.Margin.{margin, greatest_margin, is_skipped, Level}
-use Rattle.bpaf_doc.specs.Console.Layout.{Event, Shows, Opens, Closes, part_events, shown_events, IsLayout, Stretch, Gap, Passed}
 use Rattle.bpaf_doc.specs.Console.Laws.{IsExactPageLayout}
 use Rattle.bpaf_doc.specs.Console.Exact as page
-use Rattle.bpaf_doc.specs.Console.Exact.{PageSoFar, console_page}
 use Rattle.bpaf_doc.proofs.lemmas.Splitter.Facts.{text_chunks}
 use Rattle.bpaf_doc.proofs.lemmas.Splitter.Ink.{ink-nil, ink-append, gap_ink}
 use Rattle.bpaf_doc.proofs.lemmas.Splitter.Spelling.{spells_in}
@@ -31,7 +19,6 @@ use Rattle.bpaf_doc.proofs.lemmas.Console.Layout.Whole.{EachNext, layout_of_page
 use Rattle.bpaf_doc.proofs.lemmas.Console.Margins.{top, stack_at, shift_at, shift_at-shown, top-margin, margin-le, margin-le-greatest, margin-level, falls_after, stack_at-more}
 use Rattle.bpaf_doc.proofs.lemmas.Console.Pairs.{pair_there, skipped_by}
 use Rattle.bpaf_doc.proofs.lemmas.Console.Sheet.Grows.{Draws, raw_placed, RawTo}
-use Rattle.std.proofs.Math.Bool.{and-false, and-true}
 
 -- ---- what is known of the chunks of a text
 

@@ -1,12 +1,5 @@
 -- No chunk of a text has a newline in it, so no fragment of a document has.
-use Rattle.std.proofs.Common.{arith, ◌≡◌, ℕ, suc, Bool, true, List, [], ◌∷◌, take, refl, ap}
-use Rattle.std.specs.List.{list_all}
-use Rattle.std.proofs.lemmas.List.Folds.{list_all-append, list_all-map}
-use Rattle.std.proofs.lemmas.Bool.{and_parts, and_from}
-use Rattle.bpaf_doc.specs.Buffer.Parts.{Part}
-use Rattle.bpaf_doc.specs.Splitter.Chunks.{Chunk, Raw, Paragraph, LineBreak, is_line_byte, chunks_of}
-use Rattle.bpaf_doc.specs.Html.Fragments.{Fragment, Shown}
-use Rattle.bpaf_doc.specs.Html.Steps.Walk.{walk, depth_after}
+use Rattle.bpaf_doc.proofs.lemmas.Html.Words.{arith, ◌≡◌, ℕ, suc, Bool, true, List, [], ◌∷◌, take, refl, ap, list_all, list_all-append, list_all-map, and_parts, and_from, Part, Chunk, Raw, Paragraph, LineBreak, is_line_byte, chunks_of, Fragment, Shown, walk, depth_after}
 use Rattle.bpaf_doc.proofs.lemmas.Splitter.Pieces.{Pieces, none, piece, pieces}
 use Rattle.bpaf_doc.proofs.lemmas.Splitter.Spelling.{spells_its_chunks}
 

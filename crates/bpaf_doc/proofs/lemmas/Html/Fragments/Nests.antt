@@ -1,11 +1,6 @@
 -- The fragments of a well-nested document are well nested.
-use Rattle.std.proofs.Common.{rules, ◌≡◌, ℕ, zero, suc, Bool, List, [], ◌∷◌, ◌++◌, map, refl, sym, ap, ◌∙◌, append_assoc, append-nil, subst}
-use Rattle.bpaf_doc.specs.declared.buffer.Style.{Style}
-use Rattle.bpaf_doc.specs.declared.buffer.Block.{Block}
+use Rattle.bpaf_doc.proofs.lemmas.Html.Words.{rules, ◌≡◌, ℕ, zero, suc, Bool, List, [], ◌∷◌, ◌++◌, map, refl, sym, ap, ◌∙◌, append_assoc, append-nil, subst, Style, Block, Chunk, chunks_of, Fragment, TextStart, Shown, TextEnd, Hidden, Start, End, visible, walk, part_walk, depth_after}
 use Rattle.bpaf_doc.specs.Buffer.Parts.{Part, Text, Start as PartStart, End as PartEnd, IsWellNested, nothing as no_part, text as one_text, enclosed as part_enclosed, joined as part_joined}
-use Rattle.bpaf_doc.specs.Splitter.Chunks.{Chunk, chunks_of}
-use Rattle.bpaf_doc.specs.Html.Fragments.{Fragment, TextStart, Shown, TextEnd, Hidden, Start, End}
-use Rattle.bpaf_doc.specs.Html.Steps.Walk.{visible, walk, part_walk, depth_after}
 use Rattle.bpaf_doc.proofs.lemmas.Html.Fragments.Walking.{depth_after_all}
 
 -- nothing; a shown text; a hidden one; a block round a well-nested list; two well-nested lists joined

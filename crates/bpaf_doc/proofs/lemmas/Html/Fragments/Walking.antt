@@ -1,17 +1,9 @@
 -- The walk over the parts gives the fragments of the document.
-use Rattle.std.proofs.Common.{◌≡◌, ℕ, zero, suc, ◌+◌, Bool, true, false, List, [], ◌∷◌, ◌++◌, length, take, map, refl, sym, ◌∙◌, arith, append_assoc, append-nil, subst, inr, ◌<◌, ◌==◌, not, ◌⊎◌, flat_map, if◌then◌else◌}
-use Rattle.bpaf_doc.specs.declared.buffer.Style.{Style}
-use Rattle.std.specs.List.{enumerate_from, before_first, position_or_len}
-use Rattle.std.proofs.lemmas.List.{take_at, length_push, length-append, length-map}
-use Rattle.std.proofs.lemmas.Bool.{false≢true}
-use Rattle.bpaf_doc.specs.Buffer.Parts.{Part}
-use Rattle.bpaf_doc.specs.Splitter.Chunks.{Chunk, Raw, IsLine, chunks_of, columns, is_paragraph}
+use Rattle.bpaf_doc.proofs.lemmas.Html.Words.{◌≡◌, ℕ, zero, suc, ◌+◌, Bool, true, false, List, [], ◌∷◌, ◌++◌, length, take, map, refl, sym, ◌∙◌, arith, append_assoc, append-nil, subst, inr, ◌<◌, ◌==◌, not, ◌⊎◌, flat_map, if◌then◌else◌, Style, enumerate_from, before_first, position_or_len, take_at, length_push, length-append, length-map, false≢true, Part, Chunk, Raw, IsLine, chunks_of, columns, is_paragraph, Fragment, Shown, part_fragments, shown_fragments, depth_after, depth_after_text, visible, text_rest, part_walk, walk}
 use Rattle.bpaf_doc.specs.Splitter.Steps.Runs.{IsRun}
 use Rattle.bpaf_doc.proofs.lemmas.Splitter.Runs.{AreWords, no_words, a_word, words_of_line}
 use Rattle.bpaf_doc.specs.Shown.{is_hidden}
-use Rattle.bpaf_doc.specs.Html.Fragments.{Fragment, Shown, part_fragments, shown_fragments}
 use Rattle.bpaf_doc.proofs.lemmas.Console.Hiding.{not_zero, Counts, Counts-more, is_hidden-Counts}
-use Rattle.bpaf_doc.specs.Html.Steps.Walk.{depth_after, depth_after_text, visible, text_rest, part_walk, walk}
 
 -- what f gives at each part of a document from what stands before it and it
 abbrev pub along : {X : Type 0} → (List Part → Part → List X) → List Part → List Part → List X
