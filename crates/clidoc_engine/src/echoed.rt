@@ -38,7 +38,7 @@ fn end(words: &str) -> Option<&str> {
     None
 }
 
-// Programs that run others for a repository do as their lines say that begin so. Behind a name stands a colon.
+// Programs that run others for a repository do as their lines say that begin so. After a name stands a colon.
 fn is_for_a_reader_of_lines(words: &str) -> bool {
     let words = words.trim_start();
     words.starts_with("::") || words.starts_with("##") || words == ":"

@@ -63,7 +63,7 @@ pub enum WordFault<'w> {
     NoSuchShell(&'w str),
     /// There is no help text to compare with.
     NoHelp,
-    /// There is no folder to write all pages into.
+    /// The folder to write all pages into is missing.
     NoFolder,
     /// This option is given more than once.
     Twice(WordOption),

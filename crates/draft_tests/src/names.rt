@@ -187,7 +187,7 @@ fn lines_say_where_a_name_stands(rt: HostRuntime) {
     assert!(rt; are_lines(&rt, rt.alloc(), &arena).expect(&rt, "lines"));
 }
 
-// Whether a help text without a name and one with some are told apart in this arena.
+// Whether a help text without a name and one with some give different answers in this arena.
 fn are_told_apart<A: Allocator + Copy>(alloc: A) -> Result<bool, AllocError> {
     let has_none = has_no_name(alloc, "Error: \u{1b}[1mno\u{1b}[0m terminal\n")?;
     Ok(has_none && !has_no_name(alloc, PRINTED.printed)?)

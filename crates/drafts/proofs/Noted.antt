@@ -68,7 +68,7 @@ closed closing text some ascii u = by (last text == closing) refl where
   by true e = closed_by closing text some ascii (eqb-true (last text) closing e) u
   by false e = tt
 
--- what stands before an opening bracket, and behind it
+-- what stands before an opening bracket, and after it
 record IsOpened (text start inner : List ℕ) (bracket : ℕ) : Type 0 where
   utf8 : IsUtf8 start
   inner_utf8 : IsUtf8 inner
@@ -168,7 +168,7 @@ record IsUtf8TextOf (text found : List ℕ) : Type 0 where
 abbrev Says : (text : List ℕ) → NoteSaid → Type 0
 Says text n = IsTextOf text n.text
 
--- behind a beginning that ends with a blank
+-- after a beginning that ends with a blank
 begun : (beginning text : List ℕ) → 0 < length beginning → get_or beginning (length beginning - 1) 0 ≡ 32 → IsUtf8 text → IfSome (behind beginning text) (IsUtf8TextOf text)
 begun beginning text some blank u = by (bytes_eq (take (length beginning) text) beginning) refl where
   n : ℕ
@@ -295,7 +295,7 @@ one_more first rest all n h own stands = by n.kind refl where
     env = here (variable n.text) (within first n.text (variable n.text) stands (taken _ n.text));
   }
 
--- what is left, and the notes behind it
+-- what is left, and the notes after it
 record IsLeft (whole text : List ℕ) (all : NotesSaid) : Type 0 where
   utf8 : IsUtf8 text
   end : List ℕ

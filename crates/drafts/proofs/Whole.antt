@@ -21,7 +21,7 @@ abbrev pub FollowIn : (lines : List (List ℕ)) → List PassageSaid → Type 0
 FollowIn lines [] = lines ≡ []
 FollowIn lines (p ∷ ps) = (blank : List (List ℕ)) × (rest : List (List ℕ)) × (lines ≡ p.lines ++ (blank ++ rest)) × AllPass is_blank blank × FollowIn rest ps
 
--- the lines of a block, those that are dropped behind them, and the rest
+-- the lines of a block, those that are dropped after them, and the rest
 block_then : (lines : List (List ℕ)) (first end : ℕ) → first < end → (let own = lines_between first end lines in let n = length own - suffix_len is_blank own in drop first lines ≡ inked own ++ (drop n own ++ drop end lines))
 block_then lines first end h =
     let own = lines_between first end lines in

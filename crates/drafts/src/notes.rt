@@ -102,7 +102,7 @@ fn note_of(kind: NoteKind, text: &str) -> Note<'_>
     }
 }
 
-/// What stands behind a beginning, if a text has it.
+/// What stands after a beginning, if a text has it.
 pub fn behind<'a>(beginning: &str, text: &'a str) -> Option<&'a str>
     ensures { text_of result ≡ spec.behind beginning.now text.now }
 {

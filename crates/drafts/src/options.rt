@@ -288,7 +288,7 @@ fn push_names<A: Allocator>(out: &mut String<A>, names: &[&str]) -> Result<(), A
     }
 }
 
-/// What stands behind a beginning, if there is a text that has it.
+/// What stands after a beginning, if there is a text that has it.
 pub fn behind_in<'a>(beginning: &str, text: Option<&'a str>) -> Option<&'a str>
     ensures { text_of result ≡ spec.behind_in beginning.now (text_of text.entry) }
 {

@@ -43,7 +43,7 @@ starts (l ∷ ls) = starts ls ++ started (length ls) l.begun
 abbrev pub start_of : Block → Start
 start_of b = record { line = b.first; kind = b.kind }
 
--- blocks from one line up to the start of another, each behind the one before it, none of them empty
+-- blocks from one line up to the start of another, each after the one before it, none of them empty
 abbrev pub FollowOn : (first : ℕ) → List Block → (end : ℕ) → Type 0
 FollowOn first [] end = first ≡ end
 FollowOn first (b ∷ bs) end = (b.first ≡ first) × (b.first < b.end) × FollowOn b.end bs end

@@ -18,7 +18,7 @@ is_small c = is_between 97 122 c
 abbrev pub is_in_name : ℕ → Bool
 is_in_name c = is_ascii_alphanumeric c || (c == 45 || (c == 95 || (c == 46 || c == 43)))
 
--- what stands behind the blanks at the start
+-- what stands after the blanks at the start
 abbrev pub text : (line : List ℕ) → List ℕ
 text [] = []
 text (c ∷ cs) = if is_blank c then text cs else c ∷ cs
@@ -42,7 +42,7 @@ abbrev pub has_word : (word text : List ℕ) → Bool
 has_word word [] = false
 has_word word (c ∷ cs) = begins_with word (c ∷ cs) || has_word word cs
 
--- what stands behind the letters of a name
+-- what stands after the letters of a name
 abbrev pub behind_name : (text : List ℕ) → List ℕ
 behind_name [] = []
 behind_name (c ∷ cs) = if is_in_name c then behind_name cs else c ∷ cs
@@ -68,7 +68,7 @@ abbrev pub is_empty : List ℕ → Bool
 is_empty [] = true
 is_empty (c ∷ cs) = false
 
--- a tabulator, or a blank before another or a tabulator, and a text behind them
+-- a tabulator, or a blank before another or a tabulator, and a text after them
 abbrev pub is_gap : (rest : List ℕ) → Bool
 is_gap [] = false
 is_gap (c ∷ []) = false
@@ -101,7 +101,7 @@ is_option (c ∷ d ∷ e ∷ cs) = c == 45 && (if d == 45 then is_option_letter 
 is_option (c ∷ d ∷ []) = c == 45 && is_option_letter d
 is_option _ = false
 
--- what stands behind the first `=` of the first word
+-- what stands after the first `=` of the first word
 abbrev pub behind_equals : (text : List ℕ) → List ℕ
 behind_equals [] = []
 behind_equals (c ∷ cs) = if is_blank c then [] else if c == 61 then cs else behind_equals cs
@@ -114,12 +114,12 @@ begins_small (c ∷ cs) = is_small c || is_between 48 57 c
 abbrev pub is_divider : ℕ → Bool
 is_divider c = c == 44 || c == 124
 
--- what stands behind the first blank; nothing, if `,` or `|` is before it
+-- what stands after the first blank; nothing, if `,` or `|` is before it
 abbrev pub behind_word : (before : ℕ) → (text : List ℕ) → List ℕ
 behind_word before [] = []
 behind_word before (c ∷ cs) = if is_blank c then (if is_divider before then [] else cs) else behind_word c cs
 
--- options as they are typed, as `--format=gnu -b20`: the first has a value that is no word for one, and another follows
+-- options as they are typed, as `--format=gnu -b20`: the first has a value that does not name one, and another follows
 abbrev pub is_typed : (text : List ℕ) → Bool
 is_typed text =
     (is_option text && not (has_columns text)) && (begins_small (behind_equals text) && is_option (behind_word 32 text))

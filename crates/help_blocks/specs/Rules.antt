@@ -71,7 +71,7 @@ leads here next = nat_lt here.indent next.indent && not next.is_empty
 abbrev pub is_above_option : (here next : Shape) → Bool
 is_above_option here next = next.is_option && not (next.is_empty && here.is_word)
 
--- a title without a colon: a line behind an empty one, with an option or columns below it, indented deeper; in capitals with anything below it
+-- a title without a colon: a line after an empty one, with an option or columns below it, indented deeper; in capitals with anything below it
 abbrev pub is_plain_title : (is_after_blank : Bool) → (here next : Shape) → Bool
 is_plain_title after here next = (after && leads here next) && ((next.is_option || next.is_code) || here.is_in_capitals)
 

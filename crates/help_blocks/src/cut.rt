@@ -1,4 +1,4 @@
-//! Blocks, one behind the other.
+//! Blocks, one after another.
 
 ghost use Rattle.std.specs.Prelude.{◌≡◌, ◌+◌, ◌<◌, ◌^◌, OnOk};
 ghost use Rattle.help_blocks.specs.Steps as steps;
@@ -22,7 +22,7 @@ fn lengthen<A: Allocator>(found: &mut Vec<Block, A>, end: usize)
     }
 }
 
-/// Puts a line behind the blocks: where it begins none, into the last one.
+/// Puts a line into the last block, or, if it begins one, into a new one.
 pub fn put<A: Allocator>(
     found: &mut Vec<Block, A>,
     number: usize,

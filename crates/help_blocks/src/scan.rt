@@ -17,7 +17,7 @@ pub fn is_in_name(byte: u8) -> bool
     byte.is_ascii_alphanumeric() || matches!(byte, b'-' | b'_' | b'.' | b'+')
 }
 
-/// What stands behind the blanks at the start.
+/// What stands after the blanks at the start.
 pub fn text(line: &[u8]) -> &[u8]
     ensures { result.now ≡ looks.text line.now }
 {
@@ -82,7 +82,7 @@ pub fn has_word(text: &[u8], word: &[u8]) -> bool
     false
 }
 
-/// What stands behind the letters of a name.
+/// What stands after the letters of a name.
 pub fn behind_name(text: &[u8]) -> &[u8]
     ensures { result.now ≡ looks.behind_name text.now }
 {
@@ -96,7 +96,7 @@ pub fn behind_name(text: &[u8]) -> &[u8]
     rest
 }
 
-/// What stands behind the first `=` of the first word.
+/// What stands after the first `=` of the first word.
 pub fn behind_equals(text: &[u8]) -> &[u8]
     ensures { result.now ≡ looks.behind_equals text.now }
 {
@@ -119,7 +119,7 @@ fn is_divider(byte: u8) -> bool
     byte == b',' || byte == b'|'
 }
 
-/// What stands behind the first blank; nothing, if `,` or `|` is before it.
+/// What stands after the first blank; nothing, if `,` or `|` is before it.
 pub fn behind_word(text: &[u8]) -> &[u8]
     ensures { result.now ≡ looks.behind_word 32 text.now }
 {

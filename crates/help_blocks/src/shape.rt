@@ -53,7 +53,7 @@ pub fn is_option_line(line: &[u8]) -> bool
     is_listed_option(scan::text(line))
 }
 
-// Whether a name goes on behind five letters.
+// Whether a name goes on after five letters.
 fn is_named_on(text: &[u8]) -> bool
     ensures { result ≡ looks.is_named_on text.now }
 {
@@ -69,7 +69,7 @@ fn is_usage(text: &[u8]) -> bool
     scan::begins_with(text, b"usage") && !is_named_on(text)
 }
 
-// Whether the name of an option may begin with this behind its dashes.
+// Whether the name of an option may begin with this after its dashes.
 fn is_option_letter(byte: u8) -> bool
     ensures { result ≡ looks.is_option_letter byte }
 {

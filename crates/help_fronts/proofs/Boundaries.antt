@@ -24,7 +24,7 @@ class_ascii k c h = grind (arith, nat_tests)
 not_false : (b : Bool) → not b ≡ false → b ≡ true
 not_false b h1 = grind (arith, true≢false)
 
--- behind bytes of a class at the front
+-- after bytes of a class at the front
 pub behind_class : (k : Class) (bs : List ℕ) (n : ℕ) → n ≡ prefix_len (is_in k) bs → IsUtf8 bs → IsCharBoundary bs n
 behind_class k bs n e utf8 = after_run (is_in k) bs n (omega arith) utf8 (class_ascii k)
 
@@ -32,7 +32,7 @@ behind_class k bs n e utf8 = after_run (is_in k) bs n (omega arith) utf8 (class_
 pub before_class : (k : Class) (bs : List ℕ) (n : ℕ) → n ≤ length bs → (n < length bs → is_in k (get_or bs n 0) ≡ true) → IsCharBoundary bs n
 before_class k bs n within passed = grind (arith, cases_lt, IsCharBoundary-before_ascii, class_ascii k (get_or bs n 0), IsCharBoundary-end)
 
--- before the first byte of a class, and behind it
+-- before the first byte of a class, and after it
 pub before_free : (k : Class) (bs : List ℕ) → IsCharBoundary bs (free_len k bs)
 before_free k bs = before_ascii (λ b. not (is_in k b)) bs (λ c h. class_ascii k c (not_false (is_in k c) h))
 
@@ -58,7 +58,7 @@ letter_stands w h =
 gap_ascii : (b next : ℕ) → is_in_gap b next ≡ true → b < 128
 gap_ascii b next h = grind (arith, nat_tests)
 
--- behind a gap
+-- after a gap
 pub behind_gap : (bs : List ℕ) → IsUtf8 bs → IsCharBoundary bs (gap_len bs)
 behind_gap [] utf8 = IsCharBoundary-start [] utf8
 behind_gap (b ∷ bs) utf8 = by (is_in_gap b (get_or bs 0 0)) refl (behind_gap bs) where
@@ -70,7 +70,7 @@ behind_gap (b ∷ bs) utf8 = by (is_in_gap b (get_or bs 0 0)) refl (behind_gap b
       subst (IsCharBoundary (b ∷ bs)) (sym (one-add (gap_len bs))) ((let n = inner.0 in omega arith), (λ l. inner.1 (omega arith)))
   by false e below = IsCharBoundary-start (b ∷ bs) utf8
 
--- behind a parenthesis that begins a word
+-- after a parenthesis that begins a word
 pub behind_parenthesis : (w : List ℕ) → IsUtf8 w → is_in_parentheses w ≡ true → IsCharBoundary w 1
 behind_parenthesis w utf8 h =
     let opened : (get_or w 0 0 == 40) ≡ true = (and_parts (get_or w 0 0 == 40) (get_or w (length w - 1) 0 == 41) h).0 in

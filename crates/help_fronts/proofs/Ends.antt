@@ -39,7 +39,7 @@ module _ (text rest piece behind : List ℕ) (is_end : IsEnd text rest) (cut : r
   pub pieces_more : (ps qs : List (List ℕ)) (whole : List ℕ) → ps ≡ piece ∷ qs → whole ≡ front_of text rest ++ concat ps → whole ≡ front_of text behind ++ concat qs
   pieces_more ps qs whole e h = h ∙ ap (λ xs. front_of text rest ++ concat xs) e ∙ sym (append_assoc (front_of text rest) piece (concat qs)) ∙ ap (λ f. f ++ concat qs) (sym front_more)
 
--- behind all pieces
+-- after all pieces
 pub pieces_done : (text rest : List ℕ) (ps : List (List ℕ)) (whole : List ℕ) → IsEnd text rest → ps ≡ [] → whole ≡ front_of text rest ++ concat ps → text ≡ whole ++ rest
 pieces_done text rest ps whole is_end e h = is_end ∙ ap (λ f. f ++ rest) (sym (h ∙ ap (λ xs. front_of text rest ++ concat xs) e ∙ append-nil (front_of text rest)))
 

@@ -6,7 +6,7 @@ use Rattle.help_fronts.specs.Words.{is_name, name}
 use Rattle.help_fronts.specs.Fronts.{names}
 use Rattle.help_fronts.specs.Usages.{WordSaid, last_word, onto_word, usage_words}
 
--- a text, cut after so many bytes
+-- a text, cut after that many bytes
 abbrev pub said : (text after : List ℕ) → WordSaid
 said text after = record { text = text; after = after }
 

@@ -40,7 +40,7 @@ is_quote b = b == 34 || (b == 39 || b == 96)
 abbrev pub is_no_letter : ℕ → Bool
 is_no_letter b = (is_closing b || (is_divider b || is_quote b)) || (is_dash b || b == 61)
 
--- what may begin a name behind its dashes: all but blanks, closing brackets, dividers, quotes, `-` and `=`
+-- what may begin a name after its dashes: all but blanks, closing brackets, dividers, quotes, `-` and `=`
 abbrev pub is_letter : ℕ → Bool
 is_letter b = nat_lt 32 b && not (is_no_letter b)
 
@@ -52,7 +52,7 @@ is_separator b = is_joint b || is_opening b
 abbrev pub is_usage_mark : ℕ → Bool
 is_usage_mark b = (is_blank b || is_quote b) || (is_joint b || is_bracket b)
 
--- what is left out before the word for a value, and behind it
+-- what is left out before the word for a value, and after it
 abbrev pub is_lead : ℕ → Bool
 is_lead b = is_joint b || is_opening b
 
@@ -68,7 +68,7 @@ is_in class.Dot b = is_dot b
 is_in class.Separator b = is_separator b
 is_in class.UsageMark b = is_usage_mark b
 
--- the byte at a place, and 0, which no line has, behind the end
+-- the byte at a place, and 0, which no line has, after the end
 abbrev pub first : List ℕ → ℕ
 first text = slice_index text 0
 

@@ -15,7 +15,7 @@ use Rattle.help_fronts.specs.Words.{attached, bare_word, has_form_of_value, is_b
 abbrev pub is_mark : ℕ → Bool
 is_mark b = b == 58 || b == 45
 
--- no word, as between two blanks, one behind a tabulator, or a mark alone
+-- no word, as between two blanks, one after a tabulator, or a mark alone
 abbrev pub is_gap : List ℕ → Bool
 is_gap w = nat_le (first w) 32 || (length w == 1 && is_mark (first w))
 
@@ -38,7 +38,7 @@ is_value before w next = not (leads_on before) && (is_marked_value before w next
 abbrev pub is_repetition : (before w : List ℕ) → Bool
 is_repetition before w = is_dots w && not (is_bare_name before || is_joiner before)
 
--- a name belongs to a front behind what leads on, or a second blank, and a long one also behind a short one
+-- a name belongs to a front after what leads on, or a second blank, and a long one also after a short one
 abbrev pub is_other_name : (before w : List ℕ) → Bool
 is_other_name before w = (leads_on before || length before == 0) || (is_short before && is_long w)
 
@@ -49,7 +49,7 @@ fits_option before w next =
     else if is_joiner w then is_name next
     else is_value before w next
 
--- another name of a command behind what leads on, and else what has the form of a value
+-- another name of a command after what leads on, and else what has the form of a value
 abbrev pub fits_command : (before w : List ℕ) → Bool
 fits_command before w = if leads_on before then is_command (bare_word w) else has_form_of_value w
 
@@ -62,7 +62,7 @@ abbrev pub is_second_blank : Kind → (before w next : List ℕ) → Bool
 is_second_blank kind.Option before w next = length w == 0 && (is_divider (last before) && is_name next)
 is_second_blank kind.Command before w next = false
 
--- whether a word belongs to a front, by the words beside it; none does behind a colon
+-- whether a word belongs to a front, by the words beside it; none does after a colon
 abbrev pub belongs : Kind → (before w next : List ℕ) → Bool
 belongs k before w next = is_second_blank k before w next || ((not (is_gap w) && not (last before == 58)) && fits k before w next)
 
@@ -75,7 +75,7 @@ belonging k before (p ∷ ps) = if belongs k before (word p) (first_word ps) the
 abbrev pub front_from : Kind → (piece : List ℕ) → (pieces : List (List ℕ)) → List (List ℕ)
 front_from k p ps = p ∷ belonging k (word p) ps
 
--- the first word of a command, without `,` or `:` behind it
+-- the first word of a command, without `,` or `:` after it
 abbrev pub command_name : List ℕ → List ℕ
 command_name w = without_end class.Joint w
 
@@ -162,12 +162,12 @@ pub record FrontSaid : Type 0 where
   pub joint : ℕ
   pub value : Option (List ℕ)
   pub is_optional : Bool
-  -- the front as it stands in the line, the gap, and what stands behind
+  -- the front as it stands in the line, the gap, and what stands after
   pub written : List ℕ
   pub gap : List ℕ
   pub help : List ℕ
 
--- what stands behind a front: the gap, and then the help
+-- what stands after a front: the gap, and then the help
 abbrev pub behind_front : (front : List (List ℕ)) → (text : List ℕ) → List ℕ
 behind_front front text = drop (length (concat front)) text
 
@@ -226,7 +226,7 @@ only [] = []
 only (w ∷ []) = w
 only (w ∷ v ∷ ws) = []
 
--- behind the name: those of a list that is all, and else each word that is one
+-- after the name: those of a list that is all, and else each word that is one
 abbrev pub aliases : (words : List (List ℕ)) → List (List ℕ)
 aliases [] = []
 aliases (w ∷ ws) = if is_list (only ws) then listed (only ws) else other_names w ws

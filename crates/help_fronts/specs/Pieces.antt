@@ -3,18 +3,18 @@ use Rattle.std.specs.Prelude.{ℕ, ◌+◌, ◌-◌, ◌==◌, ◌||◌, ◌&&�
 use Rattle.std.specs.List.{onto_first}
 use Rattle.help_fronts.specs.Bytes.{is_blank, is_closing, is_dash, is_divider, is_opening}
 
--- how many brackets are open behind a byte
+-- how many brackets are open after a byte
 abbrev pub deeper : (depth : ℕ) → ℕ → ℕ
 deeper depth b = if is_opening b then depth + 1 else if is_closing b then depth - 1 else depth
 
 abbrev pub is_cut : (depth before : ℕ) → ℕ → Bool
 is_cut depth before b = depth == 0 && (is_blank b || (is_dash b && is_divider before))
 
--- a byte before pieces: it begins one, if the text is cut before it, behind one that is still empty
+-- a byte before pieces: it begins one, if the text is cut before it, after one that is still empty
 abbrev pub onto_pieces : (is_cut : Bool) → ℕ → List (List ℕ) → List (List ℕ)
 onto_pieces is_cut b ps = if is_cut then [] ∷ onto_first b ps else onto_first b ps
 
--- the rest of a piece, behind a byte of it, and the pieces behind
+-- the rest of a piece, after a byte of it, and the pieces after
 abbrev pub pieces_behind : (depth before : ℕ) → List ℕ → List (List ℕ)
 pieces_behind depth before [] = [] ∷ []
 pieces_behind depth before (b ∷ bs) = onto_pieces (is_cut depth before b) b (pieces_behind (deeper depth b) b bs)

@@ -51,7 +51,7 @@ behind_value text = drop (len_of_value text) text
 
 -- ---- values
 
--- after `=`, `[=` or `<` directly behind the name
+-- after `=`, `[=` or `<` directly after the name
 abbrev pub is_joined : (after : List ℕ) → Bool
 is_joined after = first after == 61 || (first after == 60 || (first after == 91 && second after == 61))
 

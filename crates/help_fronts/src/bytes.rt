@@ -91,7 +91,7 @@ fn is_usage_mark(byte: u8) -> bool
     is_blank(byte) || is_quote(byte) || is_joint(byte) || is_opening(byte) || is_closing(byte)
 }
 
-/// The byte at a place; 0 behind the end.
+/// The byte at a place; 0 after the end.
 pub fn byte_at(text: &str, index: usize) -> u8
     ensures { result ≡ slice_index text.now index }
 {

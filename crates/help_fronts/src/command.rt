@@ -27,7 +27,7 @@ pub struct CommandFront<'a, A: Allocator = Global> {
     pub written: &'a str,
     /// What stands between the front and its help.
     pub gap: &'a str,
-    /// What stands behind, to the end of the line.
+    /// What stands after, to the end of the line.
     pub help: &'a str,
 }
 

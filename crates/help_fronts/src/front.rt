@@ -124,7 +124,7 @@ pub fn belongs(kind: Kind, before: &str, word: &str, next: &str) -> bool
         || (!is_gap(word) && last_byte(before) != b':' && fits(kind, before, word, next))
 }
 
-// The first piece, if it belongs to the front, and what stands behind it.
+// The first piece, if it belongs to the front, and what stands after it.
 fn next_piece<'a>(kind: Kind, before: &str, rest: &'a str) -> Option<(&'a str, &'a str)>
     ensures belonging { MatchOption result (spec.belonging kind before.now (pieces rest.now) ≡ [])
         (λ p. spec.belonging kind before.now (pieces rest.now) ≡ p.0.now ∷ spec.belonging kind (word p.0.now) (pieces p.1.now)) }
@@ -139,7 +139,7 @@ fn next_piece<'a>(kind: Kind, before: &str, rest: &'a str) -> Option<(&'a str, &
     }
 }
 
-// Puts the words that belong to a front behind others, the last of which is `before`. What stands behind them.
+// Puts the words that belong to a front after others, the last of which is `before`. What stands after them.
 fn push_words<'a, A: Allocator>(
     kind: Kind,
     words: &mut Vec<&'a str, A>,
@@ -178,7 +178,7 @@ fn is_in_gap(byte: u8, next: u8) -> bool
     is_blank(byte) || (is_mark(byte) && next <= b' ')
 }
 
-/// The name of a command: the first word, without `,` or `:` behind it.
+/// The name of a command: the first word, without `,` or `:` after it.
 pub fn command_name(word: &str) -> &str
     ensures { result.now ≡ spec.command_name word.now }
 {
@@ -194,7 +194,7 @@ fn begins_front(kind: Kind, word: &str) -> bool
     }
 }
 
-/// The first piece of a text that begins with such a front, and what stands behind it.
+/// The first piece of a text that begins with such a front, and what stands after it.
 pub fn first_of_front(kind: Kind, text: &str) -> Option<(&str, &str)>
     ensures front { MatchOption result (spec.front kind (pieces text.now) ≡ [])
         (λ p. spec.front kind (pieces text.now) ≡ spec.front_from kind p.0.now (pieces p.1.now)) }
@@ -208,7 +208,7 @@ pub fn first_of_front(kind: Kind, text: &str) -> Option<(&str, &str)>
     }
 }
 
-/// A text, cut behind its front, with the words of the front.
+/// A text, cut after its front, with the words of the front.
 #[derive(Drop)]
 pub struct Cut<'a, A: Allocator> {
     pub words: Vec<&'a str, A>,

@@ -1,11 +1,11 @@
-//! Names put behind others.
+//! Names put after others.
 ghost use Rattle.std.specs.Prelude.{◌≡◌, ◌++◌, ◌∷◌, [], map, OnOk};
 ghost use Rattle.help_fronts.specs.Fronts as fronts;
 
 use crate::words::{is_name, name};
 use std::alloc::{AllocError, Allocator};
 
-/// Puts a name behind others, if the word is one.
+/// Puts a name after others, if the word is one.
 pub fn push_name<'a, A: Allocator>(
     names: &mut Vec<&'a str, A>,
     word: &'a str,

@@ -33,7 +33,7 @@ pub struct OptionFront<'a, A: Allocator = Global> {
     pub written: &'a str,
     /// What stands between the front and its help: blanks, and sometimes `:` or `-`.
     pub gap: &'a str,
-    /// What stands behind, to the end of the line.
+    /// What stands after, to the end of the line.
     pub help: &'a str,
 }
 

@@ -4,7 +4,7 @@ ghost use Rattle.help_fronts.specs.Pieces as spec;
 
 use crate::bytes::{byte_at, is_blank, is_closing, is_divider, is_opening};
 
-/// How many brackets are open behind a byte.
+/// How many brackets are open after a byte.
 pub fn deeper(depth: usize, byte: u8) -> usize
     requires { depth < usize.MAX }
     ensures { result ≡ spec.deeper depth byte }
@@ -25,7 +25,7 @@ pub fn is_cut(depth: usize, before: u8, byte: u8) -> bool
     depth == 0 && (is_blank(byte) || (byte == b'-' && is_divider(before)))
 }
 
-// How many bytes of the first piece stand behind its first byte.
+// How many bytes of the first piece stand after its first byte.
 fn rest_len(first: u8, behind: &[u8]) -> usize
     ensures { result ≡ spec.rest_len (spec.deeper 0 first) first behind.now }
 {
@@ -41,7 +41,7 @@ fn rest_len(first: u8, behind: &[u8]) -> usize
     behind.len()
 }
 
-/// The first piece of a text, and what stands behind it.
+/// The first piece of a text, and what stands after it.
 pub fn first_piece(text: &str) -> Option<(&str, &str)>
     ensures pieces { MatchOption result (spec.pieces text.now ≡ []) (λ p. spec.pieces text.now ≡ p.0.now ∷ spec.pieces p.1.now) }
     ensures whole { IfSome result (λ p. text.now ≡ p.0.now ++ p.1.now) }

@@ -26,7 +26,7 @@ struct Word<'a> {
     after: &'a str,
 }
 
-// The first word of a text, if others stand behind it, and these.
+// The first word of a text, if others stand after it, and these.
 fn split_word(line: &str) -> Option<(Word<'_>, &str)>
     ensures words { MatchOption result (spec.usage_words line.now ≡ spec.last_word line.now ∷ [])
         (λ p. spec.usage_words line.now ≡ word_said p.0 ∷ spec.usage_words p.1.now) }
@@ -89,7 +89,7 @@ fn len_of_value(text: &str) -> usize
     at_most(200, value_len(first_bytes(text)))
 }
 
-// The value that a text begins with, and what stands behind it.
+// The value that a text begins with, and what stands after it.
 fn split_value(text: &str) -> (&str, &str)
     ensures value { result.0.now ≡ spec.value_in text.now }
     ensures behind { result.1.now ≡ spec.behind_value text.now }

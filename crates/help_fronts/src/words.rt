@@ -35,7 +35,7 @@ pub fn is_short(word: &str) -> bool
     is_name(word) && word.len() == 2
 }
 
-// A word that is a name, cut behind the name.
+// A word that is a name, cut after the name.
 fn split_name(word: &str) -> (&str, &str)
     requires { spec.is_name word.now ≡ true }
     ensures name { result.0.now ≡ take (spec.name_len word.now) word.now }

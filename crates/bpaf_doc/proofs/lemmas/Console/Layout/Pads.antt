@@ -39,7 +39,7 @@ no_text_holds [] t p = refl
 no_text_holds (x ∷ r) t p = grind (arith, no_text_holds r, or_false_left, or_false_right)
 
 module _ (width : ℕ) where
-  -- after a place or a backquote, a chunk fits but for the blanks before it
+  -- after a place or a backquote, a chunk fits, except for the blanks before it
   abbrev pub FitsBefore : List Stretch → Place → Type 0
   FitsBefore r f = holds_back r ≡ true → column_back r + columns f.bytes ≤ width + pads_back r
 

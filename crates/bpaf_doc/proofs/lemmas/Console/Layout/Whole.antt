@@ -91,7 +91,7 @@ base_grows {width} suits g b = record {
   keeps = keeps_before_grows suits b.settled b.unsettled b.order b.since g b.keeps;
 }
 
--- ---- what holds where no empty line of code comes first
+-- ---- if no empty line of code comes first
 
 pub record Clearly (width deepest : ℕ) (margin_of : ℕ → ℕ) (st : State) : Type 0 where
   pub starting : IsStarting st
