@@ -256,14 +256,14 @@ fn compared<'p, 'a: 'p, A: Allocator + Copy>(
 }
 
 // Whether the page is of a help text that has no name.
-fn is_of_no_name<A: Allocator + Copy, B: Allocator>(
-    alloc: A,
-    page: &Page<'_, B>,
-) -> Result<bool, AllocError>
+fn is_of_no_name<B: Allocator>(global: Global, page: &Page<'_, B>) -> Result<bool, AllocError>
     ensures { IfOk result (λ is_so. is_so ≡ is_of_no_name (page_said page.now)) }
 {
     match page {
-        Page::Differences { help, .. } => has_no_name(alloc, help.printed.as_str()),
+        Page::Differences { help, .. } => {
+            let arena = Bump::new(global);
+            has_no_name(&arena, help.printed.as_str())
+        }
         Page::Console(_)
         | Page::Html { .. }
         | Page::Markdown { .. }
@@ -275,12 +275,12 @@ fn is_of_no_name<A: Allocator + Copy, B: Allocator>(
 
 /// Whether a line has to go with a page of that many bytes, which says that the help text has no name: exactly where
 /// that is so, and the description has some.
-pub(crate) fn needs_advice<A: Allocator + Copy, B: Allocator>(
-    alloc: A,
+pub(crate) fn needs_advice<B: Allocator>(
+    global: Global,
     page: &Page<'_, B>,
     written: usize,
 ) -> Result<bool, AllocError>
     ensures { IfOk result (λ is_so. is_so ≡ needs_advice (page_said page.now) written) }
 {
-    Ok(written > 0 && is_of_no_name(alloc, page)?)
+    Ok(written > 0 && is_of_no_name(global, page)?)
 }

@@ -8,7 +8,7 @@ use help_differences::{
 use std::alloc::{AllocError, Allocator, Global};
 use std::process::Abort;
 
-const HELP: [&str; 21] = [
+const HELP: [&str; 22] = [
     "usage: prog [-h] [--foo FOO]",
     "            [--far]",
     "",
@@ -24,6 +24,7 @@ const HELP: [&str; 21] = [
     "",
     "options:",
     "  -h, --help  -x is none",
+    "  --[no-]edit",
     "  -amin N -anewer FILE",
     "              help",
     "",
@@ -32,7 +33,7 @@ const HELP: [&str; 21] = [
     "--far=/a",
 ];
 
-const NAMES: [(Kind, &str); 19] = [
+const NAMES: [(Kind, &str); 21] = [
     (Kind::Option, "-h"),
     (Kind::Option, "--foo"),
     (Kind::Option, "--far"),
@@ -50,6 +51,8 @@ const NAMES: [(Kind, &str); 19] = [
     (Kind::Command, "gaze"),
     (Kind::Option, "-h"),
     (Kind::Option, "--help"),
+    (Kind::Option, "--edit"),
+    (Kind::Option, "--no-edit"),
     (Kind::Option, "-amin"),
     (Kind::Option, "-anewer"),
 ];
@@ -68,8 +71,8 @@ fn are_names(found: &[Name<'_>], wanted: &[(Kind, &str)]) -> bool {
 
 #[test]
 fn names_of_help_are_read(rt: HostRuntime) {
-    let found = names_of_help(rt.alloc(), &HELP).expect(&rt, "names");
-    assert!(rt; are_names(&found, &NAMES));
+    let arena = Bump::new(rt.alloc());
+    assert!(rt; are_read(&arena).expect(&rt, "names"));
 }
 
 const DESCRIBED: [(Kind, &str); 4] = [
@@ -79,9 +82,11 @@ const DESCRIBED: [(Kind, &str); 4] = [
     (Kind::Option, "-y"),
 ];
 
-const ALONE: [(Kind, &str, Side); 16] = [
+const ALONE: [(Kind, &str, Side); 18] = [
+    (Kind::Option, "--edit", Side::Help),
     (Kind::Option, "--far", Side::Help),
     (Kind::Option, "--foo", Side::Help),
+    (Kind::Option, "--no-edit", Side::Help),
     (Kind::Option, "-amin", Side::Help),
     (Kind::Option, "-anewer", Side::Help),
     (Kind::Option, "-y", Side::Description),
@@ -131,14 +136,15 @@ fn names_that_stand_alone_are_found(rt: HostRuntime) {
 }
 
 // Whether the names of a help text are read in this arena.
-fn are_read<A: Allocator + Copy>(alloc: A) -> Result<bool, AllocError> {
-    Ok(are_names(&names_of_help(alloc, &HELP)?, &NAMES))
+fn are_read(arena: &Bump) -> Result<bool, AllocError> {
+    Ok(are_names(&names_of_help(arena, &HELP)?, &NAMES))
 }
 
-const LEVEL: [(Kind, &str); 4] = [
+const LEVEL: [(Kind, &str); 5] = [
     (Kind::Option, "-h"),
     (Kind::Option, "--help"),
-    (Kind::Option, "--[no-]edit"),
+    (Kind::Option, "--edit"),
+    (Kind::Option, "--no-edit"),
     (Kind::Option, "--far"),
 ];
 
@@ -167,9 +173,10 @@ const PRINTED: HelpText<'static> = HelpText {
     file: "app.toml",
 };
 
-const LINES: &str = "option --[no-]edit: in app.toml, not in help.txt
+const LINES: &str = "option --edit: in app.toml, not in help.txt
 option --help: in app.toml, not in help.txt
 option --near: in help.txt, not in app.toml
+option --no-edit: in app.toml, not in help.txt
 command go: in help.txt, not in app.toml
 ";
 
@@ -181,6 +188,41 @@ fn are_lines(rt: &impl Abort, out: Global, arena: &Bump) -> Result<bool, AllocEr
     Ok(text.as_str() == LINES)
 }
 
+// Help texts that have all names of the level.
+const ALIKE: [&str; 2] = [
+    "Options:\n  -h, --help\n  --far\n  --edit, --no-edit  Help\n",
+    "Options:\n  -h, --help\n  --far\n  --[no-]edit  Help\n",
+];
+
+// Whether the level and a help text have the same names.
+fn is_alike(
+    rt: &impl Abort,
+    out: Global,
+    arena: &Bump,
+    printed: &'static str,
+) -> Result<bool, AllocError> {
+    let level = level(rt, out);
+    let help = [Opt::flag('h', "help")];
+    let text = HelpText {
+        printed,
+        name: "help.txt",
+        file: "app.toml",
+    };
+    Ok(
+        difference_text(arena, arena, text, &help, &level)?
+            .as_str()
+            .is_empty(),
+    )
+}
+
+#[test]
+fn both_forms_of_a_negation_are_alike(rt: HostRuntime) {
+    let arena = Bump::new(rt.alloc());
+    for printed in ALIKE {
+        assert!(rt; is_alike(&rt, rt.alloc(), &arena, printed).expect(&rt, "lines"));
+    }
+}
+
 #[test]
 fn lines_say_where_a_name_stands(rt: HostRuntime) {
     let arena = Bump::new(rt.alloc());
@@ -188,9 +230,9 @@ fn lines_say_where_a_name_stands(rt: HostRuntime) {
 }
 
 // Whether a help text without a name and one with some give different answers in this arena.
-fn are_told_apart<A: Allocator + Copy>(alloc: A) -> Result<bool, AllocError> {
-    let has_none = has_no_name(alloc, "Error: \u{1b}[1mno\u{1b}[0m terminal\n")?;
-    Ok(has_none && !has_no_name(alloc, PRINTED.printed)?)
+fn are_told_apart(arena: &Bump) -> Result<bool, AllocError> {
+    let has_none = has_no_name(arena, "Error: \u{1b}[1mno\u{1b}[0m terminal\n")?;
+    Ok(has_none && !has_no_name(arena, PRINTED.printed)?)
 }
 
 #[derive(Clone, Copy)]

@@ -3,3 +3,4 @@ pub mod Merged
 pub mod Sorted
 pub mod Levels
 pub mod Noted
+pub mod Written

@@ -6,7 +6,7 @@ use Rattle.help_blocks.specs.declared.place.Kind.TheVariants as block
 use Rattle.help_blocks.specs.declared.cut.Block.{Block}
 use Rattle.help_blocks.specs.Blocks.{Start, lines_of, starts}
 use Rattle.help_differences.specs.declared.names.Kind.TheVariants as kind
-use Rattle.help_differences.specs.Names.{Named, called}
+use Rattle.help_differences.specs.Names.{Named, called, options_called}
 use Rattle.help_differences.specs.Notes.{texts_of_line}
 use Rattle.help_fronts.specs.Fronts.{CommandSaid, command_front}
 use Rattle.help_fronts.specs.Lines.{option_names}
@@ -19,7 +19,7 @@ abbrev pub names_of_usage : (lines : List (List ℕ)) → List Named
 names_of_usage lines = flat_map names_of_usage_line lines
 
 abbrev pub names_of_option : (line : List ℕ) → List Named
-names_of_option line = map (called kind.Option) (option_names line)
+names_of_option line = options_called (option_names line)
 
 abbrev pub command_texts : Option CommandSaid → List (List ℕ)
 command_texts None = []

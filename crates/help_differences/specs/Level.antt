@@ -4,7 +4,7 @@ use Rattle.std.specs.Char.{encode_utf8}
 use Rattle.description.specs.Content.{NameSaid, short, long, both, SpellingSaid, named, syntax, OptSaid, ChoiceSaid, LevelSaid, level, GroupsSaid, no_groups, groups, GroupSaid, group, CommandsSaid, no_commands, commands, CommandSaid, command}
 use Rattle.help_fronts.specs.Lines.{option_names}
 use Rattle.help_differences.specs.declared.names.Kind.TheVariants as kind
-use Rattle.help_differences.specs.Names.{Named, called}
+use Rattle.help_differences.specs.Names.{Named, called, expanded}
 
 abbrev pub short_texts : ℕ → List (List ℕ)
 short_texts c = (codes "-" ++ encode_utf8 c) ∷ []
@@ -19,7 +19,7 @@ name_texts (both c word) = short_texts c ++ long_texts word
 
 -- a syntax is read as the front of a line of a help text
 abbrev pub syntax_texts : (text : List ℕ) → List (List ℕ)
-syntax_texts text = option_names text
+syntax_texts text = flat_map expanded (option_names text)
 
 abbrev pub spelling_texts : SpellingSaid → List (List ℕ)
 spelling_texts (named name) = name_texts name

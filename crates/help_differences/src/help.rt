@@ -6,8 +6,9 @@ ghost use Rattle.help_differences.specs.View.{name_said};
 ghost use Rattle.help_differences.specs.declared.names.Kind.TheVariants as kinds;
 ghost use Rattle.help_differences.specs.Help as spec;
 
-use crate::names::{Kind, Name, push_names};
+use crate::names::{Kind, Name, Names, push_names, push_options_called};
 use crate::notes::push_notes;
+use bumpalo::Bump;
 use help_blocks::{Block, blocks};
 use help_fronts::{UsageOption, command_front, option_names, usage_options};
 use std::alloc::{AllocError, Allocator};
@@ -43,16 +44,12 @@ fn push_usage<'a, A: Allocator + Copy>(
     Ok(())
 }
 
-fn push_option<'a, A: Allocator + Copy>(
-    alloc: A,
-    names: &mut Vec<Name<'a>, A>,
-    line: &'a str,
-) -> Result<(), AllocError>
+fn push_option<'p>(arena: &'p Bump, names: &mut Names<'p>, line: &'p str) -> Result<(), AllocError>
     ensures { OnOk result (map name_said names.new.items
         ≡ map name_said names.old.items ++ spec.names_of_option line.now) }
 {
-    let found = option_names(alloc, line)?;
-    push_names(names, Kind::Option, &found)
+    let found = option_names(arena, line)?;
+    push_options_called(arena, names, &found)
 }
 
 fn push_command<'a, A: Allocator + Copy>(
@@ -95,19 +92,19 @@ fn first_line<'a>(lines: &[&'a str]) -> &'a str
     }
 }
 
-fn push_block<'a, A: Allocator + Copy>(
-    alloc: A,
-    names: &mut Vec<Name<'a>, A>,
+fn push_block<'p>(
+    arena: &'p Bump,
+    names: &mut Names<'p>,
     kind: help_blocks::Kind,
-    lines: &[&'a str],
+    lines: &[&'p str],
 ) -> Result<(), AllocError>
     ensures { OnOk result (map name_said names.new.items
         ≡ map name_said names.old.items ++ spec.names_of_block kind (map (λ line. line.now) lines.now)) }
 {
     match kind {
-        help_blocks::Kind::Usage => push_usage(alloc, names, lines),
-        help_blocks::Kind::Option => push_option(alloc, names, first_line(lines)),
-        help_blocks::Kind::Command => push_entry(alloc, names, lines),
+        help_blocks::Kind::Usage => push_usage(arena, names, lines),
+        help_blocks::Kind::Option => push_option(arena, names, first_line(lines)),
+        help_blocks::Kind::Command => push_entry(arena, names, lines),
         help_blocks::Kind::Title
         | help_blocks::Kind::Value
         | help_blocks::Kind::Text
@@ -127,35 +124,32 @@ fn lines_of<'l, 'a>(lines: &'l [&'a str], block: &Block) -> &'l [&'a str]
     own
 }
 
-fn push_blocks<'a, A: Allocator + Copy>(
-    alloc: A,
-    names: &mut Vec<Name<'a>, A>,
-    lines: &[&'a str],
+fn push_blocks<'p>(
+    arena: &'p Bump,
+    names: &mut Names<'p>,
+    lines: &[&'p str],
     found: &[Block],
 ) -> Result<(), AllocError>
     ensures { OnOk result (map name_said names.new.items
         ≡ map name_said names.old.items ++ spec.names_of_blocks (map (λ line. line.now) lines.now) found.now) }
 {
     for block in found {
-        push_block(alloc, names, block.kind, lines_of(lines, block))?;
+        push_block(arena, names, block.kind, lines_of(lines, block))?;
     }
     Ok(())
 }
 
 /// The names that a help text has, in order: of options in its usage, and of the entries that are options and commands,
-/// with those that notes of commands list. The lines have no escape sequences.
+/// with those that notes of commands list. An entry `--[no-]x` has two. The lines have no escape sequences.
 ///
 /// # Errors
 ///
 /// Memory.
-pub fn names_of_help<'a, A: Allocator + Copy>(
-    alloc: A,
-    lines: &[&'a str],
-) -> Result<Vec<Name<'a>, A>, AllocError>
+pub fn names_of_help<'p>(arena: &'p Bump, lines: &[&'p str]) -> Result<Names<'p>, AllocError>
     ensures { IfOk result (λ names. map name_said names.items ≡ spec.names_in (map (λ line. line.now) lines.now)) }
 {
-    let found = blocks(alloc, lines)?;
-    let mut names = Vec::new(alloc);
-    push_blocks(alloc, &mut names, lines, &found)?;
+    let found = blocks(arena, lines)?;
+    let mut names: Names<'p> = Vec::new(arena);
+    push_blocks(arena, &mut names, lines, &found)?;
     Ok(names)
 }

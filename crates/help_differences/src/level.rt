@@ -6,35 +6,13 @@ ghost use Rattle.help_differences.specs.Names.{called};
 ghost use Rattle.help_differences.specs.View.{name_said};
 ghost use Rattle.help_differences.specs.declared.names.Kind.TheVariants as kinds;
 
-use crate::names::{Kind, Name, push_names};
+use crate::names::{Kind, Name, Names, push_name, push_names, push_options_called};
 use bumpalo::Bump;
 use description::{Choice, Command, Group, Level, Opt, Spelling};
 use help_fronts::option_names;
 use std::alloc::{AllocError, Allocator};
 
-/// Names in an arena.
-pub type Names<'p> = Vec<Name<'p>, &'p Bump>;
-
 // ---- options
-
-fn push_name<'p>(
-    arena: &'p Bump,
-    names: &mut Names<'p>,
-    dashes: &str,
-    word: &str,
-) -> Result<(), AllocError>
-    ensures { OnOk result (map name_said names.new.items
-        ≡ map name_said names.old.items ++ called kinds.Option (dashes.now ++ word.now) ∷ []) }
-{
-    let mut whole = String::from_str(arena, dashes)?;
-    whole.push_str(word)?;
-    let text = arena.try_alloc_str(whole.as_str())?;
-    names.push(Name {
-        kind: Kind::Option,
-        text,
-    })?;
-    Ok(())
-}
 
 fn push_short<'p>(arena: &'p Bump, names: &mut Names<'p>, short: char) -> Result<(), AllocError>
     ensures { OnOk result (map name_said names.new.items
@@ -73,7 +51,7 @@ fn push_syntax<'p>(arena: &'p Bump, names: &mut Names<'p>, text: &'p str) -> Res
         ≡ map name_said names.old.items ++ map (called kinds.Option) (spec.syntax_texts text.now)) }
 {
     let found = option_names(arena, text)?;
-    push_names(names, Kind::Option, &found)
+    push_options_called(arena, names, &found)
 }
 
 fn push_spelling<'p>(
@@ -249,7 +227,8 @@ fn push_level<'p, 'a: 'p, C: Allocator>(
     Ok(())
 }
 
-/// The names that a level has, and those of the options that ask for help on each level. What is hidden has none.
+/// The names that a level has, and those of the options that ask for help on each level. What is hidden has none, and a
+/// syntax `--[no-]x` has two.
 ///
 /// # Errors
 ///

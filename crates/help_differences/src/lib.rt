@@ -10,6 +10,6 @@ mod texts;
 
 pub use compared::{Difference, Side, differences};
 pub use help::names_of_help;
-pub use level::{Names, names_of_level};
-pub use names::{Kind, Name};
+pub use level::names_of_level;
+pub use names::{Kind, Name, Names};
 pub use texts::{HelpText, difference_text, has_no_name};

@@ -107,16 +107,16 @@ pub fn difference_text<'p, 'a: 'p, A: Allocator, C: Allocator>(
     lines_of(alloc, help, &found)
 }
 
-/// Whether a help text has no name. What it takes, `difference_text` takes too.
+/// Whether a help text has no name. Names on the way are kept in the arena.
 ///
 /// # Errors
 ///
 /// Memory.
-pub fn has_no_name<A: Allocator + Copy>(alloc: A, printed: &str) -> Result<bool, AllocError>
+pub fn has_no_name(arena: &Bump, printed: &str) -> Result<bool, AllocError>
     ensures { IfOk result (λ is_so. is_so ≡ spec.has_no_name printed.now) }
 {
-    let shown = shown_letters(alloc, printed)?;
-    let lines = lines_in(alloc, shown.as_str())?;
-    let names = names_of_help(alloc, &lines)?;
+    let shown = shown_letters(arena, printed)?;
+    let lines = lines_in(arena, shown.as_str())?;
+    let names = names_of_help(arena, &lines)?;
     Ok(names.is_empty())
 }

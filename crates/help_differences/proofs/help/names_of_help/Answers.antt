@@ -7,7 +7,7 @@ use Rattle.help_differences.proofs.Blocks.{blocks_are}
 use Rattle.help_differences.proofs.help.names_of_help.Goals as goal
 
 pub returns : goal.returns
-returns g c =
+returns c =
     let lines = map (λ line. line.now) c.args.lines.now in
     let found = c.in_ok-found.found.items in
     c.in_ok-push_blocks.ensures ∙ ap (λ ns. map name_said ns ++ names_of_blocks lines c.deref.result.now) c.new-names.ensures.items
