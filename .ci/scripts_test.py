@@ -312,6 +312,17 @@ class Prose(InCopy):
         self.assertEqual(self.told("prose"), (1, "docs/plain.md:15: 129 columns\n"
             "docs/plain.md:11: 'told'; write: reported, said\ndocs/plain.md:14: 'handed on'; write: pass on, re-export\n"))
 
+    def test_finds_odd_words_in_comments(self):
+        code = "const A: &str = r#\"\"// told\"#;\nconst B: char = '\"'; // Plain, as \"this\".\nconst C: &str = \"\\\"// told\";\n"
+        self.write("crates/low/src/plain.rt", f"//! It is `told`, handed\n{code}// on.\nfn behind() {{}}\n")
+        self.write("crates/low/specs/Plain.antt", "-- as `behind`\ntold : List ℕ\ntold = codes \"-- told\"\n")
+        self.assertEqual(self.told("prose")[0], 0, self.told("prose"))
+        self.write("crates/low/src/plain.rt", f"/// It is handed\n/// on.\n{code}const D: u8 = 0; // What is told.\n")
+        self.write("crates/low/specs/Plain.antt", "told : List ℕ\n  -- Behind so many\n  -- bytes.\n")
+        self.assertEqual(self.told("prose"), (1, "crates/low/src/plain.rt:1: 'handed on'; write: pass on, re-export\n"
+            "crates/low/src/plain.rt:6: 'told'; write: reported, said\ncrates/low/specs/Plain.antt:2: 'Behind'; write: after\n"
+            "crates/low/specs/Plain.antt:2: 'so many bytes'; write: that many\n"))
+
     def test_finds_links_that_lead_nowhere(self):
         self.write("docs/plain.md", "# A `plain` [page]\n\n[a](PROVED.md) [b](#a-plain-page) [c](https://x.org) [d](../crates/low)\n")
         self.assertEqual(self.told("prose")[0], 0, self.told("prose"))
