@@ -13,7 +13,7 @@ abbrev is_empty : List ℕ → Bool
 is_empty [] = true
 is_empty (b ∷ bs) = false
 
--- ---- what stands behind the first opening
+-- ---- what stands after the first opening
 
 begun : (bs : List ℕ) → begins_note bs ≡ true → bs ≡ opening ++ drop (length opening) bs
 begun bs h = sym (take-append-drop (length opening) bs) ∙ ap (λ f. f ++ drop (length opening) bs) ((bytes_eq-Decides (take (length opening) bs) opening).0 h)

@@ -1,4 +1,4 @@
--- Which names one of two lists has and the other has not.
+-- Which names one of two lists has and the other does not have.
 use Rattle.std.specs.Prelude.{ℕ, List, map}
 use Rattle.std.specs.List.{Contains}
 use Rattle.std.specs.Cmp.Lexicographic.{slice_cmp}

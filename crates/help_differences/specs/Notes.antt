@@ -12,7 +12,7 @@ opening = codes "[aliases: "
 abbrev pub begins_note : List ℕ → Bool
 begins_note text = bytes_eq (take (length opening) text) opening
 
--- what stands behind the first opening; nothing, if there is none
+-- what stands after the first opening; nothing, if there is none
 unfoldable pub behind_opening : List ℕ → List ℕ
 behind_opening [] = []
 behind_opening (b ∷ bs) = if begins_note (b ∷ bs) then drop (length opening) (b ∷ bs) else behind_opening bs

@@ -54,7 +54,7 @@ fn behind_opening(text: &str) -> &str
     }
 }
 
-// What stands before the first `]`, and what stands behind it.
+// What stands before the first `]`, and what stands after it.
 fn split_closed(line: &str) -> Option<(&str, &str)>
     ensures closed { MatchOption result (spec.closed_texts line.now ≡ [])
         (λ p. spec.closed_texts line.now ≡ p.0.now ∷ spec.closed_texts p.1.now) }

@@ -5,7 +5,7 @@ use Rattle.std.specs.List.{count_by, list_all, list_any, slice_index}
 use Rattle.help_fronts.specs.declared.bytes.Class.TheVariants as class
 use Rattle.help_fronts.specs.Bytes.{first, free_len, is_bracket, is_dash, is_divider, is_letter, is_opening, last, second, without_end, without_front}
 
--- ---- names: a dash or two, a letter, and all up to a separator, but for dots at the end
+-- ---- names: a dash or two, a letter, and all up to a separator, without dots at the end
 
 abbrev pub dashes : List ℕ → ℕ
 dashes w = if is_dash (second w) then 2 else 1
