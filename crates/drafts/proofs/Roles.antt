@@ -4,6 +4,7 @@ use Rattle.std.specs.List.{list_all}
 use Rattle.std.proofs.lemmas.Bool.{and_parts}
 use Rattle.std.proofs.lemmas.List.{nil_from_length}
 use Rattle.page_model.specs.Permitted.{are_permitted}
+use Rattle.help_blocks.specs.Laws.{is_usage_kind}
 use Rattle.help_blocks.specs.declared.place.Kind.{Kind}
 use Rattle.help_blocks.specs.declared.place.Kind.TheVariants as kind
 use Rattle.drafts.specs.Passages.{PassageSaid, first_line}
@@ -22,8 +23,12 @@ use Rattle.drafts.proofs.Trims.{is_nothing}
 abbrev pub IsTitle : PassageSaid → Type 0
 IsTitle p = (is_title p.kind ≡ true) × (is_empty p.lines ≡ false)
 
+abbrev pub IsUsage : PassageSaid → Type 0
+IsUsage p = (is_usage_kind p.kind ≡ true) × (is_empty p.lines ≡ false)
+
 abbrev Needs : MarkedSaid → (own above : Part) → Role → Type 0
 Needs m own above role.Nothing = m.passage.lines ≡ []
+Needs m own above role.Usage = IsUsage m.passage
 Needs m own above role.InTopic = (is_title m.passage.kind ≡ false) × (own ≡ part.Topic)
 Needs m own above role.Entry = m.is_written ≡ true
 Needs m own above role.Member = (above ≡ part.Group) × (m.is_written ≡ true)
@@ -74,7 +79,7 @@ module _ (own : Part) (m : MarkedSaid) (a : Above) where
   of_text part.Loose leads_on e t = around
 
   of_kind : (k : Kind) → m.passage.kind ≡ k → is_empty m.passage.lines ≡ false → Has (kind_role k own m a)
-  of_kind kind.Usage e some = tt
+  of_kind kind.Usage e some = (ap is_usage_kind e, some)
   of_kind kind.Title e some = of_title own _ (ap is_title e, some)
   of_kind kind.Option e some = of_entry a.part m.is_written refl refl
   of_kind kind.Command e some = of_entry a.part m.is_written refl refl
@@ -167,6 +172,7 @@ pub record Fits (title : Role) (p : PlacedSaid) : Type 0 where
   pub topic : p.role ≡ role.Topic → IsTitle p.passage
   pub group : p.role ≡ role.Group → IsTitle p.passage
   pub usual : p.role ≡ role.Usual → IsTitle p.passage
+  pub usage : p.role ≡ role.Usage → IsUsage p.passage
 
 abbrev pub AllFit : (title : Role) → List PlacedSaid → Type 0
 AllFit t [] = Unit {0}
@@ -183,6 +189,7 @@ one_fits t a m ms begins =
       topic = λ e. subst Has' e has;
       group = λ e. subst Has' e has;
       usual = λ e. subst Has' e has;
+      usage = λ e. subst Has' e has;
     }
 
 fit_from : (t : Role) (a : Above) (ms : List MarkedSaid) → Begins t a.part → AllFit t (placed_from a ms)

@@ -1,4 +1,4 @@
--- A title is one line.
+-- A title is one line, and a usage begins with the word.
 use Rattle.std.proofs.Common.{◌≡◌, ℕ, zero, suc, ◌+◌, ◌-◌, ◌<◌, ◌≤◌, Bool, true, false, cond, List, [], ◌∷◌, All, IsAscii, drop, get_or, length, map, take, refl, sym, ap, ◌∙◌, subst, arith, drop-cons}
 use Rattle.std.specs.Prelude.{◌==◌, encode_utf8_all}
 use Rattle.std.specs.Char.{is_whitespace}
@@ -11,10 +11,10 @@ use Rattle.std.proofs.lemmas.Str.{chars-IsAscii}
 use Rattle.std.proofs.lemmas.Str.Ascii.{IsAscii-cons, IsAscii-nil}
 use Rattle.help_blocks.specs.declared.cut.Block.{Block}
 use Rattle.help_blocks.specs.Blocks.{FollowOn, lines_of, starts}
-use Rattle.help_blocks.specs.Laws.{EachLineIsInABlock, is_empty_line, lines_below}
+use Rattle.help_blocks.specs.Laws.{EachLineIsInABlock, is_empty_line, is_usage_kind, is_usage_line, lines_below}
 use Rattle.help_blocks.specs.Looks as looks
 use Rattle.help_blocks.specs.Rules.{is_title_kind}
-use Rattle.drafts.specs.Passages.{PassageSaid, inked, is_blank, lines_between, passages}
+use Rattle.drafts.specs.Passages.{PassageSaid, first_line, inked, is_blank, lines_between, passages}
 use Rattle.drafts.specs.Places.{is_empty, is_title}
 use Rattle.drafts.proofs.Blocks.{cut, cut_all}
 use Rattle.drafts.proofs.Roles.{title_kind}
@@ -88,9 +88,26 @@ block_is_line : (lines : List (List ℕ)) (b : Block) → b.first < b.end → b.
 block_is_line lines b some within below =
     subst (λ ls. OneLine (inked ls)) (sym (block_lines lines b some within)) (one_left (get_or lines b.first []) (lines_below lines b) (all_blank (lines_below lines b) below))
 
-abbrev pub TitlesAreLines : List PassageSaid → Type 0
-TitlesAreLines [] = Unit {0}
-TitlesAreLines (p ∷ ps) = (is_title p.kind ≡ true → OneLine p.lines) × TitlesAreLines ps
+first_taken : (n : ℕ) (l : List ℕ) (below : List (List ℕ)) → is_empty (take n (l ∷ below)) ≡ false → first_line (take n (l ∷ below)) ≡ l
+first_taken zero l below h = cc
+first_taken (suc n) l below h = refl
+
+usage_begins : (lines : List (List ℕ)) (b : Block) → b.first < b.end → b.end ≤ length lines → is_usage_line (get_or lines b.first []) ≡ true
+    → is_empty (inked (lines_between b.first b.end lines)) ≡ false → is_usage_line (first_line (inked (lines_between b.first b.end lines))) ≡ true
+usage_begins lines b some within h =
+    let l = get_or lines b.first [] in
+    let below = lines_below lines b in
+    subst (λ ls. is_empty (inked ls) ≡ false → is_usage_line (first_line (inked ls)) ≡ true) (sym (block_lines lines b some within))
+    (λ e. ap is_usage_line (first_taken (length (l ∷ below) - suffix_len is_blank (l ∷ below)) l below e) ∙ h)
+
+-- a title is one line, and a usage begins with the word
+pub record IsBegun (p : PassageSaid) : Type 0 where
+  pub title : is_title p.kind ≡ true → OneLine p.lines
+  pub usage : is_usage_kind p.kind ≡ true → is_empty p.lines ≡ false → is_usage_line (first_line p.lines) ≡ true
+
+abbrev pub AllBegun : List PassageSaid → Type 0
+AllBegun [] = Unit {0}
+AllBegun (p ∷ ps) = IsBegun p × AllBegun ps
 
 no_further : (first end : ℕ) (bs : List Block) → FollowOn first bs end → first ≤ end
 no_further first end [] h = omega (arith, h)
@@ -99,14 +116,21 @@ no_further first end (b ∷ bs) h = let below = no_further b.end end bs h.2 in o
 abbrev IsALine : (lines : List (List ℕ)) → Block → Type 0
 IsALine lines b = is_title_kind b.kind ≡ true → AllPass is_empty_line (lines_below lines b)
 
-each_title : (lines : List (List ℕ)) (first : ℕ) (bs : List Block) → FollowOn first bs (length lines) → All (IsALine lines) bs → TitlesAreLines (map (cut lines) bs)
-each_title lines first [] h all = tt
-each_title lines first (b ∷ bs) h all = (
-  λ e. block_is_line lines b h.1 (no_further b.end (length lines) bs h.2) (All-head (IsALine lines) b bs all (ap is_title_kind (title_kind b.kind e))),
-  each_title lines b.end bs h.2 (All-tail (IsALine lines) b bs all),
-)
+abbrev Uses : (lines : List (List ℕ)) → Block → Type 0
+Uses lines b = is_usage_kind b.kind ≡ true → is_usage_line (get_or lines b.first []) ≡ true
 
-pub titles_are_lines : EachLineIsInABlock → (lines : List (List ℕ)) → TitlesAreLines (passages lines)
-titles_are_lines in_blocks lines =
+each_block : (lines : List (List ℕ)) (first : ℕ) (bs : List Block) → FollowOn first bs (length lines) → All (IsALine lines) bs → All (Uses lines) bs → AllBegun (map (cut lines) bs)
+each_block lines first [] h titles usages = tt
+each_block lines first (b ∷ bs) h titles usages =
+    let within = no_further b.end (length lines) bs h.2 in (
+      record {
+        title = λ e. block_is_line lines b h.1 within (All-head (IsALine lines) b bs titles (ap is_title_kind (title_kind b.kind e)));
+        usage = λ e. usage_begins lines b h.1 within (All-head (Uses lines) b bs usages e);
+      },
+      each_block lines b.end bs h.2 (All-tail (IsALine lines) b bs titles) (All-tail (Uses lines) b bs usages),
+    )
+
+pub all_begun : EachLineIsInABlock → (lines : List (List ℕ)) → AllBegun (passages lines)
+all_begun in_blocks lines =
     let there = in_blocks lines in
-    subst TitlesAreLines (cut_all lines there.0 (starts (lines_of lines)) there.1.begun there.1.follow) (each_title lines 0 there.0 there.1.follow there.1.titles)
+    subst AllBegun (cut_all lines there.0 (starts (lines_of lines)) there.1.begun there.1.follow) (each_block lines 0 there.0 there.1.follow there.1.titles there.1.usages)

@@ -3,11 +3,11 @@ use Rattle.std.proofs.Common.{Contains, ◌≡◌, ℕ, Bool, true, false, cond,
 use Rattle.std.specs.Char.{is_not_whitespace}
 use Rattle.std.specs.Str.{trim}
 use Rattle.std.proofs.lemmas.Grind.{flat_map-append}
-use Rattle.std.proofs.lemmas.List.Elements.{All-append, All-cons, All-filter, All-head, All-nil, All-tail, All-weaker, Contains-append_left, Contains-append_right}
+use Rattle.std.proofs.lemmas.List.Elements.{All-append, All-cons, All-head, All-nil, All-tail}
 use Rattle.std.proofs.lemmas.Str.{chars-IsAscii}
 use Rattle.std.proofs.lemmas.Str.Ascii.{IsAscii-nil}
 use Rattle.help_blocks.specs.Laws.{EachLineIsInABlock}
-use Rattle.toml_pieces.specs.Toml.{text_at}
+use Rattle.toml_pieces.specs.Toml.{text_at, word_at}
 use Rattle.shown_letters.specs.Terminal.{shown_letters}
 use Rattle.drafts.specs.Drafts.{after_role, below_title, draft_of, gathered, is_in, placed_text, spaced, taken_from}
 use Rattle.drafts.specs.Entries.{entry_table}
@@ -15,29 +15,29 @@ use Rattle.drafts.specs.Free.{Has, none_taken}
 use Rattle.drafts.specs.Laws.{letters, piece_letters, title_after}
 use Rattle.drafts.specs.Passages.{PassageSaid, first_line, lines_in as lines_of, passages}
 use Rattle.drafts.specs.Places.{PlacedSaid, TakenSaid, is_title, is_usage_role, nothing_above, nothing_taken, placed, taken_after}
-use Rattle.drafts.specs.Sections.{HaveLetters, IsDraftOf, IsWrittenAs, Section, StandsIn, forms_of, text_keys, title_at}
+use Rattle.drafts.specs.Sections.{HaveLetters, IsDraftOf, IsUsageOf, IsWrittenAs, Section, forms_of, text_keys, title_at, usage_text}
 use Rattle.drafts.specs.Sections as written
+use Rattle.drafts.specs.Strays.{options_in, strays}
 use Rattle.drafts.specs.Texts.{empty_piece, passage_pieces}
-use Rattle.drafts.specs.Usages.{placed_forms, FormSaid, first_form, forms, further_form, is_inked as has_letters, line_forms, placed_forms, usage_pieces}
+use Rattle.drafts.specs.Usages.{forms, is_inked as has_letters, line_forms, usage_pieces}
 use Rattle.drafts.specs.declared.drafted.Text.{Text}
 use Rattle.drafts.specs.declared.drafted.Text.TheVariants as text
 use Rattle.drafts.specs.declared.places.Role.{Role}
 use Rattle.drafts.specs.declared.places.Role.TheVariants as role
-use Rattle.drafts.proofs.Forms.{forms_stand_in_their_line}
 use Rattle.drafts.proofs.KeptLetters.{one_more, texts_are_whole}
 use Rattle.drafts.proofs.Lines.{lines_are_utf8}
 use Rattle.drafts.proofs.Placing.{each_is_placed}
 use Rattle.drafts.proofs.Roles.{AllFit, IsTitle, all_fit}
-use Rattle.drafts.proofs.Sections.{N, both, counted, lines_for, lines_in, no_topic, own_lines, section, sections, sections_are_draft, table_sections, topic_lines, usage_lines}
+use Rattle.drafts.proofs.Sections.{N, both, counted, lines_for, lines_in, no_topic, own_lines, section, text_of as text_in, sections, sections_are_draft, table_sections, topic_lines, usage_lines}
 use Rattle.drafts.proofs.Names.{AllTaken, IsTaken, all_taken}
-use Rattle.drafts.proofs.Titles.{OneLine, TitlesAreLines, titles_are_lines}
+use Rattle.drafts.proofs.Titles.{AllBegun, IsBegun, OneLine, all_begun}
 use Rattle.drafts.proofs.Whole.{FollowIn, each_line_is_placed, passages_follow}
 
 -- ---- passages of UTF-8, of which titles are one line
 
 abbrev AreFine : List PlacedSaid → Type 0
 AreFine [] = Unit {0}
-AreFine (p ∷ ps) = (is_title p.passage.kind ≡ true → OneLine p.passage.lines) × All IsUtf8 p.passage.lines × AreFine ps
+AreFine (p ∷ ps) = IsBegun p.passage × All IsUtf8 p.passage.lines × AreFine ps
 
 first_part : (xs ys : List (List ℕ)) → All IsUtf8 (xs ++ ys) → All IsUtf8 xs × All IsUtf8 ys
 first_part [] ys all = (All-nil IsUtf8, all)
@@ -45,7 +45,7 @@ first_part (x ∷ xs) ys all =
     let rest = first_part xs ys (All-tail IsUtf8 x (xs ++ ys) all) in
     (All-cons IsUtf8 x xs (All-head IsUtf8 x (xs ++ ys) all) rest.0, rest.1)
 
-fine : (lines : List (List ℕ)) (ps : List PlacedSaid) → FollowIn lines (map (λ p. p.passage) ps) → TitlesAreLines (map (λ p. p.passage) ps) → All IsUtf8 lines → AreFine ps
+fine : (lines : List (List ℕ)) (ps : List PlacedSaid) → FollowIn lines (map (λ p. p.passage) ps) → AllBegun (map (λ p. p.passage) ps) → All IsUtf8 lines → AreFine ps
 fine lines [] follow titles utf8 = tt
 fine lines (p ∷ ps) follow titles utf8 =
     let here = first_part p.passage.lines (follow.0 ++ follow.1) (subst (All IsUtf8) follow.2 utf8) in
@@ -90,43 +90,6 @@ in_key key t ps one h = written.value_of key (gathered t ps) one refl (gathered_
 
 -- ---- the usage
 
-abbrev FormIn : (lines : List (List ℕ)) → FormSaid → Type 0
-FormIn lines f = StandsIn lines f.text
-
-in_front : (xs ys : List (List ℕ)) (t : List ℕ) → StandsIn xs t → StandsIn (xs ++ ys) t
-in_front xs ys t h = (h.0, Contains-append_left xs ys h.0 h.1, h.2)
-
-in_rest : (xs ys : List (List ℕ)) (t : List ℕ) → StandsIn ys t → StandsIn (xs ++ ys) t
-in_rest xs ys t h = (h.0, Contains-append_right xs ys h.0 h.1, h.2)
-
-further_in : (ls : List (List ℕ)) → All IsUtf8 ls → All (FormIn ls) (map further_form ls)
-further_in [] utf8 = All-nil (FormIn [])
-further_in (l ∷ ls) utf8 =
-    All-cons (FormIn (l ∷ ls)) (further_form l) (map further_form ls) (l, (0, omega arith, refl), (forms_stand_in_their_line l (All-head IsUtf8 l ls utf8)).1.text)
-    (All-weaker (FormIn ls) (FormIn (l ∷ ls)) (λ f. in_rest (l ∷ []) ls f.text) (map further_form ls) (further_in ls (All-tail IsUtf8 l ls utf8)))
-
-forms_in : (ls : List (List ℕ)) → All IsUtf8 ls → All (FormIn ls) (line_forms ls)
-forms_in [] utf8 = All-nil (FormIn [])
-forms_in (l ∷ ls) utf8 =
-    All-cons (FormIn (l ∷ ls)) (first_form l) (map further_form ls) (l, (0, omega arith, refl), (forms_stand_in_their_line l (All-head IsUtf8 l ls utf8)).0.text)
-    (All-weaker (FormIn ls) (FormIn (l ∷ ls)) (λ f. in_rest (l ∷ []) ls f.text) (map further_form ls) (further_in ls (All-tail IsUtf8 l ls utf8)))
-
--- those of all usages stand in the lines of the text
-all_forms_in : (lines : List (List ℕ)) (ps : List PlacedSaid) → FollowIn lines (map (λ p. p.passage) ps) → AreFine ps → All (FormIn lines) (forms ps)
-all_forms_in lines [] follow h = All-nil (FormIn lines)
-all_forms_in lines (p ∷ ps) follow h =
-    let own = p.passage.lines in
-    let rest = follow.0 ++ follow.1 in
-    let later : All (FormIn (own ++ rest)) (forms ps) =
-    All-weaker (FormIn follow.1) (FormIn (own ++ rest)) (λ f g. in_rest own rest f.text (in_rest follow.0 follow.1 f.text g)) (forms ps) (all_forms_in follow.1 ps follow.4 h.2) in
-    subst (λ ls. All (FormIn ls) (forms (p ∷ ps))) (sym follow.2) (All-append (FormIn (own ++ rest)) (placed_forms p) (forms ps) (by (is_usage_role p.role)) later) where
-      by : (b : Bool) → All (FormIn (p.passage.lines ++ (follow.0 ++ follow.1))) (cond b (filter has_letters (line_forms p.passage.lines)) [])
-      by true =
-          let own = p.passage.lines in
-          let all = own ++ (follow.0 ++ follow.1) in
-          All-filter has_letters (FormIn all) (line_forms own) (All-weaker (FormIn own) (FormIn all) (λ f. in_front own (follow.0 ++ follow.1) f.text) (line_forms own) (forms_in own h.1))
-      by false = All-nil (FormIn (p.passage.lines ++ (follow.0 ++ follow.1)))
-
 -- the lines of each usage
 abbrev each_usage : List PlacedSaid → List (List (List ℕ))
 each_usage [] = []
@@ -146,8 +109,33 @@ forms_are (p ∷ ps) = by (is_usage_role p.role) (forms_are ps) where
   by true more = ap (λ fs. forms_of p.passage.lines ++ fs) more
   by false more = more
 
-in_usage : (ps : List PlacedSaid) → IsWrittenAs (usage_lines ps) (text_at (codes "usage") (usage_pieces (forms ps)))
-in_usage ps = written.usages (each_usage ps) (usage_lines_are ps) (ap (λ fs. text_at (codes "usage") (usage_pieces fs)) (forms_are ps))
+usage_role : (r : Role) → is_usage_role r ≡ true → r ≡ role.Usage
+usage_role role.Usage e = refl
+usage_role role.Nothing e = cc
+usage_role role.About e = cc
+usage_role role.Header e = cc
+usage_role role.Footer e = cc
+usage_role role.Topic e = cc
+usage_role role.InTopic e = cc
+usage_role role.Group e = cc
+usage_role role.Usual e = cc
+usage_role role.Entry e = cc
+usage_role role.Member e = cc
+usage_role role.LeftOut e = cc
+
+usages_begin : (title : Role) (ps : List PlacedSaid) → AllFit title ps → AreFine ps → All IsUsageOf (each_usage ps)
+usages_begin title [] fit h = All-nil IsUsageOf
+usages_begin title (p ∷ ps) fit h =
+    All-append IsUsageOf (cond (is_usage_role p.role) (p.passage.lines ∷ []) []) (each_usage ps) (by (is_usage_role p.role) refl) (usages_begin (title_after title p) ps fit.1 h.2) where
+      by : (b : Bool) → is_usage_role p.role ≡ b → All IsUsageOf (cond b (p.passage.lines ∷ []) [])
+      by true e = let u = fit.0.usage (usage_role p.role e) in All-cons IsUsageOf p.passage.lines [] (h.0.usage u.0 u.1) (All-nil IsUsageOf)
+      by false e = All-nil IsUsageOf
+
+usage_is : (ps : List PlacedSaid) → text_at (codes "usage") (usage_pieces (forms ps)) ≡ usage_text (each_usage ps)
+usage_is ps = ap (λ fs. text_at (codes "usage") (usage_pieces fs)) (forms_are ps)
+
+in_usage : (title : Role) (ps : List PlacedSaid) → AllFit title ps → AreFine ps → IsWrittenAs (usage_lines ps) (text_at (codes "usage") (usage_pieces (forms ps)))
+in_usage title ps fit h = written.usages (each_usage ps) (usages_begin title ps fit h) (usage_lines_are ps) (usage_is ps)
 
 -- ---- tables and comments
 
@@ -164,11 +152,11 @@ table_written title t has p ps fit taken h = by p.role refl where
   by role.Footer e = written.nothing refl refl
   by role.InTopic e = written.nothing refl refl
   by role.Topic e =
-      let one = title_line p h.0 (fit.0.topic e) in
+      let one = title_line p h.0.title (fit.0.topic e) in
       written.topic one.0 (topic_lines ps) (gathered text.Topic (below_title ps)) (ap (λ ls. ls ++ topic_lines ps) one.1)
       (ap (λ ls. title_at (codes "topic") (first_line ls) ++ text_at (codes "text") (gathered text.Topic (below_title ps))) one.1) (gathered_letters text.Topic (below_title ps) (fine_below ps h.2))
-  by role.Group e = let one = title_line p h.0 (fit.0.group e) in written.group one.0 one.1 (ap (λ ls. title_at (codes "group") (first_line ls)) one.1)
-  by role.Usual e = let one = title_line p h.0 (fit.0.usual e) in written.usual_title one.0 one.1 (ap (λ ls. codes "\n# " ++ (trim (first_line ls) ++ codes "\n")) one.1)
+  by role.Group e = let one = title_line p h.0.title (fit.0.group e) in written.group one.0 one.1 (ap (λ ls. title_at (codes "group") (first_line ls)) one.1)
+  by role.Usual e = let one = title_line p h.0.title (fit.0.usual e) in written.usual_title one.0 one.1 (ap (λ ls. codes "\n# " ++ (trim (first_line ls) ++ codes "\n")) one.1)
   by role.Entry e = written.entry t false p.passage refl (taken.entry e) (ap (λ h. entry_table h false p.passage) taken.same)
   by role.Member e = written.entry t true p.passage refl (taken.member e) (ap (λ h. entry_table h true p.passage) taken.same)
   by role.LeftOut e = written.left_out_lines refl
@@ -193,7 +181,7 @@ all_written title t ps fit taken h =
     let footer = section (lines_for text.Footer ps) (text_at (codes "footer") (gathered text.Footer ps)) in
     let tables = table_sections none_taken ps in
     All-cons Written about (usage ∷ header ∷ footer ∷ tables) (in_key (codes "about") text.About ps (0, omega arith, refl) h)
-    (All-cons Written usage (header ∷ footer ∷ tables) (in_usage ps)
+    (All-cons Written usage (header ∷ footer ∷ tables) (in_usage title ps fit h)
     (All-cons Written header (footer ∷ tables) (in_key (codes "header") text.Header ps (1, omega arith, refl) h)
     (All-cons Written footer tables (in_key (codes "footer") text.Footer ps (2, omega arith, refl) h) (tables_written title t none_taken ps fit taken h))))
 
@@ -207,22 +195,25 @@ same_number test t ps none fit =
     let above : N test (topic_lines ps) ≡ 0 = ap (N test) (no_topic t ps none fit) in
     omega (arith, both test about (usage ++ (header ++ (footer ++ rest))), both test usage (header ++ (footer ++ rest)), both test header (footer ++ rest), both test footer rest, above, counted test t none_taken ps fit)
 
+same_section : (ls ms : List (List ℕ)) (t u : List ℕ) → ls ≡ ms → t ≡ u → section ls t ≡ section ms u
+same_section ls ms t u l e = ap (λ k. section k t) l ∙ ap (section ms) e
+
 pub is_draft : EachLineIsInABlock → (lines : List (List ℕ)) (name : List ℕ) → All IsUtf8 lines → IsDraftOf lines (draft_of (placed (passages lines)) name)
 is_draft in_blocks lines name utf8 =
     let ps = placed (passages lines) in
     let same : passages lines ≡ map (λ p. p.passage) ps = sym (each_is_placed (passages lines)) in
     let fit = all_fit (passages lines) in
     let follow = subst (FollowIn lines) same (passages_follow in_blocks lines) in
-    let are_fine = fine lines ps follow (subst TitlesAreLines same (titles_are_lines in_blocks lines)) utf8 in
+    let are_fine = fine lines ps follow (subst AllBegun same (all_begun in_blocks lines)) utf8 in
     record {
       name = name;
       sections = sections ps;
+      usages = each_usage ps;
       has = taken_from none_taken ps;
-      forms = forms ps;
-      whole = sections_are_draft ps name;
+      whole = sections_are_draft ps name ∙ ap (λ fs. word_at (codes "name") name ++ (text_in (sections ps) ++ strays (taken_from none_taken ps) (options_in (taken_from none_taken ps) fs))) (forms_are ps);
       once = λ test. same_number test role.Nothing ps (λ e. cc) fit ∙ ap (count_by test) (each_line_is_placed in_blocks lines);
       written = all_written role.Nothing nothing_taken ps fit (all_taken nothing_taken none_taken nothing_above (passages lines) refl) are_fine;
-      stand = all_forms_in lines ps follow are_fine;
+      used = (1, omega arith, same_section (usage_lines ps) (flat_map (λ own. own) (each_usage ps)) _ (usage_text (each_usage ps)) (usage_lines_are ps) (usage_is ps));
     }
 
 -- step by step

@@ -2,3 +2,4 @@ pub mod Read
 pub mod Deeper
 pub mod Whole
 mod Titles
+mod Usages

@@ -11,10 +11,11 @@ use Rattle.help_blocks.specs.declared.shape.Shape.{Shape}
 use Rattle.help_blocks.specs.Above.{Line, open_block, opened_by, place_of}
 use Rattle.help_blocks.specs.Blocks.{FollowOn, Pair, lines_of, pairs, read, start_of, started, starts}
 use Rattle.help_blocks.specs.Steps.{with_line}
-use Rattle.help_blocks.specs.Laws.{EachLineIsInABlock, is_empty_line, lines_below}
+use Rattle.help_blocks.specs.Laws.{EachLineIsInABlock, is_empty_line, is_usage_kind, is_usage_line, lines_below}
 use Rattle.help_blocks.specs.Rules.{begun, is_title_kind}
 use Rattle.help_blocks.specs.Shapes.{shape_of}
 use Rattle.help_blocks.proofs.Deeper.{titles_end}
+use Rattle.help_blocks.proofs.Usages.{AllBegin, begin_lengthened, begin_pushed, begin_same, usage_begun}
 use Rattle.help_blocks.proofs.Titles.{AllEnd, Ends, ends_with_line, is_last_title, is_open_title, last_lengthened, last_pushed, no_further}
 use Rattle.help_blocks.proofs.Read.{follow-to, follow-with_line, some-begun, starts-with_line}
 
@@ -43,23 +44,30 @@ pair_each (l ∷ ls) = let h = pair_each ls in omega arith
 no_pair : Pair
 no_pair = record { here = shape_of []; next = shape_of [] }
 
--- whether a line is empty, of those that are read
-abbrev empty_at : (last_first : List Pair) → ℕ → Bool
-empty_at ps i = (get_or (reverse ps) i no_pair).here.is_empty
-
 in_order : (p : Pair) (ps : List Pair) → reverse (p ∷ ps) ≡ reverse ps ++ p ∷ []
 in_order p ps = reverse-append (p ∷ []) ps
 
-above_same : (p : Pair) (ps : List Pair) (i : ℕ) → i < length (read ps) → empty_at (p ∷ ps) i ≡ empty_at ps i
-above_same p ps i h =
-    let size = length-reverse ps in
-    let all = read_all ps in
-    ap (λ qs. (get_or qs i no_pair).here.is_empty) (in_order p ps) ∙ ap (λ (q : Pair). q.here.is_empty) (get_or_append_left (reverse ps) (p ∷ []) no_pair i (omega (arith, h, size, all)))
+module _ (f : Shape → Bool) where
+  -- what a line looks like, of those that are read
+  abbrev at : (last_first : List Pair) → ℕ → Bool
+  at ps i = f (get_or (reverse ps) i no_pair).here
 
-last_there : (p : Pair) (ps : List Pair) → empty_at (p ∷ ps) (length (read ps)) ≡ p.here.is_empty
-last_there p ps =
-    ap (λ i. empty_at (p ∷ ps) i) (read_all ps ∙ sym (length-reverse ps)) ∙ ap (λ qs. (get_or qs (length (reverse ps)) no_pair).here.is_empty) (in_order p ps)
-    ∙ ap (λ (q : Pair). q.here.is_empty) (get_or-append_seam (reverse ps) p [] no_pair)
+  above_same : (p : Pair) (ps : List Pair) (i : ℕ) → i < length (read ps) → at (p ∷ ps) i ≡ at ps i
+  above_same p ps i h =
+      let size = length-reverse ps in
+      let all = read_all ps in
+      ap (λ qs. f (get_or qs i no_pair).here) (in_order p ps) ∙ ap (λ (q : Pair). f q.here) (get_or_append_left (reverse ps) (p ∷ []) no_pair i (omega (arith, h, size, all)))
+
+  last_there : (p : Pair) (ps : List Pair) → at (p ∷ ps) (length (read ps)) ≡ f p.here
+  last_there p ps =
+      ap (λ i. at (p ∷ ps) i) (read_all ps ∙ sym (length-reverse ps)) ∙ ap (λ qs. f (get_or qs (length (reverse ps)) no_pair).here) (in_order p ps)
+      ∙ ap (λ (q : Pair). f q.here) (get_or-append_seam (reverse ps) p [] no_pair)
+
+abbrev empty_at : (last_first : List Pair) → ℕ → Bool
+empty_at = at (λ s. s.is_empty)
+
+abbrev usage_at : (last_first : List Pair) → ℕ → Bool
+usage_at = at (λ s. s.is_usage)
 
 last_is : (ps : List Pair) → is_last_title (blocks_of (read ps)) ≡ is_open_title (open_block (read ps))
 last_is [] = refl
@@ -76,8 +84,8 @@ below_title above here next (Some t) e h n = titles_end above t here next e h n
 all_end : (ps : List Pair) → AllEnd (empty_at ps) (blocks_of (read ps))
 all_end [] = tt
 all_end (p ∷ ps) =
-    ends_with_line (empty_at ps) (empty_at (p ∷ ps)) (length (read ps)) (above_same p ps) (blocks_of (read ps)) (begun (place_of (read ps)) p.here p.next) (follow_on ps)
-    (λ n h. last_there p ps ∙ below_title (read ps) p.here p.next (open_block (read ps)) refl (sym (last_is ps) ∙ h) n) (all_end ps)
+    ends_with_line (empty_at ps) (empty_at (p ∷ ps)) (length (read ps)) (above_same (λ s. s.is_empty) p ps) (blocks_of (read ps)) (begun (place_of (read ps)) p.here p.next) (follow_on ps)
+    (λ n h. last_there (λ s. s.is_empty) p ps ∙ below_title (read ps) p.here p.next (open_block (read ps)) refl (sym (last_is ps) ∙ h) n) (all_end ps)
 
 pair_at : (lines : List (List ℕ)) (i : ℕ) → i < length lines → (get_or (pairs lines) i no_pair).here.is_empty ≡ is_empty_line (get_or lines i [])
 unfolding shape_of
@@ -87,6 +95,33 @@ pair_at (l ∷ ls) (suc i) h = pair_at ls i (omega (arith, h))
 
 empty_in : (lines : List (List ℕ)) (i : ℕ) → i < length lines → empty_at (reverse (pairs lines)) i ≡ is_empty_line (get_or lines i [])
 empty_in lines i h = ap (λ ps. (get_or ps i no_pair).here.is_empty) (reverse-reverse (pairs lines)) ∙ pair_at lines i h
+
+-- ---- usages
+
+all_begin : (ps : List Pair) → AllBegin (usage_at ps) (blocks_of (read ps))
+all_begin [] = tt
+all_begin (p ∷ ps) = by (begun (place_of (read ps)) p.here p.next) refl (begin_same (usage_at ps) (usage_at (p ∷ ps)) (length (read ps)) (above_same (λ s. s.is_usage) p ps) 0 (blocks_of (read ps)) (follow_on ps) (all_begin ps)) where
+  by : (k : Option Kind) → begun (place_of (read ps)) p.here p.next ≡ k → AllBegin (usage_at (p ∷ ps)) (blocks_of (read ps)) → AllBegin (usage_at (p ∷ ps)) (with_line (blocks_of (read ps)) (length (read ps)) k)
+  by None e h = begin_lengthened (usage_at (p ∷ ps)) (blocks_of (read ps)) (length (read ps) + 1) h
+  by (Some k) e h = begin_pushed (usage_at (p ∷ ps)) (blocks_of (read ps)) _ (λ u. last_there (λ s. s.is_usage) p ps ∙ usage_begun (place_of (read ps)) p.here p.next k e u) h
+
+usage_pair_at : (lines : List (List ℕ)) (i : ℕ) → i < length lines → (get_or (pairs lines) i no_pair).here.is_usage ≡ is_usage_line (get_or lines i [])
+unfolding shape_of
+usage_pair_at [] i h = absurd (omega (arith, h))
+usage_pair_at (l ∷ ls) zero h = refl
+usage_pair_at (l ∷ ls) (suc i) h = usage_pair_at ls i (omega (arith, h))
+
+usage_in : (lines : List (List ℕ)) (i : ℕ) → i < length lines → usage_at (reverse (pairs lines)) i ≡ is_usage_line (get_or lines i [])
+usage_in lines i h = ap (λ ps. (get_or ps i no_pair).here.is_usage) (reverse-reverse (pairs lines)) ∙ usage_pair_at lines i h
+
+abbrev Uses : (lines : List (List ℕ)) → Block → Type 0
+Uses lines b = is_usage_kind b.kind ≡ true → is_usage_line (get_or lines b.first []) ≡ true
+
+every_usage : (lines : List (List ℕ)) (first : ℕ) (bs : List Block) → FollowOn first bs (length lines) → AllBegin (usage_at (reverse (pairs lines))) bs → All (Uses lines) bs
+every_usage lines first [] h begin = All-nil (Uses lines)
+every_usage lines first (b ∷ bs) h begin =
+    let below = no_further b.end (length lines) bs h.2 in
+    All-cons (Uses lines) b bs (λ e. sym (usage_in lines b.first (omega (arith, h.1, below))) ∙ begin.0 e) (every_usage lines b.end bs h.2 begin.1)
 
 -- the lines below the first of a block, one by one
 one_block : (lines : List (List ℕ)) (b : Block) → b.first < b.end → b.end ≤ length lines → Ends (empty_at (reverse (pairs lines))) b → is_title_kind b.kind ≡ true → AllPass is_empty_line (lines_below lines b)
@@ -109,4 +144,4 @@ each_line_is_in_a_block lines =
     let size = read_all (reverse (pairs lines)) ∙ length-reverse (pairs lines) ∙ pair_each lines in
     let bs : List Block = blocks_of (lines_of lines) in
     let follow : FollowOn 0 bs (length lines) = follow-to 0 (length (lines_of lines)) (length lines) bs size (follow_on (reverse (pairs lines))) in
-    (bs, record { begun = begin_there (lines_of lines); follow = follow; titles = every_block lines 0 bs follow (all_end (reverse (pairs lines))) })
+    (bs, record { begun = begin_there (lines_of lines); follow = follow; titles = every_block lines 0 bs follow (all_end (reverse (pairs lines))); usages = every_usage lines 0 bs follow (all_begin (reverse (pairs lines))) })
