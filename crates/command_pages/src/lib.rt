@@ -1,4 +1,4 @@
-//! The pages of the levels of a command line: of the application that a description describes, and of its commands.
+//! The pages of a description's application and of its commands, in each medium.
 #![tactic(auto)]
 
 pub use console::console_page_of;

@@ -48,7 +48,7 @@ impl Shell {
     }
 }
 
-fn in_array(byte: u8) -> Option<&'static str>
+fn array_escape(byte: u8) -> Option<&'static str>
     ensures { MatchOption result (array_letter byte ≡ byte ∷ [])
         (λ text. (byte < 128) × (array_letter byte ≡ text.now)) }
 {
@@ -58,7 +58,7 @@ fn in_array(byte: u8) -> Option<&'static str>
     }
 }
 
-fn in_command(byte: u8) -> Option<&'static str>
+fn command_escape(byte: u8) -> Option<&'static str>
     ensures { MatchOption result (command_letter byte ≡ byte ∷ [])
         (λ text. (byte < 128) × (command_letter byte ≡ text.now)) }
 {
@@ -74,8 +74,8 @@ impl StandIns for Shell {
 
     fn stand_in(self, byte: u8) -> Option<&'static str> {
         match self {
-            Shell::Bash | Shell::Zsh => in_array(byte),
-            Shell::Fish => in_command(byte),
+            Shell::Bash | Shell::Zsh => array_escape(byte),
+            Shell::Fish => command_escape(byte),
         }
     }
 }

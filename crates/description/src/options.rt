@@ -26,8 +26,8 @@ pub enum Spelling<'a> {
     Syntax(&'a str),
 }
 
-/// An option: a flag, or with a value an argument. It may be left out unless it is `required`, and be given many
-/// times if it is `repeated`.
+/// An option, with a value or without one: a flag. It may be left out unless it is `required`, and be given many times
+/// if it is `repeated`.
 #[derive(Clone, Copy, Debug)]
 pub struct Opt<'a> {
     pub spelling: Spelling<'a>,
@@ -100,7 +100,7 @@ impl<'a> Opt<'a> {
         }
     }
 
-    /// The option with a value, which makes it an argument. Ignored beside a syntax.
+    /// The option with a value. Ignored beside a syntax.
     pub fn value(mut self, value: &'static str) -> Opt<'a>
         ensures { opt_said result ≡ record (opt_said self.entry) { value = Some value.now } }
     {

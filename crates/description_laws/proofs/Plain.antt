@@ -6,7 +6,7 @@ use Rattle.std.specs.Str.{chars}
 use Rattle.toml.specs.Data.{Members}
 use Rattle.description.specs.Words.{WordsSaid, english}
 use Rattle.description.specs.Content.{NameSaid, SpellingSaid, OptSaid, ChoiceSaid, PositionalSaid, TopicSaid, TextsSaid, LevelSaid, GroupsSaid, GroupSaid, CommandsSaid, CommandSaid, DescriptionSaid}
-use Rattle.description_toml.specs.Described.{alternative_keys, choice_from, choice_keys, command_head, command_keys, command_of, CommandHead, commands_at, described, description_head, description_keys, description_of, DescriptionHead, group_of, GroupHead, groups_at, level_of, lists_from, name_from, option_from, option_keys, option_spelling, Outline, outline_from, positional_from, texts_from, title_words, topic_from, topic_keys, help_option_keys, fixed_in, is_syntax, spelling_from, unless_there, hint_unless, option_texts, option_value, positional_texts, required_beside, ValueSaid, language_from, TitleWords}
+use Rattle.description_toml.specs.Described.{alternative_keys, choice_from, choice_keys, command_head, command_keys, command_of, CommandHead, commands_at, described, description_head, description_keys, description_of, DescriptionHead, group_of, GroupHead, groups_at, level_of, lists_from, name_from, option_from, option_keys, option_spelling, Outline, outline_from, positional_from, texts_from, title_words, topic_from, topic_keys, help_option_keys, fixed_in, is_syntax, spelling_from, refused_if, hint_unless, option_texts, option_value, positional_texts, required_beside, ValueSaid, language_from, TitleWords}
 use Rattle.description_toml.specs.Described.Taken.{has_distinct_names}
 use Rattle.description_toml.specs.Described.Texts.{as_body, as_command_name, as_heading, as_long, as_name, as_text, as_value, is_body, is_command_name, is_heading, is_long, is_name, is_short, is_text, is_value, if_passes, is_line, as_language, is_language_tag}
 use Rattle.description_toml.specs.Described.Values.{as_short, each_table, flag_at, if_short, is_empty, optional_at, required_at, table_at, tables_at, as_default, as_syntax, as_texts, as_values, as_hint, default_text, listed_texts, words_at}
@@ -84,7 +84,7 @@ default_there = gives_optional PlainText as_default (λ d. gives_then Whatever P
 values_there : (ms : Members) → Gives PlainOption (optional_at as_values (codes "values") ms)
 values_there = gives_optional PlainText as_values (λ d. gives_then Whatever PlainText (as_texts as_value d) _ (gives_whatever (as_texts as_value d)) (λ values u. gives_passing PlainText is_value value_plain (listed_texts values))) (codes "values")
 
-alone_there : (other : Bool) (o : Option (List ℕ)) → PlainOption o → Gives PlainOption (unless_there other o)
+alone_there : (other : Bool) (o : Option (List ℕ)) → PlainOption o → Gives PlainOption (refused_if other o)
 alone_there other o h2 = grind arith
 
 option_value_there : (is_syntax : Bool) (ms : Members) → Gives PlainValue (option_value is_syntax ms)

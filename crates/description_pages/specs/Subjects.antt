@@ -81,7 +81,7 @@ all_from s = s ∷ subjects_below s
 
 -- ---- those on the page of the level
 
--- an option by its names, with nothing said of it
+-- an option by its names and the word for its value alone
 abbrev pub name_only : OptSaid → OptSaid
 name_only o = record o { help = None; default = None; values = None; env = None }
 

@@ -1,4 +1,4 @@
-//! The pages of a command line, made of its records.
+//! What the pages of a command line say, made of its records.
 #![tactic(auto)]
 
 mod arranged;

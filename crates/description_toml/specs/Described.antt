@@ -92,10 +92,10 @@ pub record ValueSaid : Type 0 where
   pub values : Option (List ℕ)
   pub hint : ValueHint
 
--- a text where there is nothing of another kind
-abbrev pub unless_there : (other : Bool) → Option (List ℕ) → Option (Option (List ℕ))
-unless_there true (Some text) = None
-unless_there other text = Some text
+-- a text, which is refused if it is there and may not be
+abbrev pub refused_if : (is_wrong : Bool) → Option (List ℕ) → Option (Option (List ℕ))
+refused_if true (Some text) = None
+refused_if is_wrong text = Some text
 
 -- neither a syntax nor a word for a value
 abbrev pub is_flag : (is_syntax : Bool) → (value : Option (List ℕ)) → Bool
@@ -111,7 +111,7 @@ hint_unless false (Some hint) = Some hint
 -- beside values
 unfoldable pub option_value : (is_syntax : Bool) → Members → Option ValueSaid
 option_value is_syntax ms =
-    optional_at as_value (codes "value") ms >>= unless_there is_syntax >>= (λ value. optional_at as_default (codes "default") ms >>= unless_there (is_flag is_syntax value) >>= (λ default. optional_at as_values (codes "values") ms >>= unless_there (is_flag is_syntax value) >>= (λ values. optional_at as_hint (codes "hint") ms >>= hint_unless (is_flag is_syntax value || is_some values) >>= (λ hint.
+    optional_at as_value (codes "value") ms >>= refused_if is_syntax >>= (λ value. optional_at as_default (codes "default") ms >>= refused_if (is_flag is_syntax value) >>= (λ default. optional_at as_values (codes "values") ms >>= refused_if (is_flag is_syntax value) >>= (λ values. optional_at as_hint (codes "hint") ms >>= hint_unless (is_flag is_syntax value || is_some values) >>= (λ hint.
     Some (record { value = value; default = default; values = values; hint = hint })))))
 
 -- what an option is called and says
@@ -129,7 +129,8 @@ abbrev pub option_of : Members → Option OptSaid
 option_of ms = option_texts ms >>= (λ option. required_beside option.default false ms >>= (λ required. flag_at false (codes "repeated") ms >>= (λ repeated.
     Some (record option { required = required; repeated = repeated }))))
 
--- an option from a table that may have these keys alone; the others count as left out
+-- an option from a table: any other key than these refuses it, and a key of options that is not among these counts as
+-- left out
 unfoldable pub option_from : (keys : List (List ℕ)) → Members → Option OptSaid
 option_from keys = with_only keys option_of
 

@@ -28,22 +28,23 @@ fn row<'a>(key: &'static str, usual: &'static str, word: &'a str) -> Word<'a>
 fn rows<'a>(words: &FixedWords<'a>) -> [Word<'a>; 15]
     ensures { map word_said result ≡ words_of (words_said words.now) }
 {
+    let english = FixedWords::english();
     [
-        row("usage", "Usage", words.usage),
-        row("arguments", "Arguments", words.arguments),
-        row("options", "Options", words.options),
-        row("commands", "Commands", words.commands),
-        row("contents", "Contents", words.contents),
-        row("notes", "Notes", words.notes),
-        row("default", "default", words.default),
-        row("possible_values", "possible values", words.possible_values),
-        row("env", "env", words.env),
-        row("aliases", "aliases", words.aliases),
-        row("command", "COMMAND", words.command),
-        row("name", "Name", words.name),
-        row("synopsis", "Synopsis", words.synopsis),
-        row("description", "Description", words.description),
-        row("see_also", "See also", words.see_also),
+        row("usage", english.usage, words.usage),
+        row("arguments", english.arguments, words.arguments),
+        row("options", english.options, words.options),
+        row("commands", english.commands, words.commands),
+        row("contents", english.contents, words.contents),
+        row("notes", english.notes, words.notes),
+        row("default", english.default, words.default),
+        row("possible_values", english.possible_values, words.possible_values),
+        row("env", english.env, words.env),
+        row("aliases", english.aliases, words.aliases),
+        row("command", english.command, words.command),
+        row("name", english.name, words.name),
+        row("synopsis", english.synopsis, words.synopsis),
+        row("description", english.description, words.description),
+        row("see_also", english.see_also, words.see_also),
     ]
 }
 

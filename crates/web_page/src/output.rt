@@ -18,8 +18,8 @@ pub enum Piece<'a> {
     Value(&'a str),
 }
 
-// What stands for a byte that may not stand for itself. Such a byte is a character.
-fn reference(byte: u8, in_value: bool) -> Option<&'static str>
+// What is written for a byte that may not stand for itself. Such a byte is ASCII, so it is a whole character.
+fn escape_of(byte: u8, in_value: bool) -> Option<&'static str>
     ensures { MatchOption result (escaped_byte in_value byte ≡ byte ∷ [])
         (λ text. (byte < 128) × (escaped_byte in_value byte ≡ text.now)) }
 {
@@ -44,7 +44,7 @@ fn push_escaped<A: Allocator>(
     let bytes = text.as_bytes();
     let mut start = 0;
     for at in 0..bytes.len() {
-        if let Some(name) = reference(bytes[at], in_value) {
+        if let Some(name) = escape_of(bytes[at], in_value) {
             out.push_str(&text[start..at])?;
             out.push_str(name)?;
             start = at + 1;
@@ -53,7 +53,7 @@ fn push_escaped<A: Allocator>(
     out.push_str(&text[start..])
 }
 
-// By `&` and without branches, so that many bytes are compared at once.
+// With the operator `&` in place of `&&`, and so without branches: many bytes are compared at once.
 fn is_no_sign(byte: u8) -> bool
     ensures { result ≡ is_no_sign byte }
 {

@@ -1,11 +1,12 @@
-//! Options, choices and positional values, each from its table.
+//! Options, choices and positional values, each from its table. Each key of a table is read before the first `?`, so
+//! that every fault is reported.
 ghost use Rattle.std.specs.Prelude.{◌≡◌, IfOk, codes, map, option_and_then};
 ghost use Rattle.description.specs.View.{text_of, choice_said, opt_said, positional_said, spelling_said};
 ghost use Rattle.toml.specs.Data.{as_table};
 ghost use Rattle.toml.specs.View.{items_view, table_view, view};
 ghost use Rattle.description_toml.specs.Described.{choice_from, help_option_keys, option_from, option_keys};
 ghost use Rattle.description_toml.specs.Described.{is_flag, is_syntax, option_of, option_spelling, option_texts};
-ghost use Rattle.description_toml.specs.Described.{option_value, spelling_from, unless_there, positional_from};
+ghost use Rattle.description_toml.specs.Described.{option_value, spelling_from, refused_if, positional_from};
 ghost use Rattle.description_toml.specs.Described.{positional_of, positional_texts, required_beside};
 ghost use Rattle.description_toml.specs.Described.Steps.{some_tables, value_texts_seen, words_of};
 ghost use Rattle.description_toml.specs.Described.Texts.{as_value};
@@ -114,11 +115,11 @@ fn value_beside<'a, A: Allocator + Copy>(
     table: &'a Table,
     is_syntax: bool,
 ) -> Result<Option<&'static str>, Refused>
-    ensures { Reads (option_and_then (unless_there is_syntax) (optional_at as_value (codes "value")
+    ensures { Reads (option_and_then (refused_if is_syntax) (optional_at as_value (codes "value")
         (table_view table.now))) (λ text. text_of text) result }
 {
     let value = word_at(teller, names, table, "value", Kind::Value)?;
-    unless_there(teller, is_syntax, value, "syntax", " stands beside value")
+    refused_if(teller, is_syntax, value, "syntax", " stands beside value")
 }
 
 fn default_beside<'a, A: Allocator + Copy>(
@@ -127,11 +128,11 @@ fn default_beside<'a, A: Allocator + Copy>(
     table: &'a Table,
     is_flag: bool,
 ) -> Result<Option<&'a str>, Refused>
-    ensures { Reads (option_and_then (unless_there is_flag) (optional_at as_default (codes "default")
+    ensures { Reads (option_and_then (refused_if is_flag) (optional_at as_default (codes "default")
         (table_view table.now))) (λ text. text_of text) result }
 {
     let default = default_at(teller, names, table)?;
-    unless_there(teller, is_flag, default, "default", BESIDE_NONE)
+    refused_if(teller, is_flag, default, "default", BESIDE_NONE)
 }
 
 fn values_beside<'a, A: Allocator + Copy>(
@@ -140,11 +141,11 @@ fn values_beside<'a, A: Allocator + Copy>(
     table: &'a Table,
     is_flag: bool,
 ) -> Result<Option<&'static str>, Refused>
-    ensures { Reads (option_and_then (unless_there is_flag) (optional_at as_values (codes "values")
+    ensures { Reads (option_and_then (refused_if is_flag) (optional_at as_values (codes "values")
         (table_view table.now))) (λ text. text_of text) result }
 {
     let values = values_at(teller, names, table)?;
-    unless_there(teller, is_flag, values, "values", BESIDE_NONE)
+    refused_if(teller, is_flag, values, "values", BESIDE_NONE)
 }
 
 #[tactic(auto, unfolding(crate::specs::Described::option_value))]
@@ -185,17 +186,17 @@ fn seems_flag(is_syntax: bool, value: Result<Option<&str>, Refused>) -> bool
     }
 }
 
-// A text, which is refused where something else is there.
-fn unless_there<'a, 't, A: Allocator + Copy>(
+// A text, which is refused if it is there and may not be.
+fn refused_if<'a, 't, A: Allocator + Copy>(
     teller: &mut Teller<'a, A>,
-    is_other_there: bool,
+    is_wrong: bool,
     text: Option<&'t str>,
     key: &'static str,
     after: &'static str,
 ) -> Result<Option<&'t str>, Refused>
-    ensures { Reads (unless_there is_other_there (text_of text.entry)) (λ text. text_of text) result }
+    ensures { Reads (refused_if is_wrong (text_of text.entry)) (λ text. text_of text) result }
 {
-    if is_other_there && text.is_some() {
+    if is_wrong && text.is_some() {
         Err(teller.tell(key, after))
     } else {
         Ok(text)

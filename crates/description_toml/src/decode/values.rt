@@ -151,7 +151,8 @@ pub fn required_word_at<'a, A: Allocator + Copy>(
     }
 }
 
-/// The texts of a kind in the array at a key, at least one, as ones that last. None where the array is left out.
+/// The texts of a kind in the array at a key, at least one, as ones that last. An empty list where the array is left
+/// out.
 pub fn words_at<'a, A: Allocator + Copy>(
     teller: &mut Teller<'a, A>,
     names: &mut Names,

@@ -20,7 +20,7 @@ loop-at-preserved g c =
     let is : c.as_bytes-bytes.result.now ≡ text = c.as_bytes-bytes.ensures.value in
     let byte : get_or c.as_bytes-bytes.result.now at 0 ≡ get_or text at 0 = ap (λ bytes. get_or bytes at 0) is in
     let within : at < length text = omega (arith, ap length is) in
-    elim c.match-reference.branch [
+    elim c.match-escape_of.branch [
       | in-Some+in_ok-push_str+in_ok-push_str-2 w ↦
           let small : get_or text at 0 < 128 = rw byte at w.in-Some.ensures.0 in
           let run : string_bytes w.push_str.new.self ≡ string_bytes c.loop-at.out ++ take (at - c.loop-at.start) (drop c.loop-at.start text) = w.in_ok-push_str.ensures.bytes ∙ ap (λ more. string_bytes c.loop-at.out ++ more) w.range.ensures.value in

@@ -4,7 +4,7 @@ use Rattle.web_page.specs.Exact.{escaped}
 use Rattle.web_page.specs.Steps.Pieces.{Extends}
 use Rattle.web_page.proofs.output.push_escaped.Given as goal
 
--- what is written, and what follows the last reference, stand for the text so far
+-- what is written, and what follows the last escape, stand for the text so far
 abbrev pub invariant-loop-at : goal.invariant-loop-at
 invariant-loop-at g l = record {
   in_order : l.start ≤ l.at;
