@@ -72,7 +72,7 @@ def values(table, kind, alternative):
     if kind == "option":
         for key, said in [("default", "x"), ("values", ["x"])]:
             if "syntax" not in table:
-                yield {key: said}, ["value", "default", "values"], f"{key} stands beside no value and no syntax"
+                yield {key: said}, ["value", "default", "values"], f"{key} stands beside no value and no syntax; add value"
         if not {"value", "syntax"} & set(table):
             return
     if not alternative:
@@ -129,7 +129,8 @@ def names(kind):
     """Texts that are not names."""
     for key in NAMES.get(kind, []):
         for name, why in WHY.items():
-            yield {key: name}, [], f"{key} {why}"
+            hint = "; write name and value as syntax" if (key, name) == ("long", "a=") else ""
+            yield {key: name}, [], f"{key} {why}{hint}"
         if key == "name":
             yield {key: "a\\"}, [], f"{key} holds a backslash"
             yield {key: "a\""}, [], f"{key} holds a double quote"
@@ -137,7 +138,7 @@ def names(kind):
             yield {key: "-a"}, [], f"{key} begins with -"
     if kind in ["option", "command"]:
         for text in ["", "ab", "日本"]:
-            yield {"short": text}, [], "short is not one character"
+            yield {"short": text}, [], "short is not one character; longer names are long, or aliases of a command"
         for text, why in [("-", "begins with -"), ("=", "holds ="), (" ", "holds a blank"), ("\uffff", "holds a noncharacter")]:
             yield {"short": text}, [], f"short {why}"
 

@@ -680,7 +680,7 @@ name = 'a'
 [[command]]
 name = 'b'
 short = 'bb'
-=> command 1 (b): short is not one character
+=> command 1 (b): short is not one character; longer names are long, or aliases of a command
 
 name = 'a'
 [[option]]
@@ -700,7 +700,7 @@ long = '--b'
 name = 'a'
 [[option]]
 long = '-b='
-=> option 1 (-b=): long holds =
+=> option 1 (-b=): long holds =; write name and value as syntax
 
 name = 'a'
 [[option]]
@@ -740,7 +740,7 @@ short = "\ufdd1"
 name = 'a'
 [[option]]
 short = ''
-=> option 1: short is not one character
+=> option 1: short is not one character; longer names are long, or aliases of a command
 
 name = 'a'
 [[option]]
@@ -989,30 +989,30 @@ default = 12
 [[option]]
 long = 'b'
 default = 'x'
-=> option 1 (--b): default stands beside no value and no syntax
+=> option 1 (--b): default stands beside no value and no syntax; add value
 
 [[option]]
 long = 'b'
 values = ['x']
-=> option 1 (--b): values stands beside no value and no syntax
+=> option 1 (--b): values stands beside no value and no syntax; add value
 
 [[option]]
 long = 'b'
 values = []
 default = 'x'
-=> option 1 (--b): default stands beside no value and no syntax
+=> option 1 (--b): default stands beside no value and no syntax; add value
 option 1 (--b): values is empty
 
 [[choice]]
 [[choice.option]]
 long = 'b'
 default = 'x'
-=> choice 1, option 1 (--b): default stands beside no value and no syntax
+=> choice 1, option 1 (--b): default stands beside no value and no syntax; add value
 
 [[help_option]]
 long = 'b'
 values = ['x']
-=> help_option 1 (--b): values stands beside no value and no syntax
+=> help_option 1 (--b): values stands beside no value and no syntax; add value
 
 [[option]]
 long = 'b'
@@ -1161,7 +1161,7 @@ hint = 'host'
 [[option]]
 long = 'b'
 hint = 'file'
-=> option 1 (--b): hint stands beside no value and no syntax
+=> option 1 (--b): hint stands beside no value and no syntax; add value
 
 [[option]]
 long = 'b'
@@ -1174,8 +1174,8 @@ hint = 'none'
 long = 'b'
 values = ['x']
 hint = 'none'
-=> option 1 (--b): values stands beside no value and no syntax
-option 1 (--b): hint stands beside no value and no syntax
+=> option 1 (--b): values stands beside no value and no syntax; add value
+option 1 (--b): hint stands beside no value and no syntax; add value
 
 [[positional]]
 value = 'V'
@@ -1373,6 +1373,18 @@ choices = ['x']
 short = 'b'
 metavar = 'X'
 => option 1 (-b): no key metavar is known here; it is called value
+
+name = 'a'
+[[option]]
+long = 'b'
+negatable = true
+=> option 1 (--b): no key negatable is known here; it is called syntax
+
+name = 'a'
+[[option]]
+long = 'b'
+optional_value = 'X'
+=> option 1 (--b): no key optional_value is known here; it is called syntax
 
 [[option]]
 short = 'b'
@@ -1725,7 +1737,7 @@ short = 'dd'
 => option 1 (-b): long begins with -; write it without dashes
 option 2 (-b): long begins with -; write it without dashes
 option 3 (--c[): syntax holds a bracket that is in no pair
-command 2 (e): short is not one character
+command 2 (e): short is not one character; longer names are long, or aliases of a command
 
 # The first 20 are told, and how many more there are.
 name = 'a'

@@ -13,7 +13,7 @@ use std::alloc::Allocator;
 use toml::{Table, Value};
 
 /// What is wrong with a key about the value of a flag.
-pub const BESIDE_NONE: &str = " stands beside no value and no syntax";
+pub const BESIDE_NONE: &str = " stands beside no value and no syntax; add value";
 
 /// What a shell offers for a value, at the key `hint`; files by default. It may not stand beside a list of values, nor
 /// on a flag.

@@ -125,6 +125,16 @@ fn refused_in_a_name(character: char) -> Refusal
     }
 }
 
+// What follows `=` would be a value, which a name does not have.
+fn refused_in_a_long_name(character: char) -> Refusal
+    ensures { is_none result ≡ is_name_character character }
+{
+    match refused_in_a_name(character) {
+        Some(_) if character == '=' => Some(" holds =; write name and value as syntax"),
+        refusal => refusal,
+    }
+}
+
 /// Why a character is not a short name.
 pub fn refused_as_short(character: char) -> Refusal
     ensures { is_none result ≡ is_short character }
@@ -182,7 +192,7 @@ pub fn refused_as_character(text: &str) -> &'static str {
     if text.as_bytes().first() == Some(&b'-') {
         WITHOUT_DASHES
     } else {
-        " is not one character"
+        " is not one character; longer names are long, or aliases of a command"
     }
 }
 
@@ -341,7 +351,8 @@ impl Kind {
             Kind::Text | Kind::Body => refused_in_a_text(character),
             Kind::Line | Kind::Section | Kind::Language => refused_on_a_line(character),
             Kind::Value | Kind::Title | Kind::Heading => refused_in_a_word(character),
-            Kind::Name | Kind::Long | Kind::Command => refused_in_a_name(character),
+            Kind::Name | Kind::Command => refused_in_a_name(character),
+            Kind::Long => refused_in_a_long_name(character),
         }
     }
 

@@ -5,7 +5,7 @@ use std::fmt;
 use std::fmt::Display;
 
 // Keys that other formats have for what a key here says, and the keys that say it; the first that a table has counts.
-const OTHER_KEYS: [(&str, &[&str]); 18] = [
+const OTHER_KEYS: [(&str, &[&str]); 20] = [
     ("alias", &["aliases"]),
     ("arg", &["positional", "value"]),
     ("args", &["positional", "value"]),
@@ -19,6 +19,8 @@ const OTHER_KEYS: [(&str, &[&str]); 18] = [
     ("metavar", &["value"]),
     ("multiple", &["repeated"]),
     ("name", &["long", "value", "title"]),
+    ("negatable", &["syntax"]),
+    ("optional_value", &["syntax"]),
     ("subcommand", &["command"]),
     ("subcommands", &["command"]),
     ("summary", &["about", "help"]),
