@@ -12,10 +12,12 @@ use Rattle.help_differences.specs.Differences.{Alone, IsDifference, name_cmp, na
 use Rattle.help_differences.specs.Help.{names_in}
 use Rattle.help_differences.specs.Level.{names_of_level}
 
--- what a program printed, and what this and the description are called
+-- what a program printed for help, and what this and the description are called in the lines
 pub record HelpSaid : Type 0 where
   pub printed : List ℕ
+  -- what the help text is called
   pub name : List ℕ
+  -- what the description is called
   pub file : List ℕ
 
 abbrev pub kind_word : Kind → List ℕ

@@ -14,11 +14,14 @@ use description::{Level, Opt};
 use shown_letters::shown_letters;
 use std::alloc::{AllocError, Allocator};
 
-/// What a program printed for help, and what this and the description are called in the lines.
+/// A help text, and what the lines call it and the description that it is compared with.
 #[derive(Clone, Copy, Debug)]
 pub struct HelpText<'h> {
+    /// What the program printed for help.
     pub printed: &'h str,
+    /// What the help text is called, as `help.txt`.
     pub name: &'h str,
+    /// What the description is called, as `app.toml`.
     pub file: &'h str,
 }
 
