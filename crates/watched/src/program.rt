@@ -10,7 +10,7 @@ use std::rt::Env;
 use std::str::from_utf8;
 use std::{env, io};
 
-/// The status of a run of which the program cannot tell by its words what to do.
+/// The status of a run whose words do not say what the program is to do.
 pub const WRONG_WORDS: u8 = 2;
 
 /// Reads the words after the program's name, and returns what `follow` returns for them. An error comes before `follow`
