@@ -25,8 +25,8 @@ not_false : (b : Bool) → not b ≡ false → b ≡ true
 not_false b h1 = grind (arith, true≢false)
 
 -- after bytes of a class at the front
-pub behind_class : (k : Class) (bs : List ℕ) (n : ℕ) → n ≡ prefix_len (is_in k) bs → IsUtf8 bs → IsCharBoundary bs n
-behind_class k bs n e utf8 = after_run (is_in k) bs n (omega arith) utf8 (class_ascii k)
+pub after_class : (k : Class) (bs : List ℕ) (n : ℕ) → n ≡ prefix_len (is_in k) bs → IsUtf8 bs → IsCharBoundary bs n
+after_class k bs n e utf8 = after_run (is_in k) bs n (omega arith) utf8 (class_ascii k)
 
 -- before bytes of a class at the end
 pub before_class : (k : Class) (bs : List ℕ) (n : ℕ) → n ≤ length bs → (n < length bs → is_in k (get_or bs n 0) ≡ true) → IsCharBoundary bs n
