@@ -40,8 +40,8 @@ pub struct Console<'w, A: Allocator> {
 #[derive(Drop)]
 pub struct HelpGiven<A: Allocator> {
     pub printed: String<A>,
-    pub name: String<A>,
-    pub file: String<A>,
+    pub help_name: String<A>,
+    pub description_name: String<A>,
 }
 
 impl<A: Allocator> HelpGiven<A> {
@@ -51,8 +51,8 @@ impl<A: Allocator> HelpGiven<A> {
     {
         HelpText {
             printed: self.printed.as_str(),
-            name: self.name.as_str(),
-            file: self.file.as_str(),
+            help_name: self.help_name.as_str(),
+            description_name: self.description_name.as_str(),
         }
     }
 }

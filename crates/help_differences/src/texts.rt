@@ -20,9 +20,9 @@ pub struct HelpText<'h> {
     /// What the program printed for help.
     pub printed: &'h str,
     /// What the help text is called, as `help.txt`.
-    pub name: &'h str,
+    pub help_name: &'h str,
     /// What the description is called, as `app.toml`.
-    pub file: &'h str,
+    pub description_name: &'h str,
 }
 
 impl<'h> HelpText<'h> {
@@ -32,8 +32,8 @@ impl<'h> HelpText<'h> {
         ensures lacks { result.1.now ≡ spec.lacks_in stands (help_said self.entry) }
     {
         match stands {
-            Side::Description => (self.file, self.name),
-            Side::Help => (self.name, self.file),
+            Side::Description => (self.description_name, self.help_name),
+            Side::Help => (self.help_name, self.description_name),
         }
     }
 }
