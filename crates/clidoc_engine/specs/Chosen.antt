@@ -19,7 +19,7 @@ abbrev pub console_said : {A : Type 0} → Console A → PageSaid
 console_said c = console c.form (words_said c.commands.items) c.width
 
 abbrev pub help_given : {A : Type 0} → HelpGiven A → HelpSaid
-help_given h = record { printed = string_bytes h.printed; name = string_bytes h.name; file = string_bytes h.file }
+help_given h = record { printed = string_bytes h.printed; help_name = string_bytes h.help_name; description_name = string_bytes h.description_name }
 
 abbrev pub page_said : {A : Type 0} → Page A → PageSaid
 page_said (of_page.Console c) = console_said c

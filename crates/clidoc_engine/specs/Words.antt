@@ -16,7 +16,7 @@ use Rattle.completions.specs.declared.shells.Shell.TheVariants.{Bash, Zsh, Fish}
 
 -- ---- what is chosen
 
--- what is printed; `commands` lead to the level that it is about
+-- what is printed, as a `Page` of `src/words.rt` says it; `commands` lead to the level that it is about
 pub data PageSaid : Type 0 where
   console : ConsoleForm → (commands : List (List ℕ)) → (width : ℕ) → PageSaid
   -- of the level and of all below it
@@ -210,9 +210,10 @@ HasNoTitle g = (g.dates ≡ []) × (g.vendors ≡ [])
 abbrev pub HasNoLevel : Given → Type 0
 HasNoLevel g = (g.commands ≡ []) × (g.widths ≡ []) × (g.deeps ≡ []) × (g.fragments ≡ [])
 
--- no word says where pages are written, how a description is judged, or what a program is called
-abbrev pub HasNoWork : Given → Type 0
-HasNoWork g = (g.folders ≡ []) × (g.stricts ≡ []) × (g.names ≡ [])
+-- each option is one that a page takes: none says where pages are written, how a description is judged, or what a program
+-- is called
+abbrev pub HasOnlyPageOptions : Given → Type 0
+HasOnlyPageOptions g = (g.folders ≡ []) × (g.stricts ≡ []) × (g.names ≡ [])
 
 -- the word, and the options that stand with it, name this page
 abbrev pub NamesPage : (terminal : ℕ) → (word : List ℕ) → Given → PageSaid → Type 0
@@ -236,10 +237,10 @@ shell_word Fish = codes "fish"
 -- What each form takes: the words after it, and its options.
 
 abbrev pub HasNoOption : Given → Type 0
-HasNoOption g = HasNoLevel g × HasNoTitle g × HasNoWork g
+HasNoOption g = HasNoLevel g × HasNoTitle g × HasOnlyPageOptions g
 
 abbrev pub IsPageOf : (terminal : ℕ) → (word : List ℕ) → (behind : List (List ℕ)) → Given → PageSaid → (file : Option (List ℕ)) → Type 0
-IsPageOf terminal word behind g p file = (behind ≡ option_to_list file) × NamesPage terminal word g p × HasNoWork g
+IsPageOf terminal word behind g p file = (behind ≡ option_to_list file) × NamesPage terminal word g p × HasOnlyPageOptions g
 
 abbrev pub IsCheck : (behind : List (List ℕ)) → Given → (is_strict : Bool) → (file : Option (List ℕ)) → Type 0
 IsCheck behind g is_strict file = (behind ≡ option_to_list file) × HasNoLevel g × HasNoTitle g × (g.folders ≡ []) × (g.names ≡ []) × IsStrict g.stricts is_strict
@@ -258,7 +259,7 @@ IsDraft behind g name file = (behind ≡ option_to_list file) × HasNoLevel g ×
 
 abbrev pub IsAgainst : (behind : List (List ℕ)) → Given → (printed : List ℕ) → (commands : List (List ℕ)) → (file : Option (List ℕ)) → Type 0
 IsAgainst behind g printed commands file =
-    (behind ≡ printed ∷ option_to_list file) × (commands ≡ g.commands) × (g.widths ≡ []) × (g.deeps ≡ []) × (g.fragments ≡ []) × HasNoTitle g × HasNoWork g
+    (behind ≡ printed ∷ option_to_list file) × (commands ≡ g.commands) × (g.widths ≡ []) × (g.deeps ≡ []) × (g.fragments ≡ []) × HasNoTitle g × HasOnlyPageOptions g
 
 -- the word, those after it, and the options choose this work
 abbrev pub Takes : (terminal : ℕ) → (word : List ℕ) → (behind : List (List ℕ)) → Given → ChoiceSaid → Type 0

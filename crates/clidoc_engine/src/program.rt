@@ -262,8 +262,8 @@ where
     let page = Page::Differences {
         help: HelpGiven {
             printed: help_text(rt, global, help)?,
-            name: name_of(global, named(Some(help)))?,
-            file: name_of(global, named(file))?,
+            help_name: name_of(global, named(Some(help)))?,
+            description_name: name_of(global, named(file))?,
         },
         commands: Vec::from_slice(global, commands)?,
     };

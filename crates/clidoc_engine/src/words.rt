@@ -7,7 +7,7 @@ ghost use Rattle.clidoc_engine.specs.Chosen.{choice_said, help_given, page_said,
 ghost use Rattle.help_differences.specs.View.{help_said};
 ghost use Rattle.clidoc_engine.specs.Reading.{IsRefused, given_of};
 ghost use Rattle.clidoc_engine.specs.Words.{ChoiceSaid, Chooses, ChoosesWork, HasNoLevel, HasNoOption, HasNoTitle};
-ghost use Rattle.clidoc_engine.specs.Words.{HasNoWork, IsAll, IsCheck, IsColumns, IsComplete, IsDepth, IsExtent};
+ghost use Rattle.clidoc_engine.specs.Words.{HasOnlyPageOptions, IsAll, IsCheck, IsColumns, IsComplete, IsDepth, IsExtent};
 ghost use Rattle.clidoc_engine.specs.Words.{IsAgainst, IsDraft, IsJson};
 ghost use Rattle.clidoc_engine.specs.Words.{IsPageOf, IsStrict, IsTerminalWidth, IsTitle};
 ghost use Rattle.clidoc_engine.specs.Words.{IsWidth, NamesPage, PageSaid, Takes, form_word, is_one_of, shell_word};
@@ -40,8 +40,8 @@ pub struct Console<'w, A: Allocator> {
 #[derive(Drop)]
 pub struct HelpGiven<A: Allocator> {
     pub printed: String<A>,
-    pub name: String<A>,
-    pub file: String<A>,
+    pub help_name: String<A>,
+    pub description_name: String<A>,
 }
 
 impl<A: Allocator> HelpGiven<A> {
@@ -51,8 +51,8 @@ impl<A: Allocator> HelpGiven<A> {
     {
         HelpText {
             printed: self.printed.as_str(),
-            name: self.name.as_str(),
-            file: self.file.as_str(),
+            help_name: self.help_name.as_str(),
+            description_name: self.description_name.as_str(),
         }
     }
 }
@@ -390,7 +390,7 @@ fn compared<'w, A: Allocator>(
     check_no_deep(&given, word)?;
     check_no_fragment(&given, word)?;
     check_no_title(&given, word)?;
-    check_no_work(&given, word)?;
+    check_only_page_options(&given, word)?;
     Ok(Choice::Against {
         help: *help,
         commands: given.commands,
@@ -417,7 +417,7 @@ fn check_alone<'w, A: Allocator>(given: &Given<'w, A>, word: &'w str) -> Result<
 {
     check_no_level(given, word)?;
     check_no_title(given, word)?;
-    check_no_work(given, word)
+    check_only_page_options(given, word)
 }
 
 // ---- pages
@@ -442,9 +442,9 @@ fn paged<'w, A: Allocator>(
             return Err(first_fault(word, behind, fault));
         }
     };
-    let work = check_no_work(&given, word);
+    let options = check_only_page_options(&given, word);
     let page = page_named(terminal, word, file, given)?;
-    match work {
+    match options {
         Ok(()) => Ok(Choice::Page(page, file)),
         Err(fault) => {
             drop(page);
@@ -724,10 +724,13 @@ fn check_no_name<'w, A: Allocator>(given: &Given<'w, A>, word: &'w str) -> Resul
     check_none(&given.names, WordOption::Valued(Valued::Name), word)
 }
 
-// Refuses options that are of no page.
-fn check_no_work<'w, A: Allocator>(given: &Given<'w, A>, word: &'w str) -> Result<(), WordFault<'w>>
-    ensures ok { IfOk result (λ _. HasNoWork (given_of given.now)) }
-    ensures err { IfErr result (λ _. ¬ HasNoWork (given_of given.now)) }
+// Refuses options that no page takes.
+fn check_only_page_options<'w, A: Allocator>(
+    given: &Given<'w, A>,
+    word: &'w str,
+) -> Result<(), WordFault<'w>>
+    ensures ok { IfOk result (λ _. HasOnlyPageOptions (given_of given.now)) }
+    ensures err { IfErr result (λ _. ¬ HasOnlyPageOptions (given_of given.now)) }
 {
     check_no_folder(given, word)?;
     check_no_strict(given, word)?;

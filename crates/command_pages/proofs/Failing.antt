@@ -6,10 +6,10 @@ use Rattle.web_page.specs.declared.errors.PageError.TheVariants.{Refused}
 use Rattle.html_page.specs.Promises as html
 use Rattle.page_model.specs.Faults.{FailsOnlyBy}
 use Rattle.page_model.specs.declared.fault.PageFault.{PageFault}
-use Rattle.command_pages.specs.Pages.{FailsBy}
+use Rattle.command_pages.specs.Pages.{MayFailBy}
 
 -- a medium that fails as it says
-pub failing : {T : Type 0} (fault : Option PageFault) (result : Result T PageFault) → FailsOnlyBy fault result → FailsBy fault result
+pub failing : {T : Type 0} (fault : Option PageFault) (result : Result T PageFault) → FailsOnlyBy fault result → MayFailBy fault result
 failing fault (Ok t) fails = tt
 failing None (Err error) fails = inl fails
 failing (Some f) (Err error) fails = grind (fails, arith)

@@ -36,9 +36,9 @@ pub record TitleGiven : Type 0 where
 
 -- ---- faults
 
--- a call fails with the fault of its page, or because an allocation failed
-abbrev pub FailsBy : {T : Type 0} → Option PageFault → Result T PageFault → Type 0
-FailsBy fault result = IfErr result (λ error. (error ≡ Refused alloc_error) ⊎ (fault ≡ Some error))
+-- if a call fails, then with the fault of its page, or because an allocation failed
+abbrev pub MayFailBy : {T : Type 0} → Option PageFault → Result T PageFault → Type 0
+MayFailBy fault result = IfErr result (λ error. (error ≡ Refused alloc_error) ⊎ (fault ≡ Some error))
 
 -- ---- levels
 

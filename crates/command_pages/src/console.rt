@@ -3,7 +3,7 @@
 ghost use Rattle.std.specs.Prelude.{◌≡◌, IfOk, None, string_bytes};
 ghost use Rattle.description_pages.specs.LevelsView.{subject_of};
 ghost use Rattle.description.specs.Words.{words_said};
-ghost use Rattle.command_pages.specs.Pages.{FailsBy, console_page, console_page_fault};
+ghost use Rattle.command_pages.specs.Pages.{MayFailBy, console_page, console_page_fault};
 
 use crate::given::ConsoleForm;
 use bumpalo::Bump;
@@ -30,7 +30,7 @@ pub fn console_page_of<'p, 'a: 'p, A: Allocator + Copy>(
         string_bytes made ≡ console_page form width (words_said words.now) (subject_of level.entry)) }
     ensures permitted { IfOk result (λ _.
         console_page_fault form (words_said words.now) (subject_of level.entry) ≡ None) }
-    ensures fails { FailsBy (console_page_fault form (words_said words.now) (subject_of level.entry)) result }
+    ensures fails { MayFailBy (console_page_fault form (words_said words.now) (subject_of level.entry)) result }
 {
     let detail = match form {
         ConsoleForm::Usage => {

@@ -8,7 +8,7 @@ ghost use Rattle.description_pages.specs.LevelsView.{subject_of};
 ghost use Rattle.description_pages.specs.Manuals.{manual_below};
 ghost use Rattle.description_pages.specs.Subjects.{subjects_behind};
 ghost use Rattle.description.specs.Words.{words_said};
-ghost use Rattle.command_pages.specs.Pages.{FailsBy, manual_page, manual_page_fault, manual_parts, title_line};
+ghost use Rattle.command_pages.specs.Pages.{MayFailBy, manual_page, manual_page_fault, manual_parts, title_line};
 ghost use Rattle.command_pages.specs.Readings.{IsManualOf};
 ghost use Rattle.command_pages.specs.View.{title_said};
 
@@ -40,7 +40,7 @@ pub fn manual_page_of<'p, 'a: 'p, A: Allocator + Copy>(
         ≡ manual_page (description_said description.now) depth (title_said given.entry) (subject_of level.entry)) }
     ensures permitted { IfOk result (λ _. manual_page_fault (description_said description.now) depth
         (title_said given.entry) (subject_of level.entry) ≡ None) }
-    ensures fails { FailsBy (manual_page_fault (description_said description.now) depth (title_said given.entry)
+    ensures fails { MayFailBy (manual_page_fault (description_said description.now) depth (title_said given.entry)
         (subject_of level.entry)) result }
 {
     let line = title_line(arena, description, given, level)?;

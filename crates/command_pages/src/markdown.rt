@@ -6,7 +6,7 @@ ghost use Rattle.description_pages.specs.LevelsView.{subject_of};
 ghost use Rattle.description_pages.specs.Markdowns.{markdown_below};
 ghost use Rattle.description_pages.specs.Subjects.{subjects_behind};
 ghost use Rattle.description.specs.Words.{words_said};
-ghost use Rattle.command_pages.specs.Pages.{FailsBy, markdown_page, markdown_page_fault, markdown_parts};
+ghost use Rattle.command_pages.specs.Pages.{MayFailBy, markdown_page, markdown_page_fault, markdown_parts};
 ghost use Rattle.command_pages.specs.Readings.{IsMarkdownOf};
 
 use bumpalo::Bump;
@@ -35,7 +35,7 @@ pub fn markdown_page_of<'p, 'a: 'p, A: Allocator + Copy>(
         ≡ markdown_page depth (words_said words.now) (subject_of level.entry)) }
     ensures permitted { IfOk result (λ _.
         markdown_page_fault depth (words_said words.now) (subject_of level.entry) ≡ None) }
-    ensures fails { FailsBy (markdown_page_fault depth (words_said words.now) (subject_of level.entry)) result }
+    ensures fails { MayFailBy (markdown_page_fault depth (words_said words.now) (subject_of level.entry)) result }
 {
     let title = title(arena, level.names)?;
     let parts = markdown_parts(arena, words, depth, level)?;

@@ -36,8 +36,8 @@ module _ (f : List ℕ → Option HelpSaid) (own : HelpSaid) where
     by false h = sym (ap (λ b. option_or (f name) (cond b (Some own) None)) (sym (same_name name) ∙ h) ∙ or_none (f name))
 
   -- where one had it
-  pub kept_behind : (first : HelpSaid) → f own.name ≡ Some first → (name : List ℕ) → f name ≡ option_or (f name) (first_called name (own ∷ []))
-  kept_behind first some name = by (bytes_eq name own.name) refl where
+  pub kept_after : (first : HelpSaid) → f own.name ≡ Some first → (name : List ℕ) → f name ≡ option_or (f name) (first_called name (own ∷ []))
+  kept_after first some name = by (bytes_eq name own.name) refl where
     by : (b : Bool) → bytes_eq name own.name ≡ b → f name ≡ option_or (f name) (cond b (Some own) None)
     by true h =
         let is : f name ≡ Some first = ap f ((bytes_decides name own.name).0 h) ∙ some in
@@ -61,17 +61,17 @@ module _ (helps : List NamedHelp) (i : ℕ) (d : NamedHelp) (within : i < length
   abbrev before : List HelpSaid
   before = map help_said (take i helps)
 
-  abbrev behind : List HelpSaid
-  behind = map help_said (drop (i + 1) helps)
+  abbrev after : List HelpSaid
+  after = map help_said (drop (i + 1) helps)
 
   front : map help_said (take (i + 1) helps) ≡ before ++ own ∷ []
   front = ap (map help_said) (take_more helps i d within) ∙ map-append help_said (take i helps) (get_or helps i d ∷ [])
 
   pub told_more : (s t whole : List WarningSaid) (first : Option HelpSaid) → s ++ beside_those before (map help_said (drop i helps)) ≡ whole → t ≡ s ++ beside first own → first ≡ first_called own.name before
-      → t ++ beside_those (map help_said (take (i + 1) helps)) behind ≡ whole
+      → t ++ beside_those (map help_said (take (i + 1) helps)) after ≡ whole
   told_more s t whole first so_far put is =
-      ap (λ bs. t ++ beside_those bs behind) front ∙ ap (λ ws. ws ++ beside_those (before ++ own ∷ []) behind) (put ∙ ap (λ o. s ++ beside o own) is)
-      ∙ append_assoc s (beside (first_called own.name before) own) (beside_those (before ++ own ∷ []) behind)
+      ap (λ bs. t ++ beside_those bs after) front ∙ ap (λ ws. ws ++ beside_those (before ++ own ∷ []) after) (put ∙ ap (λ o. s ++ beside o own) is)
+      ∙ append_assoc s (beside (first_called own.name before) own) (beside_those (before ++ own ∷ []) after)
       ∙ ap (λ hs. s ++ beside_those before (map help_said hs)) (sym (drop_more helps i d within)) ∙ so_far
 
   pub first_more : (m n : BTreeMap (Bor (List ℕ)) NamedHelp) → ((name : List ℕ) → first_in m name ≡ first_called name before) → ((name : List ℕ) → first_in n name ≡ option_or (first_in m name) (first_called name (own ∷ [])))

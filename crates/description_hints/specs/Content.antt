@@ -52,12 +52,12 @@ pub record SiteSaid : Type 0 where
   pub part : PartSaid
 
 -- what the hints about a part look at of the whole description: its fixed words, whether an option is called by a
--- word, or one that asks for help, and whether pages show such a one under a name
+-- word, whether one that asks for help is, and whether pages show such a one under a name
 pub record Around : Type 0 where
   pub fixed : WordsSaid
-  pub has : List ℕ → Bool
-  pub asks : List ℕ → Bool
-  pub helping : List ℕ → Bool
+  pub is_option_word : List ℕ → Bool
+  pub is_help_word : List ℕ → Bool
+  pub is_help_name : List ℕ → Bool
 
 -- what an option is called, its help, and the way to the option
 pub record HelpSaid : Type 0 where
@@ -66,6 +66,6 @@ pub record HelpSaid : Type 0 where
   pub path : Path
 
 -- a level that has a page of its own: the way to it, and the name of its page
-pub record PageSaid : Type 0 where
+pub record PageSiteSaid : Type 0 where
   pub path : Path
   pub name : List ℕ

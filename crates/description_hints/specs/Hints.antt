@@ -10,7 +10,7 @@ use Rattle.description_texts.specs.Texts.{first_paragraph, is_empty, text_blocks
 use Rattle.description_usage.specs.Forms.{text_forms}
 use Rattle.description_usage.specs.Usage.{option_item}
 use Rattle.file_names.specs.Names.{is_file_name, name_key}
-use Rattle.description_hints.specs.Content.{Around, HelpSaid, Path, HintSaid, no_help, nothing_said, no_about, two_sentences, wide_summary, no_such_option, plain_link, wide_item, not_on_level, different_help, no_file_name, alike_name, help_name, marked_value, bracketed_name, unlisted_default, PageSaid, WarningSaid, PartSaid, application_part, option_part, positional_part, command_part, text_part, usage_part, SiteSaid}
+use Rattle.description_hints.specs.Content.{Around, HelpSaid, Path, HintSaid, no_help, nothing_said, no_about, two_sentences, wide_summary, no_such_option, plain_link, wide_item, not_on_level, different_help, no_file_name, alike_name, help_name, marked_value, bracketed_name, unlisted_default, PageSiteSaid, WarningSaid, PartSaid, application_part, option_part, positional_part, command_part, text_part, usage_part, SiteSaid}
 use Rattle.description_hints.specs.Names.{called, is_among, is_bracket, is_no_option, known_words, options_names, options_words, shown_names}
 use Rattle.description_hints.specs.Pages.{manual_name, markdown_name, pages, web_name}
 use Rattle.description_hints.specs.Sites.{sites, under}
@@ -97,41 +97,41 @@ width_hints ForHelp o = []
 width_hints InUsage o = item_hints o
 width_hints OutsideUsage o = []
 
--- a text in place of a usage names options of its level, or help options; `own` and `asks` say whether one of these is
--- called by a word
-abbrev pub usage_piece_hints : (own asks : List ℕ → Bool) → Piece → List HintSaid
-usage_piece_hints own asks (words text) = []
-usage_piece_hints own asks (literal text) = hint_if (is_no_option own text && is_no_option asks text) (not_on_level text)
-usage_piece_hints own asks (value text) = []
-usage_piece_hints own asks (link address) = []
-usage_piece_hints own asks (page name) = []
+-- a text in place of a usage names options of its level, or help options; `own` says whether one of the former is called
+-- by a word, and `is_help_word` whether one of the latter is
+abbrev pub usage_piece_hints : (own is_help_word : List ℕ → Bool) → Piece → List HintSaid
+usage_piece_hints own is_help_word (words text) = []
+usage_piece_hints own is_help_word (literal text) = hint_if (is_no_option own text && is_no_option is_help_word text) (not_on_level text)
+usage_piece_hints own is_help_word (value text) = []
+usage_piece_hints own is_help_word (link address) = []
+usage_piece_hints own is_help_word (page name) = []
 
 abbrev pub item_pieces : FormSaid → List Piece
 item_pieces form = flat_map (λ item. item) form.items
 
-abbrev pub forms_hints : (own asks : List ℕ → Bool) → List FormSaid → List HintSaid
-forms_hints own asks forms = flat_map (usage_piece_hints own asks) (flat_map item_pieces forms)
+abbrev pub forms_hints : (own is_help_word : List ℕ → Bool) → List FormSaid → List HintSaid
+forms_hints own is_help_word forms = flat_map (usage_piece_hints own is_help_word) (flat_map item_pieces forms)
 
 abbrev pub usage_hints : Around → (text : List ℕ) → (own : List (List ℕ)) → List HintSaid
-usage_hints a text own = forms_hints (is_among own) a.asks (text_forms a.fixed text)
+usage_hints a text own = forms_hints (is_among own) a.is_help_word (text_forms a.fixed text)
 
 -- ---- names that an option shares with one that asks for help
 
--- an option that does not ask for help is shown under no name of one that does; `helping` tells whether one does
+-- an option that does not ask for help is shown under no name of one that does; `is_help_name` tells whether one does
 abbrev pub shared_name : Option (List ℕ) → List HintSaid
 shared_name None = []
 shared_name (Some name) = help_name name ∷ []
 
-abbrev pub level_name_hints : (helping : List ℕ → Bool) → OptSaid → List HintSaid
-level_name_hints helping o = shared_name (find helping (shown_names o))
+abbrev pub level_name_hints : (is_help_name : List ℕ → Bool) → OptSaid → List HintSaid
+level_name_hints is_help_name o = shared_name (find is_help_name (shown_names o))
 
-abbrev pub shared_hints : (helping : List ℕ → Bool) → Standing → OptSaid → List HintSaid
-shared_hints helping ForHelp o = []
-shared_hints helping InUsage o = level_name_hints helping o
-shared_hints helping OutsideUsage o = level_name_hints helping o
+abbrev pub shared_hints : (is_help_name : List ℕ → Bool) → Standing → OptSaid → List HintSaid
+shared_hints is_help_name ForHelp o = []
+shared_hints is_help_name InUsage o = level_name_hints is_help_name o
+shared_hints is_help_name OutsideUsage o = level_name_hints is_help_name o
 
 abbrev pub option_hints : Around → Standing → OptSaid → List HintSaid
-option_hints a standing o = help_hints o ++ width_hints standing o ++ shared_hints a.helping standing o
+option_hints a standing o = help_hints o ++ width_hints standing o ++ shared_hints a.is_help_name standing o
 
 -- ---- marks that pages set by themselves
 
@@ -238,15 +238,15 @@ page_hints section name =
     if is_file_name (manual_name section name) then name_hints (markdown_name name)
     else no_file_name (manual_name section name) ∷ []
 
-abbrev pub page_warnings : (section : List ℕ) → PageSaid → List WarningSaid
+abbrev pub page_warnings : (section : List ℕ) → PageSiteSaid → List WarningSaid
 page_warnings section p = about_path p.path (page_hints section p.name)
 
 -- what the name of a page is compared by
-abbrev pub page_key : PageSaid → List ℕ
+abbrev pub page_key : PageSiteSaid → List ℕ
 page_key p = name_key p.name
 
 -- each that some folders take for one before it, of which these are the keys
-abbrev pub alike_warnings : (before : List (List ℕ)) → List PageSaid → List WarningSaid
+abbrev pub alike_warnings : (before : List (List ℕ)) → List PageSiteSaid → List WarningSaid
 alike_warnings before [] = []
 alike_warnings before (own ∷ others) =
     about_path own.path (hint_if (is_among before (page_key own)) (alike_name own.name))
@@ -277,14 +277,14 @@ part_warnings a path (application_part about) = application_warnings path about
 part_warnings a path (option_part o standing) = option_warnings a path standing o
 part_warnings a path (positional_part p) = positional_warnings path p
 part_warnings a path (command_part hidden help about) = command_warnings path hidden help about
-part_warnings a path (text_part said) = about_path path (text_hints a.has said)
+part_warnings a path (text_part said) = about_path path (text_hints a.is_option_word said)
 part_warnings a path (usage_part text own) = about_path path (usage_hints a text own)
 
 abbrev pub site_warnings : Around → SiteSaid → List WarningSaid
 site_warnings a s = part_warnings a s.path s.part
 
 abbrev pub around : DescriptionSaid → Around
-around d = record { fixed = d.words; has = is_among (known_words (sites d)); asks = is_among (options_words d.help_options); helping = is_among (options_names d.help_options) }
+around d = record { fixed = d.words; is_option_word = is_among (known_words (sites d)); is_help_word = is_among (options_words d.help_options); is_help_name = is_among (options_names d.help_options) }
 
 -- the hints about a description: those about each part in its turn, then those about names with two helps, and those
 -- about names of files

@@ -6,7 +6,7 @@ use Rattle.keyed.specs.declared.step.Step.{Step}
 use Rattle.keyed.specs.declared.step.Step.TheVariants.{Key, Index}
 use Rattle.description.specs.View.{opt_said, positional_said, text_of}
 use Rattle.description.specs.Words as of_words
-use Rattle.description_hints.specs.Content.{Around, HelpSaid, StepSaid, key, index, Path, HintSaid, no_help, nothing_said, no_about, two_sentences, wide_summary, no_such_option, plain_link, wide_item, not_on_level, different_help, no_file_name, alike_name, help_name, marked_value, bracketed_name, unlisted_default, PageSaid, WarningSaid, PartSaid, application_part, option_part, positional_part, command_part, text_part, usage_part, SiteSaid}
+use Rattle.description_hints.specs.Content.{Around, HelpSaid, StepSaid, key, index, Path, HintSaid, no_help, nothing_said, no_about, two_sentences, wide_summary, no_such_option, plain_link, wide_item, not_on_level, different_help, no_file_name, alike_name, help_name, marked_value, bracketed_name, unlisted_default, PageSiteSaid, WarningSaid, PartSaid, application_part, option_part, positional_part, command_part, text_part, usage_part, SiteSaid}
 use Rattle.description_hints.specs.declared.around.Around as of_around
 use Rattle.description_hints.specs.declared.helps.NamedHelp.{NamedHelp}
 use Rattle.description_hints.specs.declared.hints.Hint.{Hint}
@@ -65,10 +65,10 @@ abbrev pub holds : Known → (word : List ℕ) → Bool
 holds known word = list_any (λ held. bytes_eq word held.now) known.words.keys
 
 abbrev pub around_said : of_around.Around → Around
-around_said a = record { fixed = of_words.words_said a.fixed; has = holds a.known; asks = holds a.asking; helping = holds a.helping }
+around_said a = record { fixed = of_words.words_said a.fixed; is_option_word = holds a.option_words; is_help_word = holds a.help_words; is_help_name = holds a.help_names }
 
 abbrev pub help_said : NamedHelp → HelpSaid
 help_said h = record { name = h.name.now; help = h.help.now; path = path_said h.path.now }
 
-abbrev pub page_said : PageSite → PageSaid
-page_said p = record { path = path_said p.path.now; name = p.name.now }
+abbrev pub page_site_said : PageSite → PageSiteSaid
+page_site_said p = record { path = path_said p.path.now; name = p.name.now }

@@ -110,12 +110,12 @@ fn push_site<'p>(arena: &'p Bump, helps: &mut Helps<'p>, site: &Site<'p>) -> Res
         ≡ map help_said helps.old.items ++ site_helps (site_said site.now)) }
 {
     match site.part {
-        Part::Option(option, _) => push_option(arena, helps, site.path, option),
+        Part::Option { option, .. } => push_option(arena, helps, site.path, option),
         Part::Application(_)
         | Part::Positional(_)
-        | Part::Command(_, _, _)
+        | Part::Command { .. }
         | Part::Text(_)
-        | Part::Usage(_, _) => Ok(()),
+        | Part::Usage { .. } => Ok(()),
     }
 }
 

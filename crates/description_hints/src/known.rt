@@ -71,7 +71,7 @@ fn push_long<'p>(words: &mut Words<'p>, long: &'p str) -> Result<(), AllocError>
     Ok(())
 }
 
-fn push_name<'p>(arena: &'p Bump, words: &mut Words<'p>, name: Name) -> Result<(), AllocError>
+fn push_name_words<'p>(arena: &'p Bump, words: &mut Words<'p>, name: Name) -> Result<(), AllocError>
     ensures { OnOk result (words_said words.new.items ≡ words_said words.old.items ++ name_words (name_said name)) }
 {
     match name {
@@ -106,20 +106,20 @@ fn split_word(text: &[u8]) -> Option<(&[u8], &[u8])>
     }
 }
 
-fn push_syntax<'p>(words: &mut Words<'p>, syntax: &'p [u8]) -> Result<(), AllocError>
+fn push_syntax_words<'p>(words: &mut Words<'p>, syntax: &'p [u8]) -> Result<(), AllocError>
     ensures { OnOk result (words_said words.new.items ≡ words_said words.old.items ++ syntax_words syntax.now) }
 {
     let mut rest = syntax;
-    while let Some((word, behind)) = split_word(rest) {
+    while let Some((word, after)) = split_word(rest) {
         words.push(without_dashes(word))?;
-        rest = behind;
+        rest = after;
     }
     words.push(without_dashes(rest))?;
     Ok(())
 }
 
 /// Puts the words that an option is called by.
-pub fn push_spelling<'p>(
+pub fn push_spelling_words<'p>(
     arena: &'p Bump,
     words: &mut Words<'p>,
     spelling: Spelling<'p>,
@@ -128,22 +128,26 @@ pub fn push_spelling<'p>(
         ≡ words_said words.old.items ++ spelling_words (spelling_said spelling.entry)) }
 {
     match spelling {
-        Spelling::Names(name) => push_name(arena, words, name),
-        Spelling::Syntax(text) => push_syntax(words, text.as_bytes()),
+        Spelling::Names(name) => push_name_words(arena, words, name),
+        Spelling::Syntax(text) => push_syntax_words(words, text.as_bytes()),
     }
 }
 
-fn push_part<'p>(arena: &'p Bump, words: &mut Words<'p>, part: Part<'p>) -> Result<(), AllocError>
+fn push_part_words<'p>(
+    arena: &'p Bump,
+    words: &mut Words<'p>,
+    part: Part<'p>,
+) -> Result<(), AllocError>
     ensures { OnOk result (words_said words.new.items
         ≡ words_said words.old.items ++ part_words (part_said part.entry)) }
 {
     match part {
-        Part::Option(option, _) => push_spelling(arena, words, option.spelling),
+        Part::Option { option, .. } => push_spelling_words(arena, words, option.spelling),
         Part::Application(_)
         | Part::Positional(_)
-        | Part::Command(_, _, _)
+        | Part::Command { .. }
         | Part::Text(_)
-        | Part::Usage(_, _) => Ok(()),
+        | Part::Usage { .. } => Ok(()),
     }
 }
 
@@ -152,21 +156,21 @@ fn words_of<'p>(arena: &'p Bump, sites: &[Site<'p>]) -> Result<Words<'p>, AllocE
 {
     let mut words: Words<'p> = Vec::new(arena);
     for site in sites {
-        push_part(arena, &mut words, site.part)?;
+        push_part_words(arena, &mut words, site.part)?;
     }
     Ok(words)
 }
 
-// ---- whether an option is called so
+// ---- sets of words
 
-/// Words that options are called by.
+/// A set of words, as those that options are called by.
 #[derive(Drop)]
 pub struct Known<'p> {
     pub words: BTreeSet<&'p [u8], &'p Bump>,
 }
 
 /// A set of these words. An error comes only where an allocation failed.
-pub fn known_in<'p>(arena: &'p Bump, words: &[&'p [u8]]) -> Result<Known<'p>, AllocError>
+pub fn set_of<'p>(arena: &'p Bump, words: &[&'p [u8]]) -> Result<Known<'p>, AllocError>
     ensures { IfOk result (λ known. (word : List ℕ) → holds known word ≡ is_among (words_said words.now) word) }
 {
     let mut set = BTreeSet::new(arena);
@@ -183,7 +187,7 @@ impl<'p> Known<'p> {
             → holds known word ≡ is_among (known_words (map site_said sites.now)) word) }
     {
         let words = words_of(arena, sites)?;
-        known_in(arena, words.as_slice())
+        set_of(arena, words.as_slice())
     }
 
     /// Puts a word. An error comes only where an allocation failed.

@@ -4,7 +4,7 @@ ghost use Rattle.description.specs.View.{choice_said, group_said, level_said, op
 ghost use Rattle.description_hints.specs.Names.{choices_words, group_words, level_words, options_words};
 ghost use Rattle.description_hints.specs.View.{words_said};
 
-use crate::known::{Words, push_spelling};
+use crate::known::{Words, push_spelling_words};
 use bumpalo::Bump;
 use bumpalo::collections::into_bump_slice;
 use description::{Choice, Group, Level, Opt};
@@ -20,7 +20,7 @@ pub fn push_options<'p>(
         ≡ words_said words.old.items ++ options_words (map opt_said options.now)) }
 {
     for option in options {
-        push_spelling(arena, words, option.spelling)?;
+        push_spelling_words(arena, words, option.spelling)?;
     }
     Ok(())
 }

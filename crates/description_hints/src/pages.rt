@@ -3,7 +3,7 @@ ghost use Rattle.std.specs.Prelude.{◌≡◌, ◌++◌, map, IfOk, OnOk};
 ghost use Rattle.description.specs.View.{command_said, commands_said, description_said, group_said, groups_said, level_said};
 ghost use Rattle.description_hints.specs.Pages.{command_pages, commands_pages, group_pages, groups_pages};
 ghost use Rattle.description_hints.specs.Pages.{page_below, pages, pages_below};
-ghost use Rattle.description_hints.specs.View.{page_said, path_said};
+ghost use Rattle.description_hints.specs.View.{page_site_said, path_said};
 
 use crate::sites::table_in;
 use bumpalo::Bump;
@@ -40,7 +40,7 @@ fn push_below<'p, 'a: 'p, C: Allocator>(
     above: &'p str,
     level: &'p Level<'a, C>,
 ) -> Result<(), AllocError>
-    ensures { OnOk result (map page_said pages.new.items ≡ map page_said pages.old.items
+    ensures { OnOk result (map page_site_said pages.new.items ≡ map page_site_said pages.old.items
         ++ pages_below (path_said path.now) above.now (level_said level.now)) }
 {
     push_groups(arena, pages, path, above, &level.groups)?;
@@ -55,7 +55,7 @@ fn push_groups<'p, 'a: 'p, C: Allocator>(
     above: &'p str,
     groups: &'p Vec<Group<'a, C>, C>,
 ) -> Result<(), AllocError>
-    ensures { OnOk result (map page_said pages.new.items ≡ map page_said pages.old.items
+    ensures { OnOk result (map page_site_said pages.new.items ≡ map page_site_said pages.old.items
         ++ groups_pages (path_said path.now) above.now 0 (groups_said groups.now.items)) }
 {
     for (at, group) in groups.iter().enumerate() {
@@ -73,7 +73,7 @@ fn push_group<'p, 'a: 'p, C: Allocator>(
     above: &'p str,
     group: &'p Group<'a, C>,
 ) -> Result<(), AllocError>
-    ensures { OnOk result (map page_said pages.new.items ≡ map page_said pages.old.items
+    ensures { OnOk result (map page_site_said pages.new.items ≡ map page_site_said pages.old.items
         ++ group_pages (path_said path.now) above.now (group_said group.now)) }
 {
     push_commands(arena, pages, path, above, &group.commands)
@@ -87,7 +87,7 @@ fn push_commands<'p, 'a: 'p, C: Allocator>(
     above: &'p str,
     commands: &'p Vec<Command<'a, C>, C>,
 ) -> Result<(), AllocError>
-    ensures { OnOk result (map page_said pages.new.items ≡ map page_said pages.old.items
+    ensures { OnOk result (map page_site_said pages.new.items ≡ map page_site_said pages.old.items
         ++ commands_pages (path_said path.now) above.now 0 (commands_said commands.now.items)) }
 {
     for (at, command) in commands.iter().enumerate() {
@@ -105,7 +105,7 @@ fn push_command<'p, 'a: 'p, C: Allocator>(
     above: &'p str,
     command: &'p Command<'a, C>,
 ) -> Result<(), AllocError>
-    ensures { OnOk result (map page_said pages.new.items ≡ map page_said pages.old.items
+    ensures { OnOk result (map page_site_said pages.new.items ≡ map page_site_said pages.old.items
         ++ command_pages (path_said path.now) above.now (command_said command.now)) }
 {
     if command.hidden {
@@ -121,7 +121,7 @@ pub fn pages<'p, 'a: 'p, C: Allocator>(
     arena: &'p Bump,
     description: &'p Description<'a, C>,
 ) -> Result<Pages<'p>, AllocError>
-    ensures { IfOk result (λ found. map page_said found.items ≡ pages (description_said description.now)) }
+    ensures { IfOk result (λ found. map page_site_said found.items ≡ pages (description_said description.now)) }
 {
     let mut found: Pages<'p> = Vec::new(arena);
     let path: &'p [Step<'p>] = into_bump_slice(Vec::new(arena));

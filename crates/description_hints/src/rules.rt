@@ -15,7 +15,7 @@ ghost use Rattle.description_hints.specs.View.{words_said};
 use crate::around::Around;
 use crate::defaults::push_default;
 use crate::hints::{Hint, Warning};
-use crate::known::{Known, known_in};
+use crate::known::{Known, set_of};
 use crate::marks::{push_marks, push_word};
 use crate::pieces::{item_pieces, pieces_of};
 use crate::shared::shared_name;
@@ -190,17 +190,17 @@ fn push_text<'p>(
 fn push_usage_piece<'p>(
     found: &mut Warnings<'p>,
     own: &Known<'p>,
-    asking: &Known<'p>,
+    help_words: &Known<'p>,
     path: &'p [Step<'p>],
     piece: Inline<'p>,
 ) -> Result<(), AllocError>
     ensures { OnOk result (map warning_said found.new.items ≡ map warning_said found.old.items
-        ++ about_path (path_said path.now) (usage_piece_hints (holds own.now) (holds asking.now) (piece_of piece.entry))) }
+        ++ about_path (path_said path.now) (usage_piece_hints (holds own.now) (holds help_words.now) (piece_of piece.entry))) }
 {
     match piece {
         Inline::Literal(text) => {
             let name = text.as_bytes();
-            let is_of_none = own.is_no_option(name) && asking.is_no_option(name);
+            let is_of_none = own.is_no_option(name) && help_words.is_no_option(name);
             push_if(found, path, is_of_none, Hint::NotOnLevel(text))
         }
         Inline::Words(_) | Inline::Value(_) | Inline::Link(_) | Inline::Page(_) => Ok(()),
@@ -210,16 +210,16 @@ fn push_usage_piece<'p>(
 fn push_usage_pieces<'p>(
     found: &mut Warnings<'p>,
     own: &Known<'p>,
-    asking: &Known<'p>,
+    help_words: &Known<'p>,
     path: &'p [Step<'p>],
     pieces: &[Inline<'p>],
 ) -> Result<(), AllocError>
     ensures { OnOk result (map warning_said found.new.items ≡ map warning_said found.old.items
         ++ about_path (path_said path.now)
-        (flat_map (usage_piece_hints (holds own.now) (holds asking.now)) (line_of pieces.now))) }
+        (flat_map (usage_piece_hints (holds own.now) (holds help_words.now)) (line_of pieces.now))) }
 {
     for piece in pieces {
-        push_usage_piece(found, own, asking, path, *piece)?;
+        push_usage_piece(found, own, help_words, path, *piece)?;
     }
     Ok(())
 }
@@ -228,15 +228,15 @@ fn push_forms<'p>(
     arena: &'p Bump,
     found: &mut Warnings<'p>,
     own: &Known<'p>,
-    asking: &Known<'p>,
+    help_words: &Known<'p>,
     path: &'p [Step<'p>],
     forms: &[Form<'p, &'p Bump>],
 ) -> Result<(), AllocError>
     ensures { OnOk result (map warning_said found.new.items ≡ map warning_said found.old.items
-        ++ about_path (path_said path.now) (forms_hints (holds own.now) (holds asking.now) (map form_of forms.now))) }
+        ++ about_path (path_said path.now) (forms_hints (holds own.now) (holds help_words.now) (map form_of forms.now))) }
 {
     let pieces = item_pieces(arena, forms)?;
-    push_usage_pieces(found, own, asking, path, pieces.as_slice())
+    push_usage_pieces(found, own, help_words, path, pieces.as_slice())
 }
 
 fn push_usage<'p>(
@@ -250,9 +250,16 @@ fn push_usage<'p>(
     ensures { OnOk result (map warning_said found.new.items ≡ map warning_said found.old.items
         ++ about_path (path_said path.now) (usage_hints (around_said around.now) text.now (words_said words.now))) }
 {
-    let own = known_in(arena, words)?;
+    let own = set_of(arena, words)?;
     let forms = text_forms(arena, &around.fixed, text)?;
-    push_forms(arena, found, &own, &around.asking, path, forms.as_slice())
+    push_forms(
+        arena,
+        found,
+        &own,
+        &around.help_words,
+        path,
+        forms.as_slice(),
+    )
 }
 
 // How many columns a usage takes to show an option alone.
@@ -301,14 +308,14 @@ fn push_width<'p>(
 fn push_level_name<'p>(
     arena: &'p Bump,
     found: &mut Warnings<'p>,
-    helping: &Known<'p>,
+    help_names: &Known<'p>,
     path: &'p [Step<'p>],
     option: &Opt<'p>,
 ) -> Result<(), AllocError>
     ensures { OnOk result (map warning_said found.new.items ≡ map warning_said found.old.items
-        ++ about_path (path_said path.now) (level_name_hints (holds helping.now) (opt_said option.now))) }
+        ++ about_path (path_said path.now) (level_name_hints (holds help_names.now) (opt_said option.now))) }
 {
-    match shared_name(arena, helping, option)? {
+    match shared_name(arena, help_names, option)? {
         Some(name) => push_if(found, path, true, Hint::HelpName(name)),
         None => Ok(()),
     }
@@ -317,18 +324,18 @@ fn push_level_name<'p>(
 fn push_shared<'p>(
     arena: &'p Bump,
     found: &mut Warnings<'p>,
-    helping: &Known<'p>,
+    help_names: &Known<'p>,
     path: &'p [Step<'p>],
     option: &Opt<'p>,
     standing: Standing,
 ) -> Result<(), AllocError>
     ensures { OnOk result (map warning_said found.new.items ≡ map warning_said found.old.items
-        ++ about_path (path_said path.now) (shared_hints (holds helping.now) standing (opt_said option.now))) }
+        ++ about_path (path_said path.now) (shared_hints (holds help_names.now) standing (opt_said option.now))) }
 {
     match standing {
         Standing::ForHelp => Ok(()),
         Standing::InUsage | Standing::OutsideUsage => {
-            push_level_name(arena, found, helping, path, option)
+            push_level_name(arena, found, help_names, path, option)
         }
     }
 }
@@ -362,7 +369,7 @@ fn push_own<'p>(
     let is_missing = !option.hidden && is_missing(option.help);
     push_if(found, path, is_missing, Hint::NoHelp)?;
     push_width(arena, found, path, option, standing)?;
-    push_shared(arena, found, &around.helping, path, option, standing)
+    push_shared(arena, found, &around.help_names, path, option, standing)
 }
 
 fn push_option<'p>(
@@ -425,14 +432,18 @@ pub fn push_part<'p>(
 {
     match part {
         Part::Application(about) => push_application(arena, found, path, about),
-        Part::Option(option, standing) => {
+        Part::Option { option, standing } => {
             push_option(arena, found, around, path, &option, standing)
         }
         Part::Positional(positional) => push_positional(arena, found, path, &positional),
-        Part::Command(is_hidden, help, about) => {
-            push_command(arena, found, path, is_hidden, help, about)
+        Part::Command {
+            is_hidden,
+            help,
+            about,
+        } => push_command(arena, found, path, is_hidden, help, about),
+        Part::Text(text) => push_text(arena, found, &around.option_words, path, text),
+        Part::Usage { text, own_words } => {
+            push_usage(arena, found, around, path, text, own_words)
         }
-        Part::Text(text) => push_text(arena, found, &around.known, path, text),
-        Part::Usage(text, own) => push_usage(arena, found, around, path, text, own),
     }
 }

@@ -34,15 +34,22 @@ pub enum Standing {
 pub enum Part<'p> {
     /// The application, by what is said about it.
     Application(Option<&'p str>),
-    /// An option, and where it stands.
-    Option(Opt<'p>, Standing),
-    /// A positional value.
+    Option {
+        option: Opt<'p>,
+        standing: Standing,
+    },
     Positional(Positional<'p>),
-    /// A command, by whether it is hidden, its help, and what is said about it.
-    Command(bool, Option<&'p str>, Option<&'p str>),
+    Command {
+        is_hidden: bool,
+        help: Option<&'p str>,
+        about: Option<&'p str>,
+    },
     Text(&'p str),
     /// A text in place of a usage, and the words that the options of its level are called by.
-    Usage(&'p str, &'p [&'p [u8]]),
+    Usage {
+        text: &'p str,
+        own_words: &'p [&'p [u8]],
+    },
 }
 
 /// Such a part, and the way to it.
@@ -118,7 +125,10 @@ fn push_usage<'p, 'a: 'p, C: Allocator>(
 {
     if let Some(text) = level.usage {
         let path = under(arena, path, "usage")?;
-        let part = Part::Usage(text, level_words(arena, level)?);
+        let part = Part::Usage {
+            text,
+            own_words: level_words(arena, level)?,
+        };
         sites.push(Site { path, part })?;
     }
     Ok(())
@@ -168,7 +178,10 @@ fn push_option<'p>(
     ensures { OnOk result (map site_said sites.new.items
         ≡ map site_said sites.old.items ++ option_sites standing (path_said path.now) (opt_said option.now)) }
 {
-    let part = Part::Option(*option, standing);
+    let part = Part::Option {
+        option: *option,
+        standing,
+    };
     sites.push(Site { path, part })?;
     push_text(arena, sites, path, "help", option.help)
 }
@@ -357,7 +370,11 @@ fn push_command<'p, 'a: 'p, C: Allocator>(
     ensures { OnOk result (map site_said sites.new.items
         ≡ map site_said sites.old.items ++ command_sites (path_said path.now) (command_said command.now)) }
 {
-    let part = Part::Command(command.hidden, command.help, command.level.about);
+    let part = Part::Command {
+        is_hidden: command.hidden,
+        help: command.help,
+        about: command.level.about,
+    };
     sites.push(Site { path, part })?;
     push_text(arena, sites, path, "help", command.help)?;
     push_level(arena, sites, path, &command.level)

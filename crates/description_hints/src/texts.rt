@@ -1,7 +1,7 @@
 //! A paragraph as one text, and whether it has more than one sentence.
 ghost use Rattle.std.specs.Prelude.{◌≡◌, ◌++◌, flat_map, map, string_bytes, IfOk, OnOk};
 ghost use Rattle.page_model.specs.View.{line_of, piece_of};
-ghost use Rattle.description_hints.specs.Texts.{begins_turn, behind_blank, has_turn, line_text, paragraph_text};
+ghost use Rattle.description_hints.specs.Texts.{begins_turn, after_blank, has_turn, line_text, paragraph_text};
 ghost use Rattle.description_hints.specs.Texts.{piece_text};
 
 use page_model::{Inline, Line};
@@ -42,7 +42,7 @@ fn push_others<'p, A: Allocator, B: Allocator>(
     lines: &[Line<'p, B>],
 ) -> Result<(), AllocError>
     ensures { OnOk result (string_bytes text.new ≡ string_bytes text.old
-        ++ flat_map behind_blank (map (λ line. line_of line.items) lines.now)) }
+        ++ flat_map after_blank (map (λ line. line_of line.items) lines.now)) }
 {
     for line in lines {
         text.push_str(" ")?;
@@ -83,11 +83,11 @@ pub fn has_turn(bytes: &[u8]) -> bool
     ensures { result ≡ has_turn bytes.now }
 {
     let mut rest = bytes;
-    while let Some((_, behind)) = rest.split_first() {
+    while let Some((_, after)) = rest.split_first() {
         if begins_turn(rest) {
             return true;
         }
-        rest = behind;
+        rest = after;
     }
     false
 }

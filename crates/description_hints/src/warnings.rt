@@ -5,7 +5,7 @@ ghost use Rattle.description_hints.specs.Hints.{site_warnings, warnings};
 ghost use Rattle.description_hints.specs.View.{around_said, site_said, warning_said};
 
 use crate::around::{Around, around_of};
-use crate::files::push_files;
+use crate::files::push_file_hints;
 use crate::helps::push_all_different;
 use crate::hints::Warning;
 use crate::rules::{Warnings, push_part};
@@ -44,6 +44,6 @@ pub fn warnings_of<'p, 'a: 'p, C: Allocator>(
     let around = around_of(arena, description, sites.as_slice())?;
     let mut found = warnings_at(arena, &around, sites.as_slice())?;
     push_all_different(arena, &mut found, sites.as_slice())?;
-    push_files(arena, global, &mut found, description)?;
+    push_file_hints(arena, global, &mut found, description)?;
     Ok(found)
 }

@@ -290,17 +290,17 @@ fn is_command(rt: &impl Abort, out: Global, row: (&str, &str, &str, &str)) -> bo
     match command_front(out, line).expect(rt, "a command") {
         None => false,
         Some(front) => front.name == name
-            && are_behind(&front.aliases, aliases)
+            && are_after(&front.aliases, aliases)
             && front.help == help,
     }
 }
 
 // Whether a text is some words with a blank after each.
-fn are_behind(words: &[&str], text: &str) -> bool {
+fn are_after(words: &[&str], text: &str) -> bool {
     let mut rest = text;
     for word in words {
         match rest.split_once(' ') {
-            Some((front, behind)) if front == *word => rest = behind,
+            Some((front, after)) if front == *word => rest = after,
             _ => return false,
         }
     }

@@ -169,8 +169,8 @@ fn are_described(rt: &impl Abort, out: Global, arena: &Bump) -> Result<bool, All
 
 const PRINTED: HelpText<'static> = HelpText {
     printed: "Usage: app [--far]\n\nOptions:\n  \u{1b}[1m-h\u{1b}[0m\n      --near  Help\n\nCommands:\n  go  Help\n",
-    name: "help.txt",
-    file: "app.toml",
+    help_name: "help.txt",
+    description_name: "app.toml",
 };
 
 const LINES: &str = "option --edit: in app.toml, not in help.txt
@@ -205,8 +205,8 @@ fn is_alike(
     let help = [Opt::flag('h', "help")];
     let text = HelpText {
         printed,
-        name: "help.txt",
-        file: "app.toml",
+        help_name: "help.txt",
+        description_name: "app.toml",
     };
     Ok(
         difference_text(arena, arena, text, &help, &level)?

@@ -33,25 +33,25 @@ pub long_cut : (n : List ℕ) → is_long n ≡ true → IsUtf8 n → IsCharBoun
 long_cut n h utf8 = IsCharBoundary-after_ascii n 1 utf8 (long_size n h) (long_second n h)
 
 -- after a byte of ASCII
-behind_ascii : (t : List ℕ) (i b : ℕ) → get_or t i 0 ≡ b → 0 < b → b < 128 → IsUtf8 t → IsCharBoundary t (i + 1)
-behind_ascii t i b e above small utf8 = IsCharBoundary-after_ascii t i utf8 (stands t i b e above) (omega arith)
+after_ascii : (t : List ℕ) (i b : ℕ) → get_or t i 0 ≡ b → 0 < b → b < 128 → IsUtf8 t → IsCharBoundary t (i + 1)
+after_ascii t i b e above small utf8 = IsCharBoundary-after_ascii t i utf8 (stands t i b e above) (omega arith)
 
 pub quote_cut : (t : List ℕ) → get_or t 0 0 ≡ 34 → IsUtf8 t → IsCharBoundary t 1
-quote_cut t e utf8 = behind_ascii t 0 34 e (omega arith) (omega arith) utf8
+quote_cut t e utf8 = after_ascii t 0 34 e (omega arith) (omega arith) utf8
 
 pub colon_cut : (t : List ℕ) → get_or t 0 0 ≡ 58 → IsUtf8 t → IsCharBoundary t 1
-colon_cut t e utf8 = behind_ascii t 0 58 e (omega arith) (omega arith) utf8
+colon_cut t e utf8 = after_ascii t 0 58 e (omega arith) (omega arith) utf8
 
 or_third : (t : List ℕ) → has_or t ≡ true → get_or t 2 0 ≡ 58
 or_third t h = grind (arith, nat_tests)
 
 pub or_cut : (t : List ℕ) → has_or t ≡ true → IsUtf8 t → IsCharBoundary t 3
-or_cut t h utf8 = behind_ascii t 2 58 (or_third t h) (omega arith) (omega arith) utf8
+or_cut t h utf8 = after_ascii t 2 58 (or_third t h) (omega arith) (omega arith) utf8
 
 pub of_cut : (t : List ℕ) → bytes_eq (take 3 t) (codes "of ") ≡ true → IsUtf8 t → IsCharBoundary t 3
 of_cut t h utf8 =
     let same : take 3 t ≡ codes "of " = (bytes_eq-Decides (take 3 t) (codes "of ")).0 h in
-    behind_ascii t 2 32 (sym (get_or-take 3 t 2 0 (omega arith)) ∙ ap (λ s. get_or s 2 0) same) (omega arith) (omega arith) utf8
+    after_ascii t 2 32 (sym (get_or-take 3 t 2 0 (omega arith)) ∙ ap (λ s. get_or s 2 0) same) (omega arith) (omega arith) utf8
 
 pub slash_cut : (t : List ℕ) (n : ℕ) → IsUtf8 t → n ≤ length t → (0 < n → get_or t (n - 1) 0 ≡ 47) → IsCharBoundary t n
 slash_cut t zero utf8 within slash = IsCharBoundary-start t utf8

@@ -11,7 +11,7 @@ use Rattle.std.proofs.lemmas.Bool.Decides.{nat_tests}
 use Rattle.std.proofs.lemmas.List.{get_or-map, length-map, length-take, map-append, take-append-drop, take-take, take_min}
 use Rattle.std.proofs.lemmas.List.Sums.{suffix_len_is}
 use Rattle.std.proofs.lemmas.Slice.Eq.{bytes_eq-Decides}
-use Rattle.drafts.specs.Notes.{IsFront, NoteSaid, NotesSaid, after_last, behind, cut, cut_by, cut_from, joined, joined_line, last_note, split_last, with_note}
+use Rattle.drafts.specs.Notes.{IsFront, NoteSaid, NotesSaid, after_last, after, cut, cut_by, cut_from, joined, joined_line, last_note, split_last, with_note}
 
 -- ---- fronts
 
@@ -58,14 +58,14 @@ none_last c text none =
 is_false : (b : Bool) → (b ≡ true → ⊥) → b ≡ false
 is_false b h = grind arith
 
-pub begins : (beginning text : List ℕ) (n : ℕ) → n ≡ length beginning → text ≡ beginning ++ drop n text → behind beginning text ≡ Some (drop n text)
+pub begins : (beginning text : List ℕ) (n : ℕ) → n ≡ length beginning → text ≡ beginning ++ drop n text → after beginning text ≡ Some (drop n text)
 begins beginning text n e h =
     cond-true _ _ _ ((bytes_eq-Decides (take (length beginning) text) beginning).1 (ap (take (length beginning)) h ∙ take-append_seam beginning (drop n text))) ∙ ap (λ k. Some (drop k text)) (sym e)
 
-pub begins_not : (beginning text : List ℕ) → ((rest : List ℕ) → text ≢ beginning ++ rest) → behind beginning text ≡ None
+pub begins_not : (beginning text : List ℕ) → ((rest : List ℕ) → text ≢ beginning ++ rest) → after beginning text ≡ None
 begins_not beginning text h = cond-false _ _ _ (is_false _ (λ e. h (drop (length beginning) text) (sym (take-append-drop (length beginning) text) ∙ ap (λ front. front ++ drop (length beginning) text) ((bytes_eq-Decides (take (length beginning) text) beginning).0 e))))
 
-pub prefix_is : (beginning text : List ℕ) (r : Option (Bor (List ℕ))) → MatchOption r (FindsTextPrefix beginning text None) (λ x. StripsPrefix (FindsTextPrefix beginning) text x.now) → text_of r ≡ behind beginning text
+pub prefix_is : (beginning text : List ℕ) (r : Option (Bor (List ℕ))) → MatchOption r (FindsTextPrefix beginning text None) (λ x. StripsPrefix (FindsTextPrefix beginning) text x.now) → text_of r ≡ after beginning text
 prefix_is beginning text None h = sym (begins_not beginning text h)
 prefix_is beginning text (Some x) h = ap Some h.2 ∙ sym (begins beginning text h.0 h.1.0 h.1.1)
 

@@ -10,9 +10,9 @@ use Rattle.help_fronts.specs.Laws.{IsTextOf}
 use Rattle.help_fronts.proofs.Texts.{dropped, itself, taken, within}
 use Rattle.drafts.specs.Seen.{last, without_colon}
 use Rattle.drafts.specs.Texts.{first_word}
-use Rattle.drafts.specs.Usages.{FormSaid, behind, behind_colon, behind_of, behind_word, first_form, form, form_in, further_form, has_or, last_part}
+use Rattle.drafts.specs.Usages.{FormSaid, after, after_colon, after_of, after_word, first_form, form, form_in, further_form, has_or, last_part}
 use Rattle.drafts.specs.Laws.{FormsStandInTheirLine, IsFormOf}
-use Rattle.drafts.proofs.Boundaries.{behind_letters}
+use Rattle.drafts.proofs.Boundaries.{after_letters}
 use Rattle.drafts.proofs.Cuts.{colon_cut, of_cut, or_cut}
 use Rattle.drafts.proofs.Trims.{trimmed}
 
@@ -36,18 +36,18 @@ trim_keeps text utf8 = record { stands = (trimmed text utf8).stands; utf8 = (tri
 same_keeps : (text : List ℕ) → IsUtf8 text → IsUtf8TextOf text text
 same_keeps text utf8 = record { stands = itself text; utf8 = utf8 }
 
-behind_keeps : (n : ℕ) (text : List ℕ) → IsUtf8 text → IsCharBoundary text n → IsUtf8TextOf text (behind n text)
-behind_keeps n text utf8 cut =
+after_keeps : (n : ℕ) (text : List ℕ) → IsUtf8 text → IsCharBoundary text n → IsUtf8TextOf text (after n text)
+after_keeps n text utf8 cut =
     let trims = trimmed (drop n text) (IsUtf8-drop text n utf8 cut) in
-    record { stands = within text (drop n text) (behind n text) (dropped n text) trims.stands; utf8 = trims.utf8 }
+    record { stands = within text (drop n text) (after n text) (dropped n text) trims.stands; utf8 = trims.utf8 }
 
-word_keeps : Keeps behind_word
-word_keeps text utf8 = behind_keeps (prefix_len is_ascii_alphabetic text) text utf8 (behind_letters text (prefix_len is_ascii_alphabetic text) refl utf8)
+word_keeps : Keeps after_word
+word_keeps text utf8 = after_keeps (prefix_len is_ascii_alphabetic text) text utf8 (after_letters text (prefix_len is_ascii_alphabetic text) refl utf8)
 
-colon_keeps : Keeps behind_colon
+colon_keeps : Keeps after_colon
 colon_keeps text utf8 = by (slice_index text 0 == 58) refl where
-  by : (t : Bool) → (slice_index text 0 == 58) ≡ t → IsUtf8TextOf text (cond t (behind 1 text) text)
-  by true e = behind_keeps 1 text utf8 (colon_cut text (eqb-true (slice_index text 0) 58 e) utf8)
+  by : (t : Bool) → (slice_index text 0 == 58) ≡ t → IsUtf8TextOf text (cond t (after 1 text) text)
+  by true e = after_keeps 1 text utf8 (colon_cut text (eqb-true (slice_index text 0) 58 e) utf8)
   by false e = same_keeps text utf8
 
 without_colon_stands : (text : List ℕ) → IsTextOf text (without_colon text)
@@ -56,22 +56,22 @@ without_colon_stands text = by (last text == 58) where
   by true = taken (length text - 1) text
   by false = itself text
 
-of_stands : (text : List ℕ) → IsUtf8 text → IsTextOf text (behind_of text)
+of_stands : (text : List ℕ) → IsUtf8 text → IsTextOf text (after_of text)
 of_stands text utf8 = by (bytes_eq (take 3 text) (codes "of ")) refl where
-  by : (t : Bool) → bytes_eq (take 3 text) (codes "of ") ≡ t → IsTextOf text (cond t (without_colon (behind 3 text)) text)
-  by true e = within text (behind 3 text) (without_colon (behind 3 text)) (behind_keeps 3 text utf8 (of_cut text e utf8)).stands (without_colon_stands (behind 3 text))
+  by : (t : Bool) → bytes_eq (take 3 text) (codes "of ") ≡ t → IsTextOf text (cond t (without_colon (after 3 text)) text)
+  by true e = within text (after 3 text) (without_colon (after 3 text)) (after_keeps 3 text utf8 (of_cut text e utf8)).stands (without_colon_stands (after 3 text))
   by false e = itself text
 
 first_stands : (line : List ℕ) → IsUtf8 line → IsTextOf line (first_form line).text
 first_stands line utf8 =
-    let front = then (λ text. behind_word (trim text)) behind_colon (then trim behind_word trim_keeps word_keeps) colon_keeps line utf8 in
-    let said = behind_colon (behind_word (trim line)) in
-    within line said (behind_of said) front.stands (of_stands said front.utf8)
+    let front = then (λ text. after_word (trim text)) after_colon (then trim after_word trim_keeps word_keeps) colon_keeps line utf8 in
+    let said = after_colon (after_word (trim line)) in
+    within line said (after_of said) front.stands (of_stands said front.utf8)
 
 form_stands : (text : List ℕ) → IsUtf8 text → IsTextOf text (form_in text).text
 form_stands text utf8 = by (has_or text) refl where
-  by : (t : Bool) → has_or text ≡ t → IsTextOf text (let f : FormSaid = cond t (form true (behind 3 text)) (form false text) in f.text)
-  by true e = (behind_keeps 3 text utf8 (or_cut text e utf8)).stands
+  by : (t : Bool) → has_or text ≡ t → IsTextOf text (let f : FormSaid = cond t (form true (after 3 text)) (form false text) in f.text)
+  by true e = (after_keeps 3 text utf8 (or_cut text e utf8)).stands
   by false e = itself text
 
 further_stands : (line : List ℕ) → IsUtf8 line → IsTextOf line (further_form line).text

@@ -25,8 +25,8 @@ byte_utf8 : (b : ℕ) → b < 128 → IsUtf8 (b ∷ [])
 byte_utf8 b ascii = IsUtf8-from_ascii (b ∷ []) (IsAscii-cons b [] ascii IsAscii-nil)
 
 -- a newline is no letter
-behind_newline : (text : List ℕ) → letters (10 ∷ text) ≡ letters text
-behind_newline text =
+after_newline : (text : List ℕ) → letters (10 ∷ text) ≡ letters text
+after_newline text =
     letters_append (10 ∷ []) text (byte_utf8 10 (omega arith)) ∙ ap (λ cs. filter is_not_whitespace cs ++ letters text) (chars-IsAscii (10 ∷ []) (IsAscii-cons 10 [] (omega arith) IsAscii-nil))
 
 -- ---- what is joined
@@ -47,7 +47,7 @@ below_whole [] u = ap (filter is_not_whitespace) chars-nil
 below_whole (l ∷ ls) u =
     let own = trimmed l (All-head IsUtf8 l ls u) in
     let rest = flat_map (joined_line (codes "\n")) ls in
-    behind_newline (trim l ++ rest) ∙ letters_append (trim l) rest own.utf8
+    after_newline (trim l ++ rest) ∙ letters_append (trim l) rest own.utf8
     ∙ one_more (letters (trim l)) (letters l) (letters rest) (flat_map letters ls) own.whole (below_whole ls (All-tail IsUtf8 l ls u))
 
 joined_whole : (ls : List (List ℕ)) → All IsUtf8 ls → letters (joined (codes "\n") ls) ≡ flat_map letters ls
@@ -79,7 +79,7 @@ one_part text k parts u within here split more =
     record {
       utf8 = All-cons IsUtf8 (take k text) parts front rest.utf8;
       whole =
-          ap (λ ls. letters (take k text) ++ ls) (rest.whole ∙ sym (behind_newline (drop (k + 1) text))) ∙ sym (letters_append (take k text) (10 ∷ drop (k + 1) text) front)
+          ap (λ ls. letters (take k text) ++ ls) (rest.whole ∙ sym (after_newline (drop (k + 1) text))) ∙ sym (letters_append (take k text) (10 ∷ drop (k + 1) text) front)
           ∙ ap (λ b. letters (take k text ++ (b ∷ drop (k + 1) text))) (sym here) ∙ ap letters (sym split);
     }
 

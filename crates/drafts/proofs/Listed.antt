@@ -82,8 +82,8 @@ append_letters xs ys u = ap (filter is_no_comma) (letters_append xs ys u) ∙ fi
 separator_ascii : IsAscii (44 ∷ 32 ∷ [])
 separator_ascii = IsAscii-cons 44 (32 ∷ []) (omega arith) (IsAscii-cons 32 [] (omega arith) IsAscii-nil)
 
-behind_separator : (rest : List ℕ) → value_letters (44 ∷ 32 ∷ rest) ≡ value_letters rest
-behind_separator rest =
+after_separator : (rest : List ℕ) → value_letters (44 ∷ 32 ∷ rest) ≡ value_letters rest
+after_separator rest =
     append_letters (44 ∷ 32 ∷ []) rest (IsUtf8-from_ascii (44 ∷ 32 ∷ []) separator_ascii)
     ∙ ap (λ cs. filter is_no_comma (filter is_not_whitespace cs) ++ value_letters rest) (chars-IsAscii (44 ∷ 32 ∷ []) separator_ascii)
 
@@ -98,7 +98,7 @@ values_whole (w ∷ ws) text u (inr (rest, e, more)) =
     let v = subst IsUtf8 e u in
     let own : IsUtf8 w = value_utf8 w (32 ∷ rest) v in
     one_more (value_letters (trim w)) (value_letters w) (flat_map value_letters (map trim ws)) (value_letters rest) (trimmed_letters w own) (values_whole ws rest (rest_utf8 w rest v) more)
-    ∙ ap (λ t. value_letters w ++ t) (sym (behind_separator rest)) ∙ sym (append_letters w (44 ∷ 32 ∷ rest) own) ∙ ap value_letters (sym e)
+    ∙ ap (λ t. value_letters w ++ t) (sym (after_separator rest)) ∙ sym (append_letters w (44 ∷ 32 ∷ rest) own) ∙ ap value_letters (sym e)
 
 pub values_stand_in_their_note : ValuesStandInTheirNote
 values_stand_in_their_note text u = record {

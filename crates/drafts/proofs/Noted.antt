@@ -16,7 +16,7 @@ use Rattle.std.proofs.lemmas.Str.{IsCharBoundary-after_ascii, IsCharBoundary-bef
 use Rattle.help_fronts.specs.Laws.{IsTextOf}
 use Rattle.help_fronts.proofs.Texts.{at_end, at_front, dropped, itself, taken, within}
 use Rattle.drafts.specs.Seen.{last}
-use Rattle.drafts.specs.Notes.{CutSaid, IsFront, NoteSaid, NotesSaid, after_last, bare_default, before, behind, bracketed, cut, cut_by, cut_from, fit, helped, is_space, joined, last_note, no_notes, note_at_end, note_in, note_of, note_of_kind, opening, split_last, split_open, unquoted, unquoted_in, variable, with_note, with_text, without_last}
+use Rattle.drafts.specs.Notes.{CutSaid, IsFront, NoteSaid, NotesSaid, after_last, bare_default, before, after, bracketed, cut, cut_by, cut_from, fit, helped, is_space, joined, last_note, no_notes, note_at_end, note_in, note_of, note_of_kind, opening, split_last, split_open, unquoted, unquoted_in, variable, with_note, with_text, without_last}
 use Rattle.drafts.specs.declared.notes.NoteKind.{NoteKind}
 use Rattle.drafts.specs.declared.notes.NoteKind.TheVariants as note
 use Rattle.drafts.specs.Laws.{AreNotesOf, HelpsStandInTheirLines, IsHelpOf, IsInBrackets, IsNoteText, NotesStandAtTheEnd, all_said}
@@ -89,8 +89,8 @@ last_is c text h =
 differs : (x c : ℕ) → not (x == c) ≡ true → (x == c) ≡ false
 differs x c h = grind (arith, nat_tests)
 
-none_behind : (c : ℕ) (text : List ℕ) → list_any (λ b. b == c) (drop (length text - after_last c text) text) ≡ false
-none_behind c text =
+none_after : (c : ℕ) (text : List ℕ) → list_any (λ b. b == c) (drop (length text - after_last c text) text) ≡ false
+none_after c text =
     let end : List ℕ = drop (length text - after_last c text) text in
     list_any_none (λ b. b == c) end (All-weaker (λ b. not (b == c) ≡ true) (λ b. (b == c) ≡ false) (λ b. differs b c) end (end_passes (λ b. not (b == c)) text))
 
@@ -115,7 +115,7 @@ opened bracket text ascii u = by (nat_lt (after_last bracket text) (length text)
       let below : k < length text = is_less k (length text) e in
       let place : length text - k - 1 ≡ length text - 1 - k = omega arith in
       let here : get_or text (length text - k - 1) 0 ≡ bracket = ap (λ i. get_or text i 0) place ∙ last_is bracket text below in
-      opened_at bracket (length text - k - 1) (length text - k) text (omega (arith, below)) u (omega (arith, below)) here ascii (none_behind bracket text)
+      opened_at bracket (length text - k - 1) (length text - k) text (omega (arith, below)) u (omega (arith, below)) here ascii (none_after bracket text)
   by false e = tt
 
 -- what stands before the brackets that a text ends with, and in them
@@ -169,7 +169,7 @@ abbrev Says : (text : List ℕ) → NoteSaid → Type 0
 Says text n = IsTextOf text n.text
 
 -- after a beginning that ends with a blank
-begun : (beginning text : List ℕ) → 0 < length beginning → get_or beginning (length beginning - 1) 0 ≡ 32 → IsUtf8 text → IfSome (behind beginning text) (IsUtf8TextOf text)
+begun : (beginning text : List ℕ) → 0 < length beginning → get_or beginning (length beginning - 1) 0 ≡ 32 → IsUtf8 text → IfSome (after beginning text) (IsUtf8TextOf text)
 begun beginning text some blank u = by (bytes_eq (take (length beginning) text) beginning) refl where
   n : ℕ
   n = length beginning
@@ -190,9 +190,9 @@ noted_all : (k : NoteKind) (text : List ℕ) (o : Option (List ℕ)) → IfSome 
 noted_all k text o h = mapped (Says text) (note_of k) o (weaker (IsUtf8TextOf text) (λ found. Says text (note_of k found)) (noted k text) o h)
 
 of_kind : (k : NoteKind) (text : List ℕ) → IsUtf8 text → IfSome (note_of_kind k text) (Says text)
-of_kind note.Default text u = noted_all note.Default text (behind (opening note.Default) text) (begun (opening note.Default) text (omega arith) refl u)
-of_kind note.Values text u = noted_all note.Values text (behind (opening note.Values) text) (begun (opening note.Values) text (omega arith) refl u)
-of_kind note.Env text u = noted_all note.Env text (behind (opening note.Env) text) (begun (opening note.Env) text (omega arith) refl u)
+of_kind note.Default text u = noted_all note.Default text (after (opening note.Default) text) (begun (opening note.Default) text (omega arith) refl u)
+of_kind note.Values text u = noted_all note.Values text (after (opening note.Values) text) (begun (opening note.Values) text (omega arith) refl u)
+of_kind note.Env text u = noted_all note.Env text (after (opening note.Env) text) (begun (opening note.Env) text (omega arith) refl u)
 
 quoted : (text own : List ℕ) → own ≡ drop 1 text → (found : List ℕ) → IsClosed own found 34 → IsUtf8TextOf text found
 quoted text own e found h = record {
@@ -211,7 +211,7 @@ bare_text text u = by (slice_index text 0 == 34) refl (list_any is_space text) w
   by false e false = record { stands = itself text; utf8 = u }
 
 bare : (text : List ℕ) → IsUtf8 text → IfSome (bare_default text) (Says text)
-bare text u = noted_all note.Default text (unquoted_in (behind (codes "default ") text)) (by (behind (codes "default ") text) (begun (codes "default ") text (omega arith) refl u)) where
+bare text u = noted_all note.Default text (unquoted_in (after (codes "default ") text)) (by (after (codes "default ") text) (begun (codes "default ") text (omega arith) refl u)) where
   by : (o : Option (List ℕ)) → IfSome o (IsUtf8TextOf text) → IfSome (unquoted_in o) (IsUtf8TextOf text)
   by None h = tt
   by (Some found) h =
@@ -263,8 +263,8 @@ last_noted text u = by (bracketed text) (brackets text u) where
 none_said : (text : List ℕ) → text ≡ [] → AreNotesOf text no_notes
 none_said text e = record { notes = []; follow = e; said = refl; preset = tt; values = tt; env = tt }
 
-behind_first : (first rest : List ℕ) (o : Option (List ℕ)) → IfSome o (IsTextOf rest) → IfSome o (IsTextOf (first ++ rest))
-behind_first first rest = weaker (IsTextOf rest) (IsTextOf (first ++ rest)) (λ t. within (first ++ rest) rest t (at_end first rest))
+after_first : (first rest : List ℕ) (o : Option (List ℕ)) → IfSome o (IsTextOf rest) → IfSome o (IsTextOf (first ++ rest))
+after_first first rest = weaker (IsTextOf rest) (IsTextOf (first ++ rest)) (λ t. within (first ++ rest) rest t (at_end first rest))
 
 one_more : (first rest : List ℕ) (all : NotesSaid) (n : NoteSaid) → AreNotesOf rest all → IsNoteText first n → Says first n → AreNotesOf (first ++ rest) (with_note all n)
 one_more first rest all n h own stands = by n.kind refl where
@@ -272,13 +272,13 @@ one_more first rest all n h own stands = by n.kind refl where
   here t = within (first ++ rest) first t (at_front first rest)
 
   preset : IfSome all.preset (IsTextOf (first ++ rest))
-  preset = behind_first first rest all.preset h.preset
+  preset = after_first first rest all.preset h.preset
 
   values : IfSome all.values (IsTextOf (first ++ rest))
-  values = behind_first first rest all.values h.values
+  values = after_first first rest all.values h.values
 
   env : IfSome all.env (IsTextOf (first ++ rest))
-  env = behind_first first rest all.env h.env
+  env = after_first first rest all.env h.env
 
   said : with_note all n ≡ all_said (n ∷ h.notes)
   said = ap (λ a. with_note a n) h.said
@@ -338,14 +338,14 @@ cut_all text u = cut_done (length text) text text no_notes (omega arith) (record
 begins : (whole text end : List ℕ) → whole ≡ text ++ end → IsFront text whole
 begins whole text end e = sym (ap (take (length text)) e ∙ take-append_seam text end)
 
-notes_behind : (whole text : List ℕ) (all : NotesSaid) → IsLeft whole text all → AreNotesOf (drop (length text) whole) all
-notes_behind whole text all h = subst (λ t. AreNotesOf t all) (sym (ap (drop (length text)) h.parts ∙ drop-append_seam text h.end)) h.notes
+notes_after : (whole text : List ℕ) (all : NotesSaid) → IsLeft whole text all → AreNotesOf (drop (length text) whole) all
+notes_after whole text all h = subst (λ t. AreNotesOf t all) (sym (ap (drop (length text)) h.parts ∙ drop-append_seam text h.end)) h.notes
 
 pub notes_stand_at_the_end : NotesStandAtTheEnd
 notes_stand_at_the_end text u =
     let done = cut_all text u in
     let c = cut text in
-    record { rest = begins text c.rest done.left.end done.left.parts; no_more = done.no_more; notes = notes_behind text c.rest c.notes done.left }
+    record { rest = begins text c.rest done.left.end done.left.parts; no_more = done.no_more; notes = notes_after text c.rest c.notes done.left }
 
 -- ---- helps
 
@@ -370,7 +370,7 @@ helps_stand_in_their_lines s ls utf8 = by (fit s c.notes) where
       record {
         text = take_front (length c.rest) text;
         written = pieces_whole (take (length c.rest) text) (IsUtf8-take text (length c.rest) (joined_utf8 10 (omega arith) ls utf8) (help_cut ls text spaced c.rest refl refl front spaced_utf8 left.utf8));
-        notes = subst (λ n. AreNotesOf (drop n spaced) c.notes) size (notes_behind spaced c.rest c.notes left);
+        notes = subst (λ n. AreNotesOf (drop n spaced) c.notes) size (notes_after spaced c.rest c.notes left);
       }
   by false = record {
     text = sym (take_all (length text) text (omega arith));

@@ -3,8 +3,8 @@ use Rattle.std.proofs.Common.{◌≡◌, ℕ, ◌+◌, ◌<◌, List, ◌++◌, 
 use Rattle.std.proofs.lemmas.List.{drop_more}
 
 -- a text after others
-behind_this : (r s t y x : List ℕ) → s ≡ r ++ y → t ≡ s ++ x → t ≡ r ++ (y ++ x)
-behind_this r s t y x h1 h2 = h2 ∙ ap (λ u. u ++ x) h1 ∙ append_assoc r y x
+after_this : (r s t y x : List ℕ) → s ≡ r ++ y → t ≡ s ++ x → t ≡ r ++ (y ++ x)
+after_this r s t y x h1 h2 = h2 ∙ ap (λ u. u ++ x) h1 ∙ append_assoc r y x
 
 pub put_more : (f : List ℕ → List ℕ) (lines : List (Bor (List ℕ))) (i : ℕ) (d : Bor (List ℕ)) (out new whole : List ℕ) → i < length lines → new ≡ out ++ f (get_or lines i d).now
     → out ++ flat_map f (map (λ line. line.now) (drop i lines)) ≡ whole → new ++ flat_map f (map (λ line. line.now) (drop (i + 1) lines)) ≡ whole
@@ -16,5 +16,5 @@ put_more f lines i d out new whole h put so_far =
 -- four texts that are put one after another
 pub four_put : (s0 s1 s2 s3 s4 x y z w : List ℕ) → s1 ≡ s0 ++ x → s2 ≡ s1 ++ y → s3 ≡ s2 ++ z → s4 ≡ s3 ++ w → s4 ≡ s0 ++ (x ++ (y ++ (z ++ w)))
 four_put s0 s1 s2 s3 s4 x y z w h1 h2 h3 h4 =
-    let third : s4 ≡ s2 ++ (z ++ w) = behind_this s2 s3 s4 z w h3 h4 in
-    behind_this s0 s1 s4 x (y ++ (z ++ w)) h1 (behind_this s1 s2 s4 y (z ++ w) h2 third)
+    let third : s4 ≡ s2 ++ (z ++ w) = after_this s2 s3 s4 z w h3 h4 in
+    after_this s0 s1 s4 x (y ++ (z ++ w)) h1 (after_this s1 s2 s4 y (z ++ w) h2 third)

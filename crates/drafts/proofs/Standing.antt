@@ -12,7 +12,7 @@ use Rattle.help_fronts.specs.Bytes.{is_bracket, is_in, without_end, without_fron
 use Rattle.help_fronts.specs.Fronts.{FrontSaid, option_front}
 use Rattle.help_fronts.specs.Laws.{IsFrontOf, IsTextOf}
 use Rattle.help_fronts.specs.Words.{bare_word, value_word}
-use Rattle.help_fronts.proofs.Boundaries.{before_class, behind_class}
+use Rattle.help_fronts.proofs.Boundaries.{before_class, after_class}
 use Rattle.help_fronts.proofs.Stands.{options_stand_in_their_line}
 use Rattle.help_fronts.proofs.Texts.{all_within, dropped, nothing, taken, value_word_of, within}
 use Rattle.drafts.specs.Entries.{ends_front, front_len, value_name}
@@ -118,7 +118,7 @@ options_of_a_line_stand has line = free_fronts_stand line has none_taken (line_f
 -- ---- values
 
 without_front_utf8 : (k : Class) (t : List ℕ) → IsUtf8 t → IsUtf8 (without_front k t)
-without_front_utf8 k t u = IsUtf8-drop t _ u (behind_class k t _ refl u)
+without_front_utf8 k t u = IsUtf8-drop t _ u (after_class k t _ refl u)
 
 without_end_utf8 : (k : Class) (t : List ℕ) → IsUtf8 t → IsUtf8 (without_end k t)
 without_end_utf8 k t u =

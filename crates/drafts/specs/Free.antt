@@ -1,8 +1,8 @@
 -- Which names are taken, and which of a line are free.
 use Rattle.std.specs.Prelude.{ℕ, zero, suc, ◌-◌, ◌==◌, ◌||◌, ◌&&◌, Bool, true, false, not, List, [], ◌∷◌, ◌++◌, bytes_eq, codes, get_or, if◌then◌else◌, length, map, nat_lt, Option, None, Some}
 use Rattle.help_fronts.specs.Fronts.{FrontSaid, option_front}
-use Rattle.drafts.specs.Notes.{behind, is_none}
-use Rattle.drafts.specs.Options.{behind_in, key}
+use Rattle.drafts.specs.Notes.{after, is_none}
+use Rattle.drafts.specs.Options.{after_in, key}
 
 -- whether a word is taken
 abbrev pub Has : Type 0
@@ -68,7 +68,7 @@ without_value f = record f { values = []; joint = 32; value = None; is_optional 
 
 -- a name without a value, and then with one, as in `--color, --color=WHEN`
 abbrev pub stands_twice : (name written : List ℕ) → Bool
-stands_twice n w = not (is_none (behind_in (codes "=") (behind_in n (behind_in (codes ", ") (behind n w)))))
+stands_twice n w = not (is_none (after_in (codes "=") (after_in n (after_in (codes ", ") (after n w)))))
 
 -- so stands the one name that is left
 abbrev pub is_doubled : FrontSaid → (names : List (List ℕ)) → Bool

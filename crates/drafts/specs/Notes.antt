@@ -54,14 +54,14 @@ opening note.Default = codes "default: "
 opening note.Values = codes "possible values: "
 opening note.Env = codes "env: "
 
-abbrev pub behind : (beginning text : List ℕ) → Option (List ℕ)
-behind beginning text = if bytes_eq (take (length beginning) text) beginning then Some (drop (length beginning) text) else None
+abbrev pub after : (beginning text : List ℕ) → Option (List ℕ)
+after beginning text = if bytes_eq (take (length beginning) text) beginning then Some (drop (length beginning) text) else None
 
 abbrev pub note_of : NoteKind → (text : List ℕ) → NoteSaid
 note_of k text = record { kind = k; text = trim text }
 
 abbrev pub note_of_kind : NoteKind → (inner : List ℕ) → Option NoteSaid
-note_of_kind k inner = option_map (note_of k) (behind (opening k) inner)
+note_of_kind k inner = option_map (note_of k) (after (opening k) inner)
 
 abbrev pub is_space : ℕ → Bool
 is_space b = b == 32
@@ -79,7 +79,7 @@ unquoted_in (Some text) = unquoted text
 
 -- as in `(default "json")` and `(default 10)`
 abbrev pub bare_default : (inner : List ℕ) → Option NoteSaid
-bare_default inner = option_map (note_of note.Default) (unquoted_in (behind (codes "default ") inner))
+bare_default inner = option_map (note_of note.Default) (unquoted_in (after (codes "default ") inner))
 
 abbrev pub note_in : (inner : List ℕ) → Option NoteSaid
 note_in inner =

@@ -5,7 +5,7 @@ use Rattle.help_fronts.specs.Bytes.{is_bracket, is_dash, is_opening}
 use Rattle.help_fronts.specs.Fronts.{FrontSaid, first_value, is_value_optional}
 use Rattle.toml_pieces.specs.Toml.{escaped, optional_at}
 use Rattle.drafts.specs.Seen.{is_name, is_word, last}
-use Rattle.drafts.specs.Notes.{behind}
+use Rattle.drafts.specs.Notes.{after}
 
 -- ---- names
 
@@ -114,9 +114,9 @@ abbrev pub names_syntax : (names : List (List ℕ)) → List ℕ
 names_syntax [] = []
 names_syntax (n ∷ ns) = escaped n ++ flat_map further_name ns
 
-abbrev pub behind_in : (beginning : List ℕ) → Option (List ℕ) → Option (List ℕ)
-behind_in beginning None = None
-behind_in beginning (Some text) = behind beginning text
+abbrev pub after_in : (beginning : List ℕ) → Option (List ℕ) → Option (List ℕ)
+after_in beginning None = None
+after_in beginning (Some text) = after beginning text
 
 abbrev pub is_text : (text : List ℕ) → Option (List ℕ) → Bool
 is_text text None = false
@@ -124,7 +124,7 @@ is_text text (Some found) = bytes_eq found text
 
 -- from one name to another, as `-0 ... -9`
 abbrev pub is_range_of : (first last written : List ℕ) → Bool
-is_range_of a b w = is_text b (behind_in (codes " ... ") (behind a w))
+is_range_of a b w = is_text b (after_in (codes " ... ") (after a w))
 
 abbrev pub is_range : (names : List (List ℕ)) → (written : List ℕ) → Bool
 is_range (a ∷ b ∷ []) w = is_range_of a b w

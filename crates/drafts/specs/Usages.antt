@@ -18,23 +18,23 @@ abbrev pub form : Bool → List ℕ → FormSaid
 form m text = record { is_marked = m; text = text }
 
 -- the text after its first n bytes, trimmed
-abbrev pub behind : ℕ → List ℕ → List ℕ
-behind n text = trim (drop n text)
+abbrev pub after : ℕ → List ℕ → List ℕ
+after n text = trim (drop n text)
 
-abbrev pub behind_colon : List ℕ → List ℕ
-behind_colon text = if slice_index text 0 == 58 then behind 1 text else text
+abbrev pub after_colon : List ℕ → List ℕ
+after_colon text = if slice_index text 0 == 58 then after 1 text else text
 
 -- after the letters that a text begins with
-abbrev pub behind_word : List ℕ → List ℕ
-behind_word text = behind (prefix_len is_ascii_alphabetic text) text
+abbrev pub after_word : List ℕ → List ℕ
+after_word text = after (prefix_len is_ascii_alphabetic text) text
 
 -- after `of`, as in `Usage of ./tool:`, where a colon ends the form
-abbrev pub behind_of : List ℕ → List ℕ
-behind_of text = if bytes_eq (take 3 text) (codes "of ") then without_colon (behind 3 text) else text
+abbrev pub after_of : List ℕ → List ℕ
+after_of text = if bytes_eq (take 3 text) (codes "of ") then without_colon (after 3 text) else text
 
 -- after the word `usage`
 abbrev pub first_form : (line : List ℕ) → FormSaid
-first_form line = form true (behind_of (behind_colon (behind_word (trim line))))
+first_form line = form true (after_of (after_colon (after_word (trim line))))
 
 -- `or:` in letters of any case
 abbrev pub has_or : List ℕ → Bool
@@ -43,7 +43,7 @@ has_or text =
     && (to_ascii_lowercase (slice_index text 1) == 114 && slice_index text 2 == 58)
 
 abbrev pub form_in : (text : List ℕ) → FormSaid
-form_in text = if has_or text then form true (behind 3 text) else form false text
+form_in text = if has_or text then form true (after 3 text) else form false text
 
 abbrev pub further_form : (line : List ℕ) → FormSaid
 further_form line = form_in (trim line)

@@ -61,7 +61,7 @@ fn spaced<'a, A: Allocator>(
     Ok(pieces)
 }
 
-fn behind_first<'a, 'b>(pieces: &'b [Piece<'a>]) -> &'b [Piece<'a>]
+fn after_first<'a, 'b>(pieces: &'b [Piece<'a>]) -> &'b [Piece<'a>]
     ensures { map piece_said result.now ≡ drop 1 (map piece_said pieces.now) }
 {
     match pieces {
@@ -81,7 +81,7 @@ fn push_gathered<A: Allocator + Copy>(
         ≡ string_bytes out.old ++ toml.text_at key.now (spec.gathered text (map placed_said placed.now))) }
 {
     let pieces = spaced(alloc, text, placed)?;
-    push_text(out, key, behind_first(&pieces))
+    push_text(out, key, after_first(&pieces))
 }
 
 // Up to the next title.

@@ -6,8 +6,8 @@ ghost use Rattle.drafts.specs.Options as options;
 ghost use Rattle.drafts.specs.Free as spec;
 ghost use Rattle.drafts.specs.View.{free_said, held};
 
-use crate::notes::behind;
-use crate::options::{behind_in, key};
+use crate::notes::after;
+use crate::options::{after_in, key};
 use help_fronts::{OptionFront, option_front};
 use std::alloc::{AllocError, Allocator};
 use std::collections::BTreeSet;
@@ -117,8 +117,8 @@ fn keeps_value<A: Allocator>(front: &OptionFront<'_, A>, names: &[&str]) -> bool
 fn stands_twice(name: &str, written: &str) -> bool
     ensures { result ≡ spec.stands_twice name.now written.now }
 {
-    let further = behind_in(name, behind_in(", ", behind(name, written)));
-    behind_in("=", further).is_some()
+    let further = after_in(name, after_in(", ", after(name, written)));
+    after_in("=", further).is_some()
 }
 
 // Whether the one name that is left stands so.

@@ -103,8 +103,8 @@ fn note_of(kind: NoteKind, text: &str) -> Note<'_>
 }
 
 /// What stands after a beginning, if a text has it.
-pub fn behind<'a>(beginning: &str, text: &'a str) -> Option<&'a str>
-    ensures { text_of result ≡ spec.behind beginning.now text.now }
+pub fn after<'a>(beginning: &str, text: &'a str) -> Option<&'a str>
+    ensures { text_of result ≡ spec.after beginning.now text.now }
 {
     text.strip_prefix(beginning)
 }
@@ -112,7 +112,7 @@ pub fn behind<'a>(beginning: &str, text: &'a str) -> Option<&'a str>
 fn note_of_kind(kind: NoteKind, inner: &str) -> Option<Note<'_>>
     ensures { option_map note_said result ≡ spec.note_of_kind kind inner.now }
 {
-    let text = behind(kind.opening(), inner)?;
+    let text = after(kind.opening(), inner)?;
     Some(note_of(kind, text))
 }
 
@@ -137,7 +137,7 @@ fn unquoted(text: &str) -> Option<&str>
 fn bare_default(inner: &str) -> Option<Note<'_>>
     ensures { option_map note_said result ≡ spec.bare_default inner.now }
 {
-    let text = unquoted(behind("default ", inner)?)?;
+    let text = unquoted(after("default ", inner)?)?;
     Some(note_of(NoteKind::Default, text))
 }
 

@@ -7,7 +7,7 @@ ghost use Rattle.toml_pieces.specs.View.{text_of};
 ghost use Rattle.drafts.specs.Seen as seen;
 ghost use Rattle.drafts.specs.Options as spec;
 
-use crate::notes::behind;
+use crate::notes::after;
 use crate::seen::{are_names, are_words, last_byte};
 use help_fronts::{OptionFront, is_optional};
 use std::alloc::{AllocError, Allocator};
@@ -289,12 +289,12 @@ fn push_names<A: Allocator>(out: &mut String<A>, names: &[&str]) -> Result<(), A
 }
 
 /// What stands after a beginning, if there is a text that has it.
-pub fn behind_in<'a>(beginning: &str, text: Option<&'a str>) -> Option<&'a str>
-    ensures { text_of result ≡ spec.behind_in beginning.now (text_of text.entry) }
+pub fn after_in<'a>(beginning: &str, text: Option<&'a str>) -> Option<&'a str>
+    ensures { text_of result ≡ spec.after_in beginning.now (text_of text.entry) }
 {
     match text {
         None => None,
-        Some(text) => behind(beginning, text),
+        Some(text) => after(beginning, text),
     }
 }
 
@@ -311,7 +311,7 @@ fn is_text(text: &str, found: Option<&str>) -> bool
 fn is_range_of(first: &str, last: &str, written: &str) -> bool
     ensures { result ≡ spec.is_range_of first.now last.now written.now }
 {
-    is_text(last, behind_in(" ... ", behind(first, written)))
+    is_text(last, after_in(" ... ", after(first, written)))
 }
 
 fn is_range(names: &[&str], written: &str) -> bool

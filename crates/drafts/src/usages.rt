@@ -33,14 +33,14 @@ fn letters_len(text: &[u8]) -> usize
     text.len()
 }
 
-fn behind_word(text: &str) -> &str
-    ensures { result.now ≡ spec.behind_word text.now }
+fn after_word(text: &str) -> &str
+    ensures { result.now ≡ spec.after_word text.now }
 {
     text[letters_len(text.as_bytes())..].trim()
 }
 
-fn behind_colon(text: &str) -> &str
-    ensures { result.now ≡ spec.behind_colon text.now }
+fn after_colon(text: &str) -> &str
+    ensures { result.now ≡ spec.after_colon text.now }
 {
     if byte_at(text.as_bytes(), 0) == b':' {
         text[1..].trim()
@@ -50,8 +50,8 @@ fn behind_colon(text: &str) -> &str
 }
 
 // After `of`, as in `Usage of ./tool:`, where a colon ends the form.
-fn behind_of(text: &str) -> &str
-    ensures { result.now ≡ spec.behind_of text.now }
+fn after_of(text: &str) -> &str
+    ensures { result.now ≡ spec.after_of text.now }
 {
     match text.strip_prefix("of ") {
         Some(rest) => without_colon(rest.trim()),
@@ -64,7 +64,7 @@ fn first_form(line: &str) -> Form<'_>
 {
     Form {
         is_marked: true,
-        text: behind_of(behind_colon(behind_word(line.trim()))),
+        text: after_of(after_colon(after_word(line.trim()))),
     }
 }
 

@@ -65,13 +65,13 @@ fn first_refused<A: Allocator + Copy>(
     ensures judged { IfOk result (λ first. is_first_name (names_said (drop first names.now))
         ≡ are_file_names (names_said names.now)) }
 {
-    let mut behind = BTreeSet::new(alloc);
+    let mut keys_after = BTreeSet::new(alloc);
     let mut first = names.len();
     let mut index = names.len();
     while index > 0 {
         index -= 1;
         let name = names[index];
-        let is_alone = behind.insert(name_key(global, name)?)?;
+        let is_alone = keys_after.insert(name_key(global, name)?)?;
         if is_refused(name, is_alone) {
             first = index;
         }

@@ -7,7 +7,7 @@ use Rattle.help_blocks.specs.declared.subject.Subject.TheVariants as subject
 abbrev pub is_between : (first last : ℕ) → ℕ → Bool
 is_between first last c = nat_le first c && nat_le c last
 
--- a blank or a tabulator
+-- a space or a tabulator
 abbrev pub is_blank : ℕ → Bool
 is_blank c = c == 32 || c == 9
 
@@ -43,9 +43,9 @@ has_word word [] = false
 has_word word (c ∷ cs) = begins_with word (c ∷ cs) || has_word word cs
 
 -- what stands after the letters of a name
-abbrev pub behind_name : (text : List ℕ) → List ℕ
-behind_name [] = []
-behind_name (c ∷ cs) = if is_in_name c then behind_name cs else c ∷ cs
+abbrev pub after_name : (text : List ℕ) → List ℕ
+after_name [] = []
+after_name (c ∷ cs) = if is_in_name c then after_name cs else c ∷ cs
 
 -- the last that is not a blank
 abbrev pub last_ink : (none : ℕ) (line : List ℕ) → ℕ
@@ -102,9 +102,9 @@ is_option (c ∷ d ∷ []) = c == 45 && is_option_letter d
 is_option _ = false
 
 -- what stands after the first `=` of the first word
-abbrev pub behind_equals : (text : List ℕ) → List ℕ
-behind_equals [] = []
-behind_equals (c ∷ cs) = if is_blank c then [] else if c == 61 then cs else behind_equals cs
+abbrev pub after_equals : (text : List ℕ) → List ℕ
+after_equals [] = []
+after_equals (c ∷ cs) = if is_blank c then [] else if c == 61 then cs else after_equals cs
 
 -- a small letter or a digit
 abbrev pub begins_small : (text : List ℕ) → Bool
@@ -115,14 +115,14 @@ abbrev pub is_divider : ℕ → Bool
 is_divider c = c == 44 || c == 124
 
 -- what stands after the first blank; nothing, if `,` or `|` is before it
-abbrev pub behind_word : (before : ℕ) → (text : List ℕ) → List ℕ
-behind_word before [] = []
-behind_word before (c ∷ cs) = if is_blank c then (if is_divider before then [] else cs) else behind_word c cs
+abbrev pub after_word : (before : ℕ) → (text : List ℕ) → List ℕ
+after_word before [] = []
+after_word before (c ∷ cs) = if is_blank c then (if is_divider before then [] else cs) else after_word c cs
 
 -- options as they are typed, as `--format=gnu -b20`: the first has a value that does not name one, and another follows
 abbrev pub is_typed : (text : List ℕ) → Bool
 is_typed text =
-    (is_option text && not (has_columns text)) && (begins_small (behind_equals text) && is_option (behind_word 32 text))
+    (is_option text && not (has_columns text)) && (begins_small (after_equals text) && is_option (after_word 32 text))
 
 abbrev pub is_listed_option : (text : List ℕ) → Bool
 is_listed_option text = is_option text && not (is_typed text)
@@ -134,7 +134,7 @@ ends_word (c ∷ cs) = is_blank c || (c == 58 || c == 44)
 -- a word of a name that begins with a small letter or a digit, up to a blank, a colon, a comma or the end
 abbrev pub is_word : (text : List ℕ) → Bool
 is_word [] = false
-is_word (c ∷ cs) = (is_small c || is_between 48 57 c) && ends_word (behind_name cs)
+is_word (c ∷ cs) = (is_small c || is_between 48 57 c) && ends_word (after_name cs)
 
 abbrev pub is_choice : (text : List ℕ) → Bool
 is_choice [] = false

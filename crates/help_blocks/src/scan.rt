@@ -3,7 +3,7 @@
 ghost use Rattle.std.specs.Prelude.{◌≡◌};
 ghost use Rattle.help_blocks.specs.Looks as looks;
 
-/// Whether a byte is a blank or a tabulator.
+/// Whether a byte is a space or a tabulator.
 pub fn is_blank(byte: u8) -> bool
     ensures { result ≡ looks.is_blank byte }
 {
@@ -83,8 +83,8 @@ pub fn has_word(text: &[u8], word: &[u8]) -> bool
 }
 
 /// What stands after the letters of a name.
-pub fn behind_name(text: &[u8]) -> &[u8]
-    ensures { result.now ≡ looks.behind_name text.now }
+pub fn after_name(text: &[u8]) -> &[u8]
+    ensures { result.now ≡ looks.after_name text.now }
 {
     let mut rest = text;
     while let [first, more @ ..] = rest {
@@ -97,8 +97,8 @@ pub fn behind_name(text: &[u8]) -> &[u8]
 }
 
 /// What stands after the first `=` of the first word.
-pub fn behind_equals(text: &[u8]) -> &[u8]
-    ensures { result.now ≡ looks.behind_equals text.now }
+pub fn after_equals(text: &[u8]) -> &[u8]
+    ensures { result.now ≡ looks.after_equals text.now }
 {
     let mut rest = text;
     while let [first, more @ ..] = rest {
@@ -120,8 +120,8 @@ fn is_divider(byte: u8) -> bool
 }
 
 /// What stands after the first blank; nothing, if `,` or `|` is before it.
-pub fn behind_word(text: &[u8]) -> &[u8]
-    ensures { result.now ≡ looks.behind_word 32 text.now }
+pub fn after_word(text: &[u8]) -> &[u8]
+    ensures { result.now ≡ looks.after_word 32 text.now }
 {
     let mut before = b' ';
     let mut rest = text;

@@ -98,8 +98,8 @@ fn is_typed(text: &[u8]) -> bool
 {
     is_option(text)
         && !scan::has_columns(text)
-        && begins_small(scan::behind_equals(text))
-        && is_option(scan::behind_word(text))
+        && begins_small(scan::after_equals(text))
+        && is_option(scan::after_word(text))
 }
 
 fn is_listed_option(text: &[u8]) -> bool
@@ -121,7 +121,7 @@ fn is_word(text: &[u8]) -> bool
     ensures { result ≡ looks.is_word text.now }
 {
     match text {
-        [b'a'..=b'z' | b'0'..=b'9', more @ ..] => ends_word(scan::behind_name(more)),
+        [b'a'..=b'z' | b'0'..=b'9', more @ ..] => ends_word(scan::after_name(more)),
         _ => false,
     }
 }

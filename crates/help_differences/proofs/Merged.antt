@@ -95,10 +95,10 @@ unfolding IsStrictlySortedBy
 without [] x xs o = o.1
 without (n ∷ ns) x xs o = (before_without n ns x xs o.0, without ns x xs o.1)
 
-behind : (ns : List Named) (x : Named) (xs : List Named) → in_order (ns ++ x ∷ xs) → before x xs
+after : (ns : List Named) (x : Named) (xs : List Named) → in_order (ns ++ x ∷ xs) → before x xs
 unfolding IsStrictlySortedBy
-behind [] x xs o = o.0
-behind (n ∷ ns) x xs o = behind ns x xs o.1
+after [] x xs o = o.0
+after (n ∷ ns) x xs o = after ns x xs o.1
 
 -- ---- what one side alone has
 
@@ -175,8 +175,8 @@ merged_theirs described help xs y ys found b m =
 merged_both : (described help : List Named) (x : Named) (xs ys : List Named) (found : List Alone) → IsMerged described help (x ∷ xs) (x ∷ ys) found
     → IsMerged described help xs ys found
 merged_both described help x xs ys found m =
-    let apart : ¬ Contains xs x = not_after x xs (behind (names_of found) x xs m.ours_in_order) in
-    let apart_too : ¬ Contains ys x = not_after x ys (behind (names_of found) x ys m.theirs_in_order) in
+    let apart : ¬ Contains xs x = not_after x xs (after (names_of found) x xs m.ours_in_order) in
+    let apart_too : ¬ Contains ys x = not_after x ys (after (names_of found) x ys m.theirs_in_order) in
     record {
       ours_in_order = without (names_of found) x xs m.ours_in_order;
       theirs_in_order = without (names_of found) x ys m.theirs_in_order;
@@ -190,11 +190,11 @@ IsMergedTo described help ours theirs found o = IsMerged described help (left (i
 merged_by : (described help : List Named) (x : Named) (xs : List Named) (y : Named) (ys : List Named) (found : List Alone) (o : Ordering) → name_cmp x y ≡ o
     → IsMerged described help (x ∷ xs) (y ∷ ys) found → IsMergedTo described help (x ∷ xs) (y ∷ ys) found o
 merged_by described help x xs y ys found Less e m =
-    merged_ours described help x xs (y ∷ ys) found (e, before_by x y ys e (behind (names_of found) y ys m.theirs_in_order)) m
+    merged_ours described help x xs (y ∷ ys) found (e, before_by x y ys e (after (names_of found) y ys m.theirs_in_order)) m
 merged_by described help x xs y ys found Equal e m =
     merged_both described help x xs ys found (subst (λ z. IsMerged described help (x ∷ xs) (z ∷ ys) found) (sym (names_alike x y e)) m)
 merged_by described help x xs y ys found Greater e m =
-    merged_theirs described help (x ∷ xs) y ys found (names_turned x y e, before_by y x xs (names_turned x y e) (behind (names_of found) x xs m.ours_in_order)) m
+    merged_theirs described help (x ∷ xs) y ys found (names_turned x y e, before_by y x xs (names_turned x y e) (after (names_of found) x xs m.ours_in_order)) m
 
 abbrev IsMergedIf : (described help ours theirs : List Named) (found : List Alone) → Option Ordering → Type 0
 IsMergedIf described help ours theirs found None = (ours ≡ []) × (theirs ≡ [])

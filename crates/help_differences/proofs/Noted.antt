@@ -7,7 +7,7 @@ use Rattle.std.proofs.lemmas.List.{take-append-drop}
 use Rattle.std.proofs.lemmas.List.Splits.{length-slice_split, slice_split_first}
 use Rattle.std.proofs.lemmas.Slice.Eq.{bytes_eq-Decides}
 use Rattle.std.proofs.lemmas.Str.Pattern.{IsSplitOnceResult, split_once_first}
-use Rattle.help_differences.specs.Notes.{begins_note, behind_opening, closed_texts, opening, without_last}
+use Rattle.help_differences.specs.Notes.{begins_note, after_opening, closed_texts, opening, without_last}
 
 abbrev is_empty : List ℕ → Bool
 is_empty [] = true
@@ -24,21 +24,21 @@ not_here bs lacks = by (begins_note bs) refl where
   by true h = absurd (lacks (drop (length opening) bs) (begun bs h))
   by false h = refl
 
-none_on : (b : ℕ) (bs : List ℕ) → ((rest : List ℕ) → b ∷ bs ≢ opening ++ rest) → behind_opening (b ∷ bs) ≡ behind_opening bs
-unfolding behind_opening
-none_on b bs lacks = ap (λ t. cond t (drop (length opening) (b ∷ bs)) (behind_opening bs)) (not_here (b ∷ bs) lacks)
+none_on : (b : ℕ) (bs : List ℕ) → ((rest : List ℕ) → b ∷ bs ≢ opening ++ rest) → after_opening (b ∷ bs) ≡ after_opening bs
+unfolding after_opening
+none_on b bs lacks = ap (λ t. cond t (drop (length opening) (b ∷ bs)) (after_opening bs)) (not_here (b ∷ bs) lacks)
 
-pub none : (bs : List ℕ) → ((i : ℕ) → i ≤ length bs → LacksTextAt opening bs i) → behind_opening bs ≡ []
-unfolding behind_opening
+pub none : (bs : List ℕ) → ((i : ℕ) → i ≤ length bs → LacksTextAt opening bs i) → after_opening bs ≡ []
+unfolding after_opening
 none [] lacks = refl
 none (b ∷ bs) lacks = none_on b bs (lacks 0 (omega arith)) ∙ none bs (λ i h. lacks (suc i) (omega arith))
 
-opened : (rest : List ℕ) → behind_opening (opening ++ rest) ≡ rest
-unfolding behind_opening
+opened : (rest : List ℕ) → after_opening (opening ++ rest) ≡ rest
+unfolding after_opening
 opened rest = refl
 
-pub at : (bs : List ℕ) (i : ℕ) (rest : List ℕ) → ((k : ℕ) → k < i → LacksTextAt opening bs k) → drop i bs ≡ opening ++ rest → behind_opening bs ≡ rest
-at bs zero rest lacks e = ap behind_opening e ∙ opened rest
+pub at : (bs : List ℕ) (i : ℕ) (rest : List ℕ) → ((k : ℕ) → k < i → LacksTextAt opening bs k) → drop i bs ≡ opening ++ rest → after_opening bs ≡ rest
+at bs zero rest lacks e = ap after_opening e ∙ opened rest
 at [] (suc i) rest lacks e = absurd (false≢true (sym (ap is_empty e)))
 at (b ∷ bs) (suc i) rest lacks e = none_on b bs (lacks 0 (omega arith)) ∙ at bs i rest (λ k h. lacks (suc k) (omega arith)) e
 

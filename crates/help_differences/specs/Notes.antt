@@ -13,9 +13,9 @@ abbrev pub begins_note : List ℕ → Bool
 begins_note text = bytes_eq (take (length opening) text) opening
 
 -- what stands after the first opening; nothing, if there is none
-unfoldable pub behind_opening : List ℕ → List ℕ
-behind_opening [] = []
-behind_opening (b ∷ bs) = if begins_note (b ∷ bs) then drop (length opening) (b ∷ bs) else behind_opening bs
+unfoldable pub after_opening : List ℕ → List ℕ
+after_opening [] = []
+after_opening (b ∷ bs) = if begins_note (b ∷ bs) then drop (length opening) (b ∷ bs) else after_opening bs
 
 abbrev pub without_last : List (List ℕ) → List (List ℕ)
 without_last texts = take (length texts - 1) texts
@@ -29,4 +29,4 @@ abbrev pub texts_of_note : (note : List ℕ) → List (List ℕ)
 texts_of_note note = filter is_command (map trim (listed_values note))
 
 abbrev pub texts_of_line : (line : List ℕ) → List (List ℕ)
-texts_of_line line = flat_map (λ text. texts_of_note (behind_opening text)) (closed_texts line)
+texts_of_line line = flat_map (λ text. texts_of_note (after_opening text)) (closed_texts line)

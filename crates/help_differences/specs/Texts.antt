@@ -12,23 +12,23 @@ use Rattle.help_differences.specs.Differences.{Alone, IsDifference, name_cmp, na
 use Rattle.help_differences.specs.Help.{names_in}
 use Rattle.help_differences.specs.Level.{names_of_level}
 
--- what a program printed, and what this and the description are called
+-- what a program printed for help, and what this and the description are called in the lines
 pub record HelpSaid : Type 0 where
   pub printed : List ℕ
-  pub name : List ℕ
-  pub file : List ℕ
+  pub help_name : List ℕ
+  pub description_name : List ℕ
 
 abbrev pub kind_word : Kind → List ℕ
 kind_word kind.Option = codes "option "
 kind_word kind.Command = codes "command "
 
 abbrev pub stands_in : Side → HelpSaid → List ℕ
-stands_in side.Description h = h.file
-stands_in side.Help h = h.name
+stands_in side.Description h = h.description_name
+stands_in side.Help h = h.help_name
 
 abbrev pub lacks_in : Side → HelpSaid → List ℕ
-lacks_in side.Description h = h.name
-lacks_in side.Help h = h.file
+lacks_in side.Description h = h.help_name
+lacks_in side.Help h = h.description_name
 
 -- as in `option --old: in help.txt, not in app.toml`
 abbrev pub line : HelpSaid → Alone → List ℕ

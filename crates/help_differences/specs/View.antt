@@ -13,4 +13,4 @@ abbrev pub difference_said : Difference → Alone
 difference_said d = alone d.stands (name_said d.name)
 
 abbrev pub help_said : HelpText → HelpSaid
-help_said h = record { printed = h.printed.now; name = h.name.now; file = h.file.now }
+help_said h = record { printed = h.printed.now; help_name = h.help_name.now; description_name = h.description_name.now }

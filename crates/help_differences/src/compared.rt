@@ -27,7 +27,7 @@ pub struct Difference<'a> {
     pub stands: Side,
 }
 
-// In order, each once.
+// The names in order, each once.
 fn sorted<'a, A: Allocator>(alloc: A, names: &[Name<'a>]) -> Result<Vec<Name<'a>, A>, AllocError>
     ensures in_order { IfOk result (λ copy. IsStrictlySortedBy name_cmp (map name_said copy.items)) }
     ensures same { IfOk result (λ copy. (n : Named)
@@ -97,7 +97,7 @@ fn push_found<'a, A: Allocator>(
     Ok(())
 }
 
-// The same of names that are in order on both sides.
+// The names that one side alone has, where each side is in order and has each name once.
 fn merged<'l, 'a, A: Allocator>(
     alloc: A,
     described: &'l [Name<'a>],

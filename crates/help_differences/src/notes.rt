@@ -38,15 +38,15 @@ fn push_note<'a, A: Allocator>(
         ≡ map name_said names.old.items ++ map (called kinds.Command) (spec.texts_of_note note.now)) }
 {
     let mut rest = note;
-    while let Some((part, behind)) = split_value(rest) {
+    while let Some((part, after)) = split_value(rest) {
         push_part(names, part)?;
-        rest = behind;
+        rest = after;
     }
     push_part(names, rest)
 }
 
-fn behind_opening(text: &str) -> &str
-    ensures { result.now ≡ spec.behind_opening text.now }
+fn after_opening(text: &str) -> &str
+    ensures { result.now ≡ spec.after_opening text.now }
 {
     match text.split_once("[aliases: ") {
         None => "",
@@ -71,9 +71,9 @@ fn push_line<'a, A: Allocator>(
         ≡ map name_said names.old.items ++ map (called kinds.Command) (spec.texts_of_line line.now)) }
 {
     let mut rest = line;
-    while let Some((text, behind)) = split_closed(rest) {
-        push_note(names, behind_opening(text))?;
-        rest = behind;
+    while let Some((text, after)) = split_closed(rest) {
+        push_note(names, after_opening(text))?;
+        rest = after;
     }
     Ok(())
 }

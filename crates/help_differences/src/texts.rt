@@ -14,12 +14,15 @@ use description::{Level, Opt};
 use shown_letters::shown_letters;
 use std::alloc::{AllocError, Allocator};
 
-/// What a program printed for help, and what this and the description are called in the lines.
+/// A help text, and what the lines call it and the description that it is compared with.
 #[derive(Clone, Copy, Debug)]
 pub struct HelpText<'h> {
+    /// What the program printed for help.
     pub printed: &'h str,
-    pub name: &'h str,
-    pub file: &'h str,
+    /// What the help text is called, as `help.txt`.
+    pub help_name: &'h str,
+    /// What the description is called, as `app.toml`.
+    pub description_name: &'h str,
 }
 
 impl<'h> HelpText<'h> {
@@ -29,8 +32,8 @@ impl<'h> HelpText<'h> {
         ensures lacks { result.1.now ≡ spec.lacks_in stands (help_said self.entry) }
     {
         match stands {
-            Side::Description => (self.file, self.name),
-            Side::Help => (self.name, self.file),
+            Side::Description => (self.description_name, self.help_name),
+            Side::Help => (self.help_name, self.description_name),
         }
     }
 }

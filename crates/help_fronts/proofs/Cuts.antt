@@ -5,7 +5,7 @@ use Rattle.std.proofs.lemmas.Bool.Decides.{nat_tests}
 use Rattle.std.specs.Str.{IsCharBoundary}
 use Rattle.std.proofs.lemmas.Str.{IsCharBoundary-end, IsCharBoundary-before_ascii}
 use Rattle.std.proofs.lemmas.Bool.{cases_lt}
-use Rattle.help_fronts.specs.Pieces.{deeper, is_cut, onto_pieces, pieces, pieces_behind, rest_len}
+use Rattle.help_fronts.specs.Pieces.{deeper, is_cut, onto_pieces, pieces, pieces_after, rest_len}
 
 pub rest_within : (depth before : ℕ) (bs : List ℕ) → rest_len depth before bs ≤ length bs
 rest_within depth before [] = omega arith
@@ -35,12 +35,12 @@ piece_ends text bs b depth before n e h =
       by (inl l) = IsCharBoundary-before_ascii (b ∷ bs) (suc (rest_len depth before bs)) (omega arith) (rest_ascii depth before bs l)
       by (inr g) = let within = rest_within depth before bs in let e : suc (rest_len depth before bs) ≡ suc (length bs) = omega arith in subst (IsCharBoundary (b ∷ bs)) (sym e) (IsCharBoundary-end (b ∷ bs))
 
-cut : (depth before : ℕ) (bs : List ℕ) → pieces_behind depth before bs ≡ take (rest_len depth before bs) bs ∷ pieces (drop (rest_len depth before bs) bs)
+cut : (depth before : ℕ) (bs : List ℕ) → pieces_after depth before bs ≡ take (rest_len depth before bs) bs ∷ pieces (drop (rest_len depth before bs) bs)
 cut depth before [] = refl
 cut depth before (b ∷ bs) = by (is_cut depth before b) refl (cut (deeper depth b) b bs) where
-  by : (t : Bool) → is_cut depth before b ≡ t → pieces_behind (deeper depth b) b bs ≡ take (rest_len (deeper depth b) b bs) bs ∷ pieces (drop (rest_len (deeper depth b) b bs) bs)
-      → onto_pieces t b (pieces_behind (deeper depth b) b bs) ≡ take (cond t 0 (1 + rest_len (deeper depth b) b bs)) (b ∷ bs) ∷ pieces (drop (cond t 0 (1 + rest_len (deeper depth b) b bs)) (b ∷ bs))
-  by true e below = ap (λ d. [] ∷ onto_first b (pieces_behind (deeper d b) b bs)) (cut_outside depth before b e)
+  by : (t : Bool) → is_cut depth before b ≡ t → pieces_after (deeper depth b) b bs ≡ take (rest_len (deeper depth b) b bs) bs ∷ pieces (drop (rest_len (deeper depth b) b bs) bs)
+      → onto_pieces t b (pieces_after (deeper depth b) b bs) ≡ take (cond t 0 (1 + rest_len (deeper depth b) b bs)) (b ∷ bs) ∷ pieces (drop (cond t 0 (1 + rest_len (deeper depth b) b bs)) (b ∷ bs))
+  by true e below = ap (λ d. [] ∷ onto_first b (pieces_after (deeper d b) b bs)) (cut_outside depth before b e)
   by false e below = ap (onto_first b) below ∙ sym (ap (λ m. take m (b ∷ bs) ∷ pieces (drop m (b ∷ bs))) (one-add (rest_len (deeper depth b) b bs)))
 
 pub first_cut : (text bs : List ℕ) (b n : ℕ) → text ≡ b ∷ bs → n ≡ rest_len (deeper 0 b) b bs → pieces text ≡ take (1 + n) text ∷ pieces (drop (1 + n) text)

@@ -7,7 +7,7 @@ use Rattle.help_fronts.specs.declared.front.Kind.{Kind}
 use Rattle.help_fronts.specs.declared.front.Kind.TheVariants as kind
 use Rattle.help_fronts.specs.Pieces.{first_word, pieces, word}
 use Rattle.help_fronts.specs.Words.{bare_word, is_name, name, value_text, value_word, without_joints}
-use Rattle.help_fronts.specs.Fronts.{CommandSaid, aliases, before_name, begins_front, behind_front, belonging, belongs, command_in, command_name, command_said, first_value, from_last, front, front_in, front_said, gap_of, if_parted, is_alias, is_list, is_parted, is_valued, listed, names, only, or_else, other_names, says_more, says_value, values, without_indent}
+use Rattle.help_fronts.specs.Fronts.{CommandSaid, aliases, before_name, begins_front, after_front, belonging, belongs, command_in, command_name, command_said, first_value, from_last, front, front_in, front_said, gap_of, if_parted, is_alias, is_list, is_parted, is_valued, listed, names, only, or_else, other_names, says_more, says_value, values, without_indent}
 use Rattle.help_fronts.specs.Lines.{further_words, goes_on, option_words}
 use Rattle.help_fronts.specs.Usages.{WordSaid, bare, is_own, joint_after, options_from, usage_words, used, used_with, value_after}
 use Rattle.help_fronts.specs.Laws.{CommandsStandInTheirLine, IsCommandOf, IsFrontOf, IsTextOf, IsUsedIn, NamesStandInTheirLine, OptionsStandInTheirLine, UsageOptionsStandInTheirLine}
@@ -102,12 +102,12 @@ module _ (line : List ℕ) where
   words_are : (text : List ℕ) → IsTextOf line text → (ps : List (List ℕ)) → IsTextOf text (concat ps) → Are (map word ps)
   words_are text h ps begins = all_read word word_of line ps (all_within line (concat ps) (within line text (concat ps) h begins) ps (joined ps))
 
-  behind_is : (text : List ℕ) → IsTextOf line text → (ps : List (List ℕ)) → IsTextOf line (behind_front ps text)
-  behind_is text h ps = within line text (behind_front ps text) h (dropped (length (concat ps)) text)
+  after_is : (text : List ℕ) → IsTextOf line text → (ps : List (List ℕ)) → IsTextOf line (after_front ps text)
+  after_is text h ps = within line text (after_front ps text) h (dropped (length (concat ps)) text)
 
-  front_is : (text : List ℕ) → IsTextOf line text → (ps : List (List ℕ)) → IsTextOf text (concat ps) → IsFrontOf line (front_said ps (behind_front ps text))
+  front_is : (text : List ℕ) → IsTextOf line text → (ps : List (List ℕ)) → IsTextOf text (concat ps) → IsFrontOf line (front_said ps (after_front ps text))
   front_is text h ps begins =
-      let behind = behind_front ps text in
+      let after = after_front ps text in
       let words = words_are text h ps begins in
       let valued = values_are (from_last (map word ps)) (from_last_are (map word ps) words) in
       record {
@@ -115,8 +115,8 @@ module _ (line : List ℕ) where
         values = valued;
         value = value_is (values (from_last (map word ps))) valued;
         written = within line text (concat ps) h begins;
-        gap = within line behind (gap_of behind) (behind_is text h ps) (taken _ behind);
-        help = within line behind _ (behind_is text h ps) (dropped _ behind);
+        gap = within line after (gap_of after) (after_is text h ps) (taken _ after);
+        help = within line after _ (after_is text h ps) (dropped _ after);
       }
 
   some_front : (text : List ℕ) → IsTextOf line text → (ps : List (List ℕ)) → IsTextOf text (concat ps) → IfSome (front_in ps text) (IsFrontOf line)
@@ -142,9 +142,9 @@ module _ (line : List ℕ) where
     by true = all_within line (only ws) (only_is ws all) (listed (only ws)) (listed_are (only ws))
     by false = all_read bare_word bare_word_of line _ (All-filter (is_alias n) (IsTextOf line) ws all)
 
-  command_is : (text : List ℕ) → IsTextOf line text → (p : List ℕ) (ps : List (List ℕ)) → IsTextOf text (concat (p ∷ ps)) → IsCommandOf line (command_said (p ∷ ps) (behind_front (p ∷ ps) text))
+  command_is : (text : List ℕ) → IsTextOf line text → (p : List ℕ) (ps : List (List ℕ)) → IsTextOf text (concat (p ∷ ps)) → IsCommandOf line (command_said (p ∷ ps) (after_front (p ∷ ps) text))
   command_is text h p ps begins =
-      let behind = behind_front (p ∷ ps) text in
+      let after = after_front (p ∷ ps) text in
       let words = words_are line text h (p ∷ ps) begins in
       let first = first_of line (word p) (map word ps) words in
       let others = others_of line (word p) (map word ps) words in
@@ -152,8 +152,8 @@ module _ (line : List ℕ) where
         name = within line (word p) (command_name (word p)) first (taken _ (word p));
         aliases = aliases_are (word p) (map word ps) others;
         written = within line text (concat (p ∷ ps)) h begins;
-        gap = within line behind (gap_of behind) (behind_is line text h (p ∷ ps)) (taken _ behind);
-        help = within line behind _ (behind_is line text h (p ∷ ps)) (dropped _ behind);
+        gap = within line after (gap_of after) (after_is line text h (p ∷ ps)) (taken _ after);
+        help = within line after _ (after_is line text h (p ∷ ps)) (dropped _ after);
       }
 
   if_parted_is : (c : CommandSaid) → IsCommandOf line c → IfSome (if_parted c) (IsCommandOf line)
@@ -164,7 +164,7 @@ module _ (line : List ℕ) where
 
   some_command : (text : List ℕ) → IsTextOf line text → (ps : List (List ℕ)) → IsTextOf text (concat ps) → IfSome (command_in ps text) (IsCommandOf line)
   some_command text h [] begins = tt
-  some_command text h (p ∷ ps) begins = if_parted_is (command_said (p ∷ ps) (behind_front (p ∷ ps) text)) (command_is text h p ps begins)
+  some_command text h (p ∷ ps) begins = if_parted_is (command_said (p ∷ ps) (after_front (p ∷ ps) text)) (command_is text h p ps begins)
 
 pub commands_stand_in_their_line : CommandsStandInTheirLine
 commands_stand_in_their_line line =

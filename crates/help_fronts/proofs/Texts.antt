@@ -6,10 +6,10 @@ use Rattle.std.proofs.lemmas.List.Elements.{All-cons, All-map, All-nil, All-weak
 use Rattle.help_fronts.specs.declared.bytes.Class.{Class}
 use Rattle.help_fronts.specs.declared.bytes.Class.TheVariants as class
 use Rattle.help_fronts.specs.Bytes.{first, is_bracket, is_usage_mark, without_end, without_front}
-use Rattle.help_fronts.specs.Pieces.{deeper, is_cut, onto_pieces, pieces, pieces_behind, word}
+use Rattle.help_fronts.specs.Pieces.{deeper, is_cut, onto_pieces, pieces, pieces_after, word}
 use Rattle.help_fronts.specs.Words.{attached, bare_word, is_joiner, is_name, name, name_len, value_text, value_word, without_joints}
 use Rattle.help_fronts.specs.Fronts.{listed}
-use Rattle.help_fronts.specs.Usages.{WordSaid, apart, behind_value, is_apart, is_joined, last_word, len_of_value, onto_word, usage_words, value_after, value_in}
+use Rattle.help_fronts.specs.Usages.{WordSaid, apart, left_after_value, is_apart, is_joined, last_word, len_of_value, onto_word, usage_words, value_after, value_in}
 use Rattle.help_fronts.specs.Laws.{IsTextOf}
 
 pub itself : (t : List ℕ) → IsTextOf t t
@@ -84,15 +84,15 @@ concat_onto : (c : Bool) (b : ℕ) (ps : List (List ℕ)) → concat (onto_piece
 concat_onto true b ps = concat_more b ps
 concat_onto false b ps = concat_more b ps
 
-concat_behind : (depth before : ℕ) (bs : List ℕ) → concat (pieces_behind depth before bs) ≡ bs
-concat_behind depth before [] = refl
-concat_behind depth before (b ∷ bs) =
-    concat_onto (is_cut depth before b) b (pieces_behind (deeper depth b) b bs) ∙ ap (λ t. b ∷ t) (concat_behind (deeper depth b) b bs)
+concat_after : (depth before : ℕ) (bs : List ℕ) → concat (pieces_after depth before bs) ≡ bs
+concat_after depth before [] = refl
+concat_after depth before (b ∷ bs) =
+    concat_onto (is_cut depth before b) b (pieces_after (deeper depth b) b bs) ∙ ap (λ t. b ∷ t) (concat_after (deeper depth b) b bs)
 
 -- pieces are the whole text
 pub concat_pieces : (text : List ℕ) → concat (pieces text) ≡ text
 concat_pieces [] = refl
-concat_pieces (b ∷ bs) = concat_more b (pieces_behind (deeper 0 b) b bs) ∙ ap (λ t. b ∷ t) (concat_behind (deeper 0 b) b bs)
+concat_pieces (b ∷ bs) = concat_more b (pieces_after (deeper 0 b) b bs) ∙ ap (λ t. b ∷ t) (concat_after (deeper 0 b) b bs)
 
 -- each of the texts that are joined
 pub joined : (ps : List (List ℕ)) → All (IsTextOf (concat ps)) ps
@@ -127,8 +127,8 @@ all_parts text parts h =
 parts_of : (p : ℕ → Bool) (text : List ℕ) → ArePartsOf text (slice_split p text)
 parts_of p [] = record { first = []; others = []; rest = []; split = refl; begins = refl; stand = All-nil (IsTextOf []) }
 parts_of p (b ∷ bs) = by (p b) (parts_of p bs) where
-  behind : IsTextOf (b ∷ bs) bs
-  behind = dropped 1 (b ∷ bs)
+  after : IsTextOf (b ∷ bs) bs
+  after = dropped 1 (b ∷ bs)
 
   by : (t : Bool) → ArePartsOf bs (slice_split p bs) → ArePartsOf (b ∷ bs) (cond t ([] ∷ slice_split p bs) (onto_first b (slice_split p bs)))
   by true h = record {
@@ -137,7 +137,7 @@ parts_of p (b ∷ bs) = by (p b) (parts_of p bs) where
     rest = b ∷ bs;
     split = refl;
     begins = refl;
-    stand = all_within (b ∷ bs) bs behind (slice_split p bs) (all_parts bs (slice_split p bs) h);
+    stand = all_within (b ∷ bs) bs after (slice_split p bs) (all_parts bs (slice_split p bs) h);
   }
   by false h = record {
     first = b ∷ h.first;
@@ -145,15 +145,15 @@ parts_of p (b ∷ bs) = by (p b) (parts_of p bs) where
     rest = h.rest;
     split = ap (onto_first b) h.split;
     begins = ap (λ t. b ∷ t) h.begins;
-    stand = all_within (b ∷ bs) bs behind h.others h.stand;
+    stand = all_within (b ∷ bs) bs after h.others h.stand;
   }
 
 -- each name of a list stands in it
 pub listed_are : (w : List ℕ) → All (IsTextOf w) (listed w)
 listed_are w =
-    let behind = drop 1 w in
-    let inside = take (length w - 2) behind in
-    let stands : IsTextOf w inside = within w behind inside (dropped 1 w) (taken (length w - 2) behind) in
+    let after = drop 1 w in
+    let inside = take (length w - 2) after in
+    let stands : IsTextOf w inside = within w after inside (dropped 1 w) (taken (length w - 2) after) in
     let parts = slice_split (λ b. b == 44) inside in
     all_read word word_of w parts (all_within w inside stands parts (all_parts inside parts (parts_of (λ b. b == 44) inside)))
 
@@ -188,8 +188,8 @@ all_words text words h = subst (All (IsWordIn text)) (sym h.split) (All-cons (Is
 words_of : (text : List ℕ) → AreWordsOf text (usage_words text)
 words_of [] = record { first = last_word []; others = []; rest = []; split = refl; begins = refl; after = nothing []; stand = All-nil (IsWordIn []) }
 words_of (b ∷ bs) = by (is_usage_mark b) (words_of bs) where
-  behind : IsTextOf (b ∷ bs) bs
-  behind = dropped 1 (b ∷ bs)
+  after : IsTextOf (b ∷ bs) bs
+  after = dropped 1 (b ∷ bs)
 
   marked : WordSaid
   marked = record { text = []; after = b ∷ bs }
@@ -202,7 +202,7 @@ words_of (b ∷ bs) = by (is_usage_mark b) (words_of bs) where
     split = refl;
     begins = refl;
     after = itself (b ∷ bs);
-    stand = words_within (b ∷ bs) bs behind (usage_words bs) (all_words bs (usage_words bs) h);
+    stand = words_within (b ∷ bs) bs after (usage_words bs) (all_words bs (usage_words bs) h);
   }
   by false h = record {
     first = record { text = b ∷ h.first.text; after = h.first.after };
@@ -210,15 +210,15 @@ words_of (b ∷ bs) = by (is_usage_mark b) (words_of bs) where
     rest = h.rest;
     split = ap (onto_word b) h.split;
     begins = ap (λ t. b ∷ t) h.begins;
-    after = within (b ∷ bs) bs h.first.after behind h.after;
-    stand = words_within (b ∷ bs) bs behind h.others h.stand;
+    after = within (b ∷ bs) bs h.first.after after h.after;
+    stand = words_within (b ∷ bs) bs after h.others h.stand;
   }
 
 pub usage_words_are : (line : List ℕ) → All (IsWordIn line) (usage_words line)
 usage_words_are line = all_words line (usage_words line) (words_of line)
 
 apart_of : (text : List ℕ) → IsTextOf text (apart text)
-apart_of text = by (is_apart (value_in text) (behind_value text)) where
+apart_of text = by (is_apart (value_in text) (left_after_value text)) where
   by : (t : Bool) → IsTextOf text (cond t (value_in text) [])
   by true = taken (len_of_value text) text
   by false = nothing text

@@ -4,7 +4,7 @@ use Rattle.std.specs.List.{prefix_len, slice_index, suffix_len}
 use Rattle.help_fronts.specs.declared.bytes.Class.{Class}
 use Rattle.help_fronts.specs.declared.bytes.Class.TheVariants as class
 
--- a blank or a tabulator
+-- a space or a tabulator
 abbrev pub is_blank : ℕ → Bool
 is_blank b = b == 32 || b == 9
 
@@ -37,12 +37,12 @@ is_joint b = is_divider b || (b == 61 || b == 58)
 abbrev pub is_quote : ℕ → Bool
 is_quote b = b == 34 || (b == 39 || b == 96)
 
-abbrev pub is_no_letter : ℕ → Bool
-is_no_letter b = (is_closing b || (is_divider b || is_quote b)) || (is_dash b || b == 61)
+abbrev pub is_no_name_start : ℕ → Bool
+is_no_name_start b = (is_closing b || (is_divider b || is_quote b)) || (is_dash b || b == 61)
 
--- what may begin a name after its dashes: all but blanks, closing brackets, dividers, quotes, `-` and `=`
-abbrev pub is_letter : ℕ → Bool
-is_letter b = nat_lt 32 b && not (is_no_letter b)
+-- what may follow the dashes of a name: any byte but controls, spaces, closing brackets, dividers, quotes, `-` and `=`
+abbrev pub is_name_start : ℕ → Bool
+is_name_start b = nat_lt 32 b && not (is_no_name_start b)
 
 -- what ends a name
 abbrev pub is_separator : ℕ → Bool
@@ -59,6 +59,7 @@ is_lead b = is_joint b || is_opening b
 abbrev pub is_tail : ℕ → Bool
 is_tail b = is_joint b || (is_closing b || is_dot b)
 
+-- the bytes of a class of `src/bytes.rt`
 abbrev pub is_in : Class → ℕ → Bool
 is_in class.Blank b = is_blank b
 is_in class.Joint b = is_joint b

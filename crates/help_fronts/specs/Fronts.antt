@@ -156,9 +156,9 @@ gap_len (b ∷ bs) = if is_in_gap b (first bs) then 1 + gap_len bs else 0
 
 pub record FrontSaid : Type 0 where
   pub names : List (List ℕ)
-  -- what is said of each value
+  -- the words for the values, with their brackets
   pub values : List (List ℕ)
-  -- the byte before the first, and the word for it
+  -- the byte before the first, and the first without brackets
   pub joint : ℕ
   pub value : Option (List ℕ)
   pub is_optional : Bool
@@ -168,30 +168,30 @@ pub record FrontSaid : Type 0 where
   pub help : List ℕ
 
 -- what stands after a front: the gap, and then the help
-abbrev pub behind_front : (front : List (List ℕ)) → (text : List ℕ) → List ℕ
-behind_front front text = drop (length (concat front)) text
+abbrev pub after_front : (front : List (List ℕ)) → (text : List ℕ) → List ℕ
+after_front front text = drop (length (concat front)) text
 
-abbrev pub gap_of : (behind : List ℕ) → List ℕ
-gap_of behind = take (gap_len behind) behind
+abbrev pub gap_of : (after : List ℕ) → List ℕ
+gap_of after = take (gap_len after) after
 
-abbrev pub help_of : (behind : List ℕ) → List ℕ
-help_of behind = drop (gap_len behind) behind
+abbrev pub help_of : (after : List ℕ) → List ℕ
+help_of after = drop (gap_len after) after
 
-abbrev pub front_said : (front : List (List ℕ)) → (behind : List ℕ) → FrontSaid
-front_said front behind = record {
+abbrev pub front_said : (front : List (List ℕ)) → (after : List ℕ) → FrontSaid
+front_said front after = record {
   names = names (map word front);
   values = values (from_last (map word front));
   joint = first_joint (from_last (map word front));
   value = option_map value_word (first_value (values (from_last (map word front))));
   is_optional = is_value_optional (first_value (values (from_last (map word front))));
   written = concat front;
-  gap = gap_of behind;
-  help = help_of behind;
+  gap = gap_of after;
+  help = help_of after;
 }
 
 abbrev pub front_in : (front : List (List ℕ)) → (text : List ℕ) → Option FrontSaid
 front_in [] text = None
-front_in (p ∷ ps) text = Some (front_said (p ∷ ps) (behind_front (p ∷ ps) text))
+front_in (p ∷ ps) text = Some (front_said (p ∷ ps) (after_front (p ∷ ps) text))
 
 abbrev pub without_indent : List ℕ → List ℕ
 without_indent line = without_front class.Blank line
@@ -249,14 +249,14 @@ pub record CommandSaid : Type 0 where
   pub gap : List ℕ
   pub help : List ℕ
 
-abbrev pub command_said : (front : List (List ℕ)) → (behind : List ℕ) → CommandSaid
-command_said front behind = record {
+abbrev pub command_said : (front : List (List ℕ)) → (after : List ℕ) → CommandSaid
+command_said front after = record {
   name = command_name (first_word front);
   aliases = aliases (map word front);
   says_else = says_else (map word front);
   written = concat front;
-  gap = gap_of behind;
-  help = help_of behind;
+  gap = gap_of after;
+  help = help_of after;
 }
 
 abbrev pub if_parted : CommandSaid → Option CommandSaid
@@ -264,7 +264,7 @@ if_parted c = if is_parted c.written c.gap c.help then Some c else None
 
 abbrev pub command_in : (front : List (List ℕ)) → (text : List ℕ) → Option CommandSaid
 command_in [] text = None
-command_in (p ∷ ps) text = if_parted (command_said (p ∷ ps) (behind_front (p ∷ ps) text))
+command_in (p ∷ ps) text = if_parted (command_said (p ∷ ps) (after_front (p ∷ ps) text))
 
 -- what the front of a line says, if it begins with a command
 abbrev pub command_front : (line : List ℕ) → Option CommandSaid

@@ -15,9 +15,9 @@ abbrev pub onto_pieces : (is_cut : Bool) → ℕ → List (List ℕ) → List (L
 onto_pieces is_cut b ps = if is_cut then [] ∷ onto_first b ps else onto_first b ps
 
 -- the rest of a piece, after a byte of it, and the pieces after
-abbrev pub pieces_behind : (depth before : ℕ) → List ℕ → List (List ℕ)
-pieces_behind depth before [] = [] ∷ []
-pieces_behind depth before (b ∷ bs) = onto_pieces (is_cut depth before b) b (pieces_behind (deeper depth b) b bs)
+abbrev pub pieces_after : (depth before : ℕ) → List ℕ → List (List ℕ)
+pieces_after depth before [] = [] ∷ []
+pieces_after depth before (b ∷ bs) = onto_pieces (is_cut depth before b) b (pieces_after (deeper depth b) b bs)
 
 -- how many bytes of it there are
 abbrev pub rest_len : (depth before : ℕ) → List ℕ → ℕ
@@ -26,7 +26,7 @@ rest_len depth before (b ∷ bs) = if is_cut depth before b then 0 else 1 + rest
 
 abbrev pub pieces : List ℕ → List (List ℕ)
 pieces [] = []
-pieces (b ∷ bs) = onto_first b (pieces_behind (deeper 0 b) b bs)
+pieces (b ∷ bs) = onto_first b (pieces_after (deeper 0 b) b bs)
 
 -- a piece without the blank that it begins with
 abbrev pub word : (piece : List ℕ) → List ℕ

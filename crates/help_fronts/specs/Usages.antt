@@ -46,8 +46,8 @@ len_of_value text = at_most 200 (value_len 0 32 (take 201 text))
 abbrev pub value_in : (text : List ℕ) → List ℕ
 value_in text = take (len_of_value text) text
 
-abbrev pub behind_value : (text : List ℕ) → List ℕ
-behind_value text = drop (len_of_value text) text
+abbrev pub left_after_value : (text : List ℕ) → List ℕ
+left_after_value text = drop (len_of_value text) text
 
 -- ---- values
 
@@ -60,15 +60,15 @@ abbrev pub is_no_option : (value : List ℕ) → Bool
 is_no_option v = not (is_divider (first v) || is_name (without_front class.Lead v))
 
 -- a closing bracket, or `|` after a blank
-abbrev pub is_end : (behind : List ℕ) → Bool
-is_end behind = is_closing (first behind) || (is_blank (first behind) && second behind == 124)
+abbrev pub is_end : (after : List ℕ) → Bool
+is_end after = is_closing (first after) || (is_blank (first after) && second after == 124)
 
 -- after a blank: the last word of its brackets or before `|`, and anywhere one in `<` and `>` or in capitals
-abbrev pub is_apart : (value behind : List ℕ) → Bool
-is_apart v behind = is_no_option v && (is_end behind || (first v == 60 || is_in_capitals v))
+abbrev pub is_apart : (value after : List ℕ) → Bool
+is_apart v after = is_no_option v && (is_end after || (first v == 60 || is_in_capitals v))
 
 abbrev pub apart : (text : List ℕ) → List ℕ
-apart text = if is_apart (value_in text) (behind_value text) then value_in text else []
+apart text = if is_apart (value_in text) (left_after_value text) then value_in text else []
 
 -- what stands after a name of its value
 abbrev pub value_after : (after : List ℕ) → List ℕ

@@ -3,15 +3,15 @@ use Rattle.std.specs.Prelude.{ℕ, ◌+◌, ◌==◌, ◌||◌, ◌&&◌, Bool, 
 use Rattle.std.specs.Char.{is_ascii_alphanumeric, is_ascii_digit, is_ascii_lowercase, is_ascii_uppercase}
 use Rattle.std.specs.List.{count_by, list_all, list_any, slice_index}
 use Rattle.help_fronts.specs.declared.bytes.Class.TheVariants as class
-use Rattle.help_fronts.specs.Bytes.{first, free_len, is_bracket, is_dash, is_divider, is_letter, is_opening, last, second, without_end, without_front}
+use Rattle.help_fronts.specs.Bytes.{first, free_len, is_bracket, is_dash, is_divider, is_name_start, is_opening, last, second, without_end, without_front}
 
--- ---- names: a dash or two, a letter, and all up to a separator, without dots at the end
+-- ---- names: a dash or two, a byte that may follow them, and all up to a separator, without dots at the end
 
 abbrev pub dashes : List ℕ → ℕ
 dashes w = if is_dash (second w) then 2 else 1
 
 abbrev pub is_name : List ℕ → Bool
-is_name w = is_dash (first w) && is_letter (slice_index w (dashes w))
+is_name w = is_dash (first w) && is_name_start (slice_index w (dashes w))
 
 abbrev pub is_long : List ℕ → Bool
 is_long w = is_name w && is_dash (second w)

@@ -1,9 +1,10 @@
-//! What bytes of a line are, and what is left out at the ends of a text.
+//! What bytes of a line are, and texts without those of one class at an end.
 ghost use Rattle.std.specs.Prelude.{◌≡◌, ◌++◌, ◌-◌, ◌<◌, ◌≤◌, drop, length, take, true};
 ghost use Rattle.std.specs.List.{prefix_len, slice_index, suffix_len};
 ghost use Rattle.help_fronts.specs.Bytes as spec;
 
-// Which bytes are left out.
+// Bytes that are looked for in a text, or left out at an end of it. `Lead` is left out before the word for a value, and
+// `Tail` after it.
 #[derive(Clone, Copy)]
 pub enum Class {
     Blank,
@@ -31,6 +32,7 @@ impl Class {
     }
 }
 
+// A space or a tabulator.
 pub fn is_blank(byte: u8) -> bool
     ensures { result ≡ spec.is_blank byte }
 {
@@ -67,16 +69,17 @@ fn is_quote(byte: u8) -> bool
     byte == b'"' || byte == b'\'' || byte == b'`'
 }
 
-fn is_no_letter(byte: u8) -> bool
-    ensures { result ≡ spec.is_no_letter byte }
+fn is_no_name_start(byte: u8) -> bool
+    ensures { result ≡ spec.is_no_name_start byte }
 {
     is_closing(byte) || is_divider(byte) || is_quote(byte) || byte == b'-' || byte == b'='
 }
 
-pub fn is_letter(byte: u8) -> bool
-    ensures { result ≡ spec.is_letter byte }
+// Whether a byte may follow the dashes of a name.
+pub fn is_name_start(byte: u8) -> bool
+    ensures { result ≡ spec.is_name_start byte }
 {
-    byte > b' ' && !is_no_letter(byte)
+    byte > b' ' && !is_no_name_start(byte)
 }
 
 fn is_separator(byte: u8) -> bool

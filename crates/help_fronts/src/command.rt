@@ -203,14 +203,14 @@ fn read_front<'a, A: Allocator + Copy>(
     alloc: A,
     text: &'a str,
     first: &'a str,
-    behind: &'a str,
+    after: &'a str,
 ) -> Result<Option<CommandFront<'a, A>>, AllocError>
-    requires { text.now ≡ first.now ++ behind.now }
+    requires { text.now ≡ first.now ++ after.now }
     ensures exact { IfOk result (λ front. option_map command_said front
-        ≡ spec.command_in (spec.front_from kind.Command first.now (cut.pieces behind.now)) text.now) }
+        ≡ spec.command_in (spec.front_from kind.Command first.now (cut.pieces after.now)) text.now) }
     ensures whole { IfOk result (λ front. IfSome front (λ f. text.now ≡ (f.written.now ++ f.gap.now) ++ f.help.now)) }
 {
-    let cut = cut_front(alloc, Kind::Command, text, first, behind)?;
+    let cut = cut_front(alloc, Kind::Command, text, first, after)?;
     let others = names_of(alloc, &cut.words)?;
     if !is_parted(cut.written, cut.gap, cut.help) {
         return Ok(None);
@@ -241,6 +241,6 @@ pub fn command_front<'a, A: Allocator + Copy>(
     let text = without_front(line, Class::Blank);
     match first_of_front(Kind::Command, text) {
         None => Ok(None),
-        Some((first, behind)) => read_front(alloc, text, first, behind),
+        Some((first, after)) => read_front(alloc, text, first, after),
     }
 }

@@ -131,9 +131,9 @@ fn next_piece<'a>(kind: Kind, before: &str, rest: &'a str) -> Option<(&'a str, &
     ensures whole { IfSome result (λ p. rest.now ≡ p.0.now ++ p.1.now) }
     ensures shorter { IfSome result (λ p. length p.1.now < length rest.now) }
 {
-    let (piece, behind) = first_piece(rest)?;
-    if belongs(kind, before, word(piece), first_word(behind)) {
-        Some((piece, behind))
+    let (piece, after) = first_piece(rest)?;
+    if belongs(kind, before, word(piece), first_word(after)) {
+        Some((piece, after))
     } else {
         None
     }
@@ -144,14 +144,14 @@ fn push_words<'a, A: Allocator>(
     kind: Kind,
     words: &mut Vec<&'a str, A>,
     before: &'a str,
-    behind: &'a str,
+    after: &'a str,
 ) -> Result<&'a str, AllocError>
     ensures words { OnOk result (map (λ w. w.now) words.new.items
-        ≡ map (λ w. w.now) words.old.items ++ map word (spec.belonging kind before.now (pieces behind.now))) }
-    ensures rest { IfOk result (λ rest. behind.now ≡ concat (spec.belonging kind before.now (pieces behind.now)) ++ rest.now) }
+        ≡ map (λ w. w.now) words.old.items ++ map word (spec.belonging kind before.now (pieces after.now))) }
+    ensures rest { IfOk result (λ rest. after.now ≡ concat (spec.belonging kind before.now (pieces after.now)) ++ rest.now) }
 {
     let mut last = before;
-    let mut rest = behind;
+    let mut rest = after;
     while let Some((piece, others)) = next_piece(kind, last, rest) {
         last = word(piece);
         words.push(last)?;
@@ -200,9 +200,9 @@ pub fn first_of_front(kind: Kind, text: &str) -> Option<(&str, &str)>
         (λ p. spec.front kind (pieces text.now) ≡ spec.front_from kind p.0.now (pieces p.1.now)) }
     ensures whole { IfSome result (λ p. text.now ≡ p.0.now ++ p.1.now) }
 {
-    let (first, behind) = first_piece(text)?;
+    let (first, after) = first_piece(text)?;
     if begins_front(kind, word(first)) {
-        Some((first, behind))
+        Some((first, after))
     } else {
         None
     }
@@ -223,18 +223,18 @@ pub fn cut_front<'a, A: Allocator + Copy>(
     kind: Kind,
     text: &'a str,
     first: &'a str,
-    behind: &'a str,
+    after: &'a str,
 ) -> Result<Cut<'a, A>, AllocError>
-    requires { text.now ≡ first.now ++ behind.now }
-    ensures words { IfOk result (λ c. map (λ w. w.now) c.words.items ≡ map word (spec.front_from kind first.now (pieces behind.now))) }
-    ensures written { IfOk result (λ c. c.written.now ≡ concat (spec.front_from kind first.now (pieces behind.now))) }
-    ensures gap { IfOk result (λ c. c.gap.now ≡ spec.gap_of (spec.behind_front (spec.front_from kind first.now (pieces behind.now)) text.now)) }
-    ensures help { IfOk result (λ c. c.help.now ≡ spec.help_of (spec.behind_front (spec.front_from kind first.now (pieces behind.now)) text.now)) }
+    requires { text.now ≡ first.now ++ after.now }
+    ensures words { IfOk result (λ c. map (λ w. w.now) c.words.items ≡ map word (spec.front_from kind first.now (pieces after.now))) }
+    ensures written { IfOk result (λ c. c.written.now ≡ concat (spec.front_from kind first.now (pieces after.now))) }
+    ensures gap { IfOk result (λ c. c.gap.now ≡ spec.gap_of (spec.after_front (spec.front_from kind first.now (pieces after.now)) text.now)) }
+    ensures help { IfOk result (λ c. c.help.now ≡ spec.help_of (spec.after_front (spec.front_from kind first.now (pieces after.now)) text.now)) }
     ensures whole { IfOk result (λ c. text.now ≡ (c.written.now ++ c.gap.now) ++ c.help.now) }
 {
     let mut words = Vec::new(alloc);
     words.push(word(first))?;
-    let rest = push_words(kind, &mut words, word(first), behind)?;
+    let rest = push_words(kind, &mut words, word(first), after)?;
     let (written, rest) = text.split_at(text.len() - rest.len());
     let (gap, help) = rest.split_at(gap_len(rest));
     Ok(Cut {

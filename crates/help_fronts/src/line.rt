@@ -23,10 +23,10 @@ fn further_word<'a>(before: &str, text: &'a str) -> Option<(&'a str, &'a str)>
         (λ p. spec.further_words before.now (pieces text.now) ≡ p.0.now ∷ spec.further_words p.0.now (pieces p.1.now)) }
     ensures shorter { IfSome result (λ p. length p.1.now < length text.now) }
 {
-    let (piece, behind) = first_piece(text)?;
+    let (piece, after) = first_piece(text)?;
     let found = word(piece);
-    if goes_on(before, found, first_word(behind)) {
-        Some((found, behind))
+    if goes_on(before, found, first_word(after)) {
+        Some((found, after))
     } else {
         None
     }
@@ -37,10 +37,10 @@ fn first_name(text: &str) -> Option<(&str, &str)>
     ensures { MatchOption result (spec.option_words (pieces text.now) ≡ [])
         (λ p. spec.option_words (pieces text.now) ≡ p.0.now ∷ spec.further_words p.0.now (pieces p.1.now)) }
 {
-    let (piece, behind) = first_piece(text)?;
+    let (piece, after) = first_piece(text)?;
     let found = word(piece);
     if is_name(found) {
-        Some((found, behind))
+        Some((found, after))
     } else {
         None
     }
@@ -50,13 +50,13 @@ fn first_name(text: &str) -> Option<(&str, &str)>
 fn push_names<'a, A: Allocator>(
     names: &mut Vec<&'a str, A>,
     first: &'a str,
-    behind: &'a str,
+    after: &'a str,
 ) -> Result<(), AllocError>
     ensures { OnOk result (map (λ n. n.now) names.new.items
-        ≡ map (λ n. n.now) names.old.items ++ fronts.names (first.now ∷ spec.further_words first.now (pieces behind.now))) }
+        ≡ map (λ n. n.now) names.old.items ++ fronts.names (first.now ∷ spec.further_words first.now (pieces after.now))) }
 {
     let mut before = first;
-    let mut rest = behind;
+    let mut rest = after;
     push_name(names, first)?;
     while let Some((found, others)) = further_word(before, rest) {
         push_name(names, found)?;
@@ -79,8 +79,8 @@ pub fn option_names<'a, A: Allocator + Copy>(
     ensures { IfOk result (λ found. map (λ n. n.now) found.items ≡ spec.option_names line.now) }
 {
     let mut names = Vec::new(alloc);
-    if let Some((first, behind)) = first_name(without_front(line, Class::Blank)) {
-        push_names(&mut names, first, behind)?;
+    if let Some((first, after)) = first_name(without_front(line, Class::Blank)) {
+        push_names(&mut names, first, after)?;
     }
     Ok(names)
 }

@@ -20,12 +20,12 @@ use std::alloc::{AllocError, Allocator, Global};
 pub struct OptionFront<'a, A: Allocator = Global> {
     /// With their dashes, in the order of the line.
     pub names: Vec<&'a str, A>,
-    /// What is said of each value of the last name that has any, with brackets: `<MIN>` and `[MAX]` of
-    /// `--of <MIN> [MAX]`.
+    /// The words for the values of the last name that has any, with their brackets: `<MIN>` and `[MAX]` of
+    /// `--of <MIN> [MAX]`. A `...` after the first is one of them.
     pub values: Vec<&'a str, A>,
     /// The byte directly after the name, as `=` or a bracket, if the first value is in one word with it; else a blank.
     pub joint: u8,
-    /// The word for the first value, mostly without brackets.
+    /// The first of them without the brackets at its ends; as it stands, where it has brackets elsewhere.
     pub value: Option<&'a str>,
     /// Whether the first value stands in square brackets.
     pub is_optional: bool,
@@ -188,13 +188,13 @@ fn read_front<'a, A: Allocator + Copy>(
     alloc: A,
     text: &'a str,
     first: &'a str,
-    behind: &'a str,
+    after: &'a str,
 ) -> Result<OptionFront<'a, A>, AllocError>
-    requires { text.now ≡ first.now ++ behind.now }
-    ensures exact { IfOk result (λ f. Some (said f) ≡ spec.front_in (spec.front_from kind.Option first.now (pieces behind.now)) text.now) }
+    requires { text.now ≡ first.now ++ after.now }
+    ensures exact { IfOk result (λ f. Some (said f) ≡ spec.front_in (spec.front_from kind.Option first.now (pieces after.now)) text.now) }
     ensures whole { IfOk result (λ f. text.now ≡ (f.written.now ++ f.gap.now) ++ f.help.now) }
 {
-    let cut = cut_front(alloc, Kind::Option, text, first, behind)?;
+    let cut = cut_front(alloc, Kind::Option, text, first, after)?;
     let mut names = Vec::new(alloc);
     push_names(&mut names, &cut.words)?;
     let valued = from_last(&cut.words);
@@ -228,6 +228,6 @@ pub fn option_front<'a, A: Allocator + Copy>(
     let text = without_front(line, Class::Blank);
     match first_of_front(Kind::Option, text) {
         None => Ok(None),
-        Some((first, behind)) => Ok(Some(read_front(alloc, text, first, behind)?)),
+        Some((first, after)) => Ok(Some(read_front(alloc, text, first, after)?)),
     }
 }

@@ -26,19 +26,19 @@ pub fn is_cut(depth: usize, before: u8, byte: u8) -> bool
 }
 
 // How many bytes of the first piece stand after its first byte.
-fn rest_len(first: u8, behind: &[u8]) -> usize
-    ensures { result ≡ spec.rest_len (spec.deeper 0 first) first behind.now }
+fn rest_len(first: u8, after: &[u8]) -> usize
+    ensures { result ≡ spec.rest_len (spec.deeper 0 first) first after.now }
 {
     let mut depth = deeper(0, first);
     let mut before = first;
-    for (index, byte) in behind.iter().enumerate() {
+    for (index, byte) in after.iter().enumerate() {
         if is_cut(depth, before, *byte) {
             return index;
         }
         depth = deeper(depth, *byte);
         before = *byte;
     }
-    behind.len()
+    after.len()
 }
 
 /// The first piece of a text, and what stands after it.
@@ -47,8 +47,8 @@ pub fn first_piece(text: &str) -> Option<(&str, &str)>
     ensures whole { IfSome result (λ p. text.now ≡ p.0.now ++ p.1.now) }
     ensures shorter { IfSome result (λ p. length p.1.now < length text.now) }
 {
-    let (first, behind) = text.as_bytes().split_first()?;
-    Some(text.split_at(1 + rest_len(*first, behind)))
+    let (first, after) = text.as_bytes().split_first()?;
+    Some(text.split_at(1 + rest_len(*first, after)))
 }
 
 /// A piece without the blank that it begins with.

@@ -92,7 +92,7 @@ fn len_of_value(text: &str) -> usize
 // The value that a text begins with, and what stands after it.
 fn split_value(text: &str) -> (&str, &str)
     ensures value { result.0.now ≡ spec.value_in text.now }
-    ensures behind { result.1.now ≡ spec.behind_value text.now }
+    ensures after { result.1.now ≡ spec.left_after_value text.now }
 {
     text.split_at(len_of_value(text))
 }
@@ -112,25 +112,25 @@ fn is_no_option(value: &str) -> bool
     !(is_divider(byte_at(value, 0)) || is_name(without_front(value, Class::Lead)))
 }
 
-fn is_end(behind: &str) -> bool
-    ensures { result ≡ spec.is_end behind.now }
+fn is_end(after: &str) -> bool
+    ensures { result ≡ spec.is_end after.now }
 {
-    let first = byte_at(behind, 0);
-    is_closing(first) || (is_blank(first) && byte_at(behind, 1) == b'|')
+    let first = byte_at(after, 0);
+    is_closing(first) || (is_blank(first) && byte_at(after, 1) == b'|')
 }
 
 // Whether a word after a blank is a value.
-fn is_apart(value: &str, behind: &str) -> bool
-    ensures { result ≡ spec.is_apart value.now behind.now }
+fn is_apart(value: &str, after: &str) -> bool
+    ensures { result ≡ spec.is_apart value.now after.now }
 {
-    is_no_option(value) && (is_end(behind) || byte_at(value, 0) == b'<' || is_in_capitals(value))
+    is_no_option(value) && (is_end(after) || byte_at(value, 0) == b'<' || is_in_capitals(value))
 }
 
 fn apart(text: &str) -> &str
     ensures { result.now ≡ spec.apart text.now }
 {
-    let (value, behind) = split_value(text);
-    if is_apart(value, behind) { value } else { "" }
+    let (value, after) = split_value(text);
+    if is_apart(value, after) { value } else { "" }
 }
 
 fn value_after(after: &str) -> &str
@@ -158,7 +158,8 @@ fn joint_after(after: &str) -> u8
 
 // ---- options
 
-// The option of a name, if something is said of its value with that value.
+// The option of this name, with the value and the byte before it; without both, where no word for a value is left of the
+// text.
 fn used_with<'a>(name: &'a str, joint: u8, value: &'a str) -> UsageOption<'a>
     ensures { used_said result ≡ spec.used_with name.now joint value.now }
 {
@@ -215,10 +216,10 @@ pub fn usage_options<'a, A: Allocator + Copy>(
     let mut options = Vec::new(alloc);
     let mut before = "";
     let mut rest = line;
-    while let Some((word, behind)) = split_word(rest) {
+    while let Some((word, after)) = split_word(rest) {
         push_option(&mut options, before, word)?;
         before = word.text;
-        rest = behind;
+        rest = after;
     }
     let last = Word {
         text: rest,

@@ -5,7 +5,7 @@ ghost use Rattle.help_fronts.specs.Bytes.{is_bracket};
 ghost use Rattle.help_fronts.specs.Words as spec;
 
 use crate::bytes::{
-    Class, byte_at, free_len, is_closing, is_divider, is_letter, is_opening, last_byte,
+    Class, byte_at, free_len, is_closing, is_divider, is_name_start, is_opening, last_byte,
     without_end, without_front,
 };
 
@@ -20,7 +20,7 @@ fn dashes(word: &str) -> usize
 pub fn is_name(word: &str) -> bool
     ensures { result ≡ spec.is_name word.now }
 {
-    byte_at(word, 0) == b'-' && is_letter(byte_at(word, dashes(word)))
+    byte_at(word, 0) == b'-' && is_name_start(byte_at(word, dashes(word)))
 }
 
 pub fn is_long(word: &str) -> bool

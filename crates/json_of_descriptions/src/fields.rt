@@ -102,9 +102,9 @@ fn put_each<A: Allocator>(out: &mut Pretty<A>, text: &str) -> Result<(), AllocEr
     ensures { OnOk result (PutsValues out.old out.new (map string (listed_values text.now))) }
 {
     let mut rest = text;
-    while let Some((value, behind)) = split_value(rest) {
+    while let Some((value, after)) = split_value(rest) {
         out.token(Token::String(value))?;
-        rest = behind;
+        rest = after;
     }
     out.token(Token::String(rest))
 }

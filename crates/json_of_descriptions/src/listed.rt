@@ -11,11 +11,11 @@ pub fn has_empty_value(text: &str) -> bool
     ensures { result ≡ list_any is_empty (listed_values text.now) }
 {
     let mut rest = text;
-    while let Some((value, behind)) = split_value(rest) {
+    while let Some((value, after)) = split_value(rest) {
         if value.is_empty() {
             return true;
         }
-        rest = behind;
+        rest = after;
     }
     rest.is_empty()
 }

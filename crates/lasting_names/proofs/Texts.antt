@@ -51,10 +51,10 @@ or_again : (a b : Bool) → (a || b) ≡ (a || (a || b))
 or_again true b = refl
 or_again false b = refl
 
-behind : (a b c : Bool) → (b || (a || c)) ≡ (a || (b || c))
-behind true true c = refl
-behind true false c = refl
-behind false b c = refl
+after : (a b c : Bool) → (b || (a || c)) ≡ (a || (b || c))
+after true true c = refl
+after true false c = refl
+after false b c = refl
 
 any_put : (t : List ℕ) (k : Bor (List ℕ)) (ks : List (Bor (List ℕ))) → list_any (bytes_eq t) (texts (insert_key cmp ks k)) ≡ (bytes_eq t k.now || list_any (bytes_eq t) (texts ks))
 any_put t k [] = refl
@@ -65,7 +65,7 @@ any_put t k (x ∷ ks) = by (cmp k x) refl (any_put t k ks) where
   by Equal e rest =
       let same : k.now ≡ x.now = (bytes_decides k.now x.now).0 (texts_ties k.now x.now ∙ ap is_eq e) in
       or_again (bytes_eq t x.now) (list_any (bytes_eq t) (texts ks)) ∙ ap (λ u. bytes_eq t u || (bytes_eq t x.now || list_any (bytes_eq t) (texts ks))) (sym same)
-  by Greater e rest = ap (λ b. bytes_eq t x.now || b) rest ∙ behind (bytes_eq t k.now) (bytes_eq t x.now) (list_any (bytes_eq t) (texts ks))
+  by Greater e rest = ap (λ b. bytes_eq t x.now || b) rest ∙ after (bytes_eq t k.now) (bytes_eq t x.now) (list_any (bytes_eq t) (texts ks))
 
 -- after `insert` of k the text of k is kept besides
 pub put : (k : Bor (List ℕ)) (ks ls : List (Bor (List ℕ))) → ls ≡ insert_key cmp ks k → KeepsAlso k.now (texts ks) (texts ls)

@@ -86,5 +86,5 @@ chapters_seen (one ∷ others) = ap (λ texts. chapter_texts one ++ texts) (chap
 
 -- what is found first in two lists of texts
 pub both_found : (first second whole : Option (Bor (List ℕ))) (xs ys : List (List ℕ)) → text_of whole ≡ option_or (text_of first) (text_of second) → text_of first ≡ refused_in xs → text_of second ≡ refused_in ys → text_of whole ≡ refused_in (xs ++ ys)
-both_found first second whole xs ys is here behind =
-    is ∙ ap (λ found. option_or found (text_of second)) here ∙ ap (option_or (refused_in xs)) behind ∙ sym (refused_append xs ys)
+both_found first second whole xs ys is here after =
+    is ∙ ap (λ found. option_or found (text_of second)) here ∙ ap (option_or (refused_in xs)) after ∙ sym (refused_append xs ys)

@@ -35,15 +35,15 @@ belongs at.Sequence c = is_between 0x20 0x7E c
 belongs at.String c = not (is_newline c)
 
 -- where a reader is after a character that belongs to what began before it
-abbrev pub after : Place → ℕ → Place
-after at.Letters c = at.Letters
-after at.Escape c =
+abbrev pub place_after : Place → ℕ → Place
+place_after at.Letters c = at.Letters
+place_after at.Escape c =
     if c == 0x5B then at.Sequence
     else if is_string_start c then at.String
     else if is_between 0x20 0x2F c then at.Escape
     else at.Letters
-after at.Sequence c = if is_between 0x20 0x3F c then at.Sequence else at.Letters
-after at.String c = if is_string_end c then at.Letters else if is_escape c then at.Escape else at.String
+place_after at.Sequence c = if is_between 0x20 0x3F c then at.Sequence else at.Letters
+place_after at.String c = if is_string_end c then at.Letters else if is_escape c then at.Escape else at.String
 
 -- where a reader is after any other character
 abbrev pub entered : ℕ → Place
@@ -59,38 +59,38 @@ pub record Screen : Type 0 where
   -- the letters before the cursor, the last one first
   pub before : List ℕ
   -- those from the cursor on, in its line
-  pub behind : List ℕ
+  pub after : List ℕ
 
 abbrev pub is_at_start : (before : List ℕ) → Bool
 is_at_start [] = true
 is_at_start (c ∷ cs) = is_newline c
 
-abbrev pub screen : Place → (before behind : List ℕ) → Screen
-screen p before behind = record { place = p; before = before; behind = behind }
+abbrev pub screen : Place → (before after : List ℕ) → Screen
+screen p before after = record { place = p; before = before; after = after }
 
 -- one cell to the left, within the line
-abbrev pub back_in : Place → (before behind : List ℕ) → Screen
-back_in p [] behind = screen p [] behind
-back_in p (c ∷ cs) behind = if is_newline c then screen p (c ∷ cs) behind else screen p cs (c ∷ behind)
+abbrev pub back_in : Place → (before after : List ℕ) → Screen
+back_in p [] after = screen p [] after
+back_in p (c ∷ cs) after = if is_newline c then screen p (c ∷ cs) after else screen p cs (c ∷ after)
 
 abbrev pub back : Screen → Screen
-back s = back_in s.place s.before s.behind
+back s = back_in s.place s.before s.after
 
 -- to the start of the line
-abbrev pub to_start_in : Place → (before behind : List ℕ) → Screen
-to_start_in p [] behind = screen p [] behind
-to_start_in p (c ∷ cs) behind = if is_newline c then screen p (c ∷ cs) behind else to_start_in p cs (c ∷ behind)
+abbrev pub to_start_in : Place → (before after : List ℕ) → Screen
+to_start_in p [] after = screen p [] after
+to_start_in p (c ∷ cs) after = if is_newline c then screen p (c ∷ cs) after else to_start_in p cs (c ∷ after)
 
 abbrev pub to_start : Screen → Screen
-to_start s = to_start_in s.place s.before s.behind
+to_start s = to_start_in s.place s.before s.after
 
 -- to the end of the line
 abbrev pub to_end : Screen → Screen
-to_end s = screen s.place (reverse s.behind ++ s.before) []
+to_end s = screen s.place (reverse s.after ++ s.before) []
 
 -- a letter stands in place of the one at the cursor
 abbrev pub with_letter : ℕ → Screen → Screen
-with_letter c s = screen s.place (c ∷ s.before) (drop 1 s.behind)
+with_letter c s = screen s.place (c ∷ s.before) (drop 1 s.after)
 
 abbrev pub with_newline : Screen → Screen
 with_newline s = with_letter 10 (to_end s)
@@ -105,18 +105,18 @@ with_character s c =
     else s
 
 abbrev pub at_place : Place → Screen → Screen
-at_place p s = screen p s.before s.behind
+at_place p s = screen p s.before s.after
 
 abbrev pub step : Screen → ℕ → Screen
 step s c =
-    if belongs s.place c then at_place (after s.place c) s
+    if belongs s.place c then at_place (place_after s.place c) s
     else with_character (at_place (entered c) s) c
 
 abbrev pub blank_screen : Screen
 blank_screen = screen at.Letters [] []
 
 abbrev pub letters_on : Screen → List ℕ
-letters_on s = reverse s.before ++ s.behind
+letters_on s = reverse s.before ++ s.after
 
 abbrev pub shown_letters : (text : List ℕ) → List ℕ
 shown_letters text = flat_map encode_utf8 (letters_on (fold step blank_screen (chars text)))

@@ -3,11 +3,11 @@
 ghost use Rattle.std.specs.Prelude.{◌≡◌};
 ghost use Rattle.shown_letters.specs.declared.place.Place.TheVariants as at;
 ghost use Rattle.shown_letters.specs.Terminal.{
-  after,
   belongs,
   entered,
   is_string_control,
   is_string_start,
+  place_after,
 };
 
 /// What a character belongs to: nothing, what an escape began, a control sequence, or a string that is not shown.
@@ -33,7 +33,7 @@ impl Place {
 
     /// The place after a character that belongs to what began before it.
     pub fn after(self, character: char) -> Self
-        ensures { result ≡ after self character }
+        ensures { result ≡ place_after self character }
     {
         match self {
             Place::Letters => Place::Letters,
@@ -58,7 +58,7 @@ impl Place {
 }
 
 fn after_escape(character: char) -> Place
-    ensures { result ≡ after at.Escape character }
+    ensures { result ≡ place_after at.Escape character }
 {
     match character {
         '[' => Place::Sequence,
@@ -69,7 +69,7 @@ fn after_escape(character: char) -> Place
 }
 
 fn after_string(character: char) -> Place
-    ensures { result ≡ after at.String character }
+    ensures { result ≡ place_after at.String character }
 {
     match character {
         '\u{7}' | '\u{9c}' => Place::Letters,

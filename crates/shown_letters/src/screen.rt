@@ -13,7 +13,7 @@ use std::marker::Model;
 pub struct Screen<A: Allocator> {
     place: Place,
     before: Vec<char, A>,
-    behind: Vec<char, A>,
+    after: Vec<char, A>,
 }
 
 impl<A: Allocator> Model for Screen<A> {
@@ -22,7 +22,7 @@ impl<A: Allocator> Model for Screen<A> {
     ghost view = { λ s. record {
       place = s.place;
       before = reverse (vec_items s.before);
-      behind = reverse (vec_items s.behind);
+      after = reverse (vec_items s.after);
     } };
 }
 
@@ -34,7 +34,7 @@ impl<A: Allocator + Copy> Screen<A> {
         Screen {
             place: Place::Letters,
             before: Vec::new(alloc),
-            behind: Vec::new(alloc),
+            after: Vec::new(alloc),
         }
     }
 }
@@ -56,7 +56,7 @@ impl<A: Allocator> Screen<A> {
             return Ok(());
         }
         if let Some(letter) = self.before.pop() {
-            self.behind.push(letter)?;
+            self.after.push(letter)?;
         }
         Ok(())
     }
@@ -73,7 +73,7 @@ impl<A: Allocator> Screen<A> {
     fn to_end(&mut self) -> Result<(), AllocError>
         ensures { OnOk result (self.new ≡ terminal.to_end self.old) }
     {
-        while let Some(letter) = self.behind.pop() {
+        while let Some(letter) = self.after.pop() {
             self.before.push(letter)?;
         }
         Ok(())
@@ -82,7 +82,7 @@ impl<A: Allocator> Screen<A> {
     fn put(&mut self, letter: char) -> Result<(), AllocError>
         ensures { OnOk result (self.new ≡ terminal.with_letter letter self.old) }
     {
-        self.behind.pop();
+        self.after.pop();
         self.before.push(letter)?;
         Ok(())
     }

@@ -24,16 +24,16 @@ AppendsPart-after a b c front bytes written part =
     }
 
 -- a part of the bytes was written, and none of those after them
-pub AppendsPart-before : (a b : Option (List ℕ)) (bytes behind : List ℕ) → AppendsPart a b bytes → AppendsPart a b (bytes ++ behind)
-AppendsPart-before a b bytes behind part =
+pub AppendsPart-before : (a b : Option (List ℕ)) (bytes after : List ℕ) → AppendsPart a b bytes → AppendsPart a b (bytes ++ after)
+AppendsPart-before a b bytes after part =
     record {
       front = part.front;
-      rest = part.rest ++ behind;
-      split = ap (λ l. l ++ behind) part.split ∙ append_assoc part.front part.rest behind;
+      rest = part.rest ++ after;
+      split = ap (λ l. l ++ after) part.split ∙ append_assoc part.front part.rest after;
       missing = λ none. part.missing (first_none part.rest none);
       written = part.written;
     }
   where
-    first_none : (xs : List ℕ) → xs ++ behind ≡ [] → xs ≡ []
+    first_none : (xs : List ℕ) → xs ++ after ≡ [] → xs ≡ []
     first_none [] e = refl
     first_none (x ∷ xs) e = absurd cc

@@ -1,5 +1,5 @@
--- Calls of a stream, which are described by a relation of its own. Code that takes any stream learns of the relation
--- only by calls.
+-- What calls on a stream did, one after another. What one call did is a relation of the stream's type: `reads` of a
+-- `Source`, `writes` of a `Sink`. Code that takes any stream can show that it holds only by a call that was made.
 use Rattle.std.specs.Prelude.{◌≡◌, ◌≢◌, ◌<◌, ◌⊎◌, ℕ, List, [], ◌++◌, take, Result, Ok, Err, IsUtf8}
 use Rattle.std_io.specs.IoError.{error_kind}
 use Rattle.std_io.specs.declared.io.error.Error.{Error}

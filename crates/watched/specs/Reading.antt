@@ -18,8 +18,8 @@ is_failed_read (Err (Failed error)) = true
 is_failed_read (Err NotUtf8) = false
 is_failed_read (Err (Refused error)) = false
 
--- the error is not that of an interrupted read, which is made again
-abbrev pub IsRetried : ReadError → Type 0
-IsRetried (Failed error) = error_kind error ≢ Interrupted
-IsRetried NotUtf8 = ⊤
-IsRetried (Refused error) = ⊤
+-- the error is not that of an interrupted read
+abbrev pub IsNoInterruption : ReadError → Type 0
+IsNoInterruption (Failed error) = error_kind error ≢ Interrupted
+IsNoInterruption NotUtf8 = ⊤
+IsNoInterruption (Refused error) = ⊤

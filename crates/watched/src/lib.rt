@@ -8,7 +8,7 @@ ghost use Rattle.std.specs.Io.{ReadsAtMost, WritesAtMost};
 ghost use Rattle.std_io.specs.IoError.{error_kind};
 ghost use Rattle.std.specs.Io.KnownBytes.{Appends, ReadConsumes, WriteAppends};
 ghost use Rattle.watched.specs.Calls.{Moves, ReadStops, ReadsToEnd, WriteFails};
-ghost use Rattle.watched.specs.Reading.{IsRefused, IsRetried, is_failed_read};
+ghost use Rattle.watched.specs.Reading.{IsRefused, IsNoInterruption, is_failed_read};
 ghost use Rattle.watched.specs.Watched.{AppendsPart, IsUnmarked, ReadsAll, ReadsNoText, is_failed_write};
 
 use std::alloc::{AllocError, Allocator};
@@ -107,9 +107,9 @@ impl<R: Source> Watched<R> {
         result
     }
 
-    /// All that the reader has left. A read that fails ends it with its error, of whatever kind this is, and so does
-    /// a growth that is refused: a reader that never ends meets that. In both cases what was read until then is lost.
-    /// `NotUtf8` never comes.
+    /// Reads all that the reader has left. The first read that fails ends it with that error, and a refused growth ends
+    /// it with `Refused`; what was read until then is lost. `NotUtf8` never comes. A reader without an end is read
+    /// until a growth is refused or a read fails.
     pub fn read_all<A: Allocator>(&mut self, alloc: A) -> Result<Vec<u8, A>, ReadError>
         ensures ok { IfOk result (λ bytes.
             ReadsAll (R.remaining self.old.end) (R.remaining self.new.end) bytes.items) }
@@ -118,7 +118,7 @@ impl<R: Source> Watched<R> {
             ReadsToEnd R.reads self.old.end bytes.items self.new.end) }
         ensures stops { IfErr result (λ error.
             ReadStops R.reads self.old.end error self.new.end) }
-        ensures retried { IfErr result IsRetried }
+        ensures retried { IfErr result IsNoInterruption }
         ensures mark { self.new.marked ≡ (self.old.marked || is_failed_read result) }
     {
         let mut chunk = [0; CHUNK];
@@ -144,7 +144,7 @@ impl<R: Source> Watched<R> {
             ReadsToEnd R.reads self.old.end (string_bytes text) self.new.end) }
         ensures stops { IfErr result (λ error.
             ReadStops R.reads self.old.end error self.new.end) }
-        ensures retried { IfErr result IsRetried }
+        ensures retried { IfErr result IsNoInterruption }
         ensures mark { self.new.marked ≡ (self.old.marked || is_failed_read result) }
     {
         let bytes = self.read_all(alloc)?;
@@ -182,7 +182,7 @@ impl<W: Sink> Watched<W> {
     }
 
     /// Writes all of the bytes, in as many writes as the writer takes. The first that fails ends it with its
-    /// error, of whatever kind this is, and then the writer has a beginning of the bytes, and not all of them.
+    /// error, and then the writer has a beginning of the bytes, and not all of them.
     /// A write that takes none gives `WriteZero`.
     pub fn write_all(&mut self, buf: &[u8]) -> io::Result<()>
         ensures retried { IfErr result (λ error. error_kind error ≢ ErrorKind.Interrupted) }

@@ -10,11 +10,11 @@ use std::rt::Env;
 use std::str::from_utf8;
 use std::{env, io};
 
-/// The status for words that choose nothing.
+/// The status of a run whose words do not say what the program is to do.
 pub const WRONG_WORDS: u8 = 2;
 
-/// What is done with the words after the program's name. An error says that they could not be read, or a growth
-/// was refused.
+/// Reads the words after the program's name, and returns what `follow` returns for them. An error comes before `follow`
+/// is called: a word is not a text, or a growth was refused.
 pub fn with_words<R: Alloc + Env, T, F: FnOnce(&[&str]) -> T + Drop>(
     rt: &R,
     follow: F,
@@ -29,8 +29,8 @@ pub fn with_words<R: Alloc + Env, T, F: FnOnce(&[&str]) -> T + Drop>(
     Ok(follow(&words))
 }
 
-/// The number of the first word that is not a text; the program's name has the number 0. None where all are, or where
-/// memory does not last.
+/// Which word of the command line is the first that is not UTF-8, where the program's name is word 0. None where each
+/// is, or where memory does not last.
 pub fn garbled_word<R: Alloc + Env>(rt: &R) -> Option<usize> {
     for index in 0..usize::MAX {
         if !is_text(rt, index)? {
@@ -40,7 +40,7 @@ pub fn garbled_word<R: Alloc + Env>(rt: &R) -> Option<usize> {
     None
 }
 
-// Whether the word of this number is a text. None where there is no such word, or memory does not last.
+// Whether this word of the command line is UTF-8. None where there is no such word, or memory does not last.
 fn is_text<R: Alloc + Env>(rt: &R, index: usize) -> Option<bool> {
     let mut room = 256usize;
     for _ in 0..usize::BITS {

@@ -12,16 +12,16 @@ loop-index-preserved-then-is_refused g c =
     let before : c.loop-index.index ≡ i + 1 = omega arith in
     let below : i < length fs = omega arith in
     let f = get_or fs i _ in
-    let held = subst (λ n. Held c.loop-index.behind.keys fs n) before c.loop-index.invariant.known in
+    let held = subst (λ n. Held c.loop-index.keys_after.keys fs n) before c.loop-index.invariant.known in
     let same = c.in_ok-name_key.ensures in
     let key = c.in_ok-name_key.field-0 in
     let alone = c.in_ok-is_alone.is_alone in
-    let is = alone_is fs i f _ refl below c.loop-index.behind.keys c.insert.new.self.keys key same held alone (key_added c.loop-index.behind.keys key alone c.in_ok-is_alone.ensures.added) in
+    let is = alone_is fs i f _ refl below c.loop-index.keys_after.keys c.insert.new.self.keys key same held alone (key_added c.loop-index.keys_after.keys key alone c.in_ok-is_alone.ensures.added) in
     let refused = sym c.if-is_refused.true ∙ c.is_refused.ensures in
     record {
       in_range = omega arith;
       within = omega arith;
-      known = held_more fs i f _ refl below c.loop-index.behind.keys c.insert.new.self.keys key same held (keys_updated c.loop-index.behind.keys c.insert.new.self.keys key c.in_ok-is_alone.ensures.updates.0);
+      known = held_more fs i f _ refl below c.loop-index.keys_after.keys c.insert.new.self.keys key same held (keys_updated c.loop-index.keys_after.keys c.insert.new.self.keys key c.in_ok-is_alone.ensures.updates.0);
       judged = refused_here fs i f _ refl below alone is refused;
     }
 
@@ -34,16 +34,16 @@ loop-index-preserved g c =
     let before : c.loop-index.index ≡ i + 1 = omega arith in
     let below : i < length fs = omega arith in
     let f = get_or fs i _ in
-    let held = subst (λ n. Held c.loop-index.behind.keys fs n) before c.loop-index.invariant.known in
+    let held = subst (λ n. Held c.loop-index.keys_after.keys fs n) before c.loop-index.invariant.known in
     let judged = subst (λ n. is_first_name (names_from fs c.loop-index.first) ≡ are_file_names (names_from fs n)) before c.loop-index.invariant.judged in
     let same = c.in_ok-name_key.ensures in
     let key = c.in_ok-name_key.field-0 in
     let alone = c.in_ok-is_alone.is_alone in
-    let is = alone_is fs i f _ refl below c.loop-index.behind.keys c.insert.new.self.keys key same held alone (key_added c.loop-index.behind.keys key alone c.in_ok-is_alone.ensures.added) in
+    let is = alone_is fs i f _ refl below c.loop-index.keys_after.keys c.insert.new.self.keys key same held alone (key_added c.loop-index.keys_after.keys key alone c.in_ok-is_alone.ensures.added) in
     let passed = sym c.if-is_refused.false ∙ c.is_refused.ensures in
     record {
       in_range = omega arith;
       within = c.loop-index.invariant.within;
-      known = held_more fs i f _ refl below c.loop-index.behind.keys c.insert.new.self.keys key same held (keys_updated c.loop-index.behind.keys c.insert.new.self.keys key c.in_ok-is_alone.ensures.updates.0);
+      known = held_more fs i f _ refl below c.loop-index.keys_after.keys c.insert.new.self.keys key same held (keys_updated c.loop-index.keys_after.keys c.insert.new.self.keys key c.in_ok-is_alone.ensures.updates.0);
       judged = passed_here fs i f _ refl below alone is c.loop-index.first passed judged;
     }

@@ -7,7 +7,7 @@ abbrev pub invariant-loop-index : goal.invariant-loop-index
 invariant-loop-index g l = record {
   in_range : l.index ≤ length l.names;
   within : l.first ≤ length l.names;
-  known : Held l.behind.keys l.names l.index;
+  known : Held l.keys_after.keys l.names l.index;
   judged : is_first_name (names_said (drop l.first l.names)) ≡ are_file_names (names_from l.names l.index);
 }
 

@@ -8,5 +8,5 @@ use Rattle.description_hints.proofs.rules.push_usage.Goals as goal
 pub returns : goal.returns
 returns c =
     on_ok_weaker c.push_forms.result
-    (λ put. put ∙ (λ i. map warning_said c.args.found.now.items ++ about_path (path_said c.args.path.now) (forms_hints (λ word. c.in_ok-own.ensures word i) (holds c.args.around.now.asking) ((ap (map form_of) c.as_slice.ensures.value ∙ c.in_ok-forms.ensures) i))))
+    (λ put. put ∙ (λ i. map warning_said c.args.found.now.items ++ about_path (path_said c.args.path.now) (forms_hints (λ word. c.in_ok-own.ensures word i) (holds c.args.around.now.help_words) ((ap (map form_of) c.as_slice.ensures.value ∙ c.in_ok-forms.ensures) i))))
     c.push_forms.ensures

@@ -6,4 +6,4 @@ use Rattle.description_hints.proofs.rules.push_usage_pieces.Given as goal
 
 abbrev pub invariant-loop-piece : goal.invariant-loop-piece
 invariant-loop-piece l =
-    map warning_said l.found.items ≡ map warning_said l.fn.found.items ++ about_path (path_said l.path) (flat_map (usage_piece_hints (holds l.own) (holds l.asking)) (line_of (take l.piece-index l.pieces)))
+    map warning_said l.found.items ≡ map warning_said l.fn.found.items ++ about_path (path_said l.path) (flat_map (usage_piece_hints (holds l.own) (holds l.help_words)) (line_of (take l.piece-index l.pieces)))

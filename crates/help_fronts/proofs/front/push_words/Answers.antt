@@ -9,8 +9,8 @@ pub loop-piece-init : goal.loop-piece-init
 loop-piece-init g c = record {
   last_utf8 = search rules;
   rest_utf8 = search rules;
-  is_end = whole_end c.args.behind.now;
-  written = sym (ap (λ f. f ++ concat (belonging c.args.kind c.args.before.now (pieces c.args.behind.now))) (front_whole c.args.behind.now));
+  is_end = whole_end c.args.after.now;
+  written = sym (ap (λ f. f ++ concat (belonging c.args.kind c.args.before.now (pieces c.args.after.now))) (front_whole c.args.after.now));
   words = refl;
 }
 
@@ -23,10 +23,10 @@ loop-piece-preserved g c =
     record {
       last_utf8 = search rules;
       rest_utf8 = search rules;
-      is_end = end_more c.args.behind.now c.loop-piece.rest.now piece others c.loop-piece.invariant.is_end c.in-Some.ensures.whole;
-      written = pieces_more c.args.behind.now c.loop-piece.rest.now piece others c.loop-piece.invariant.is_end c.in-Some.ensures.whole _ _ _ first c.loop-piece.invariant.written;
+      is_end = end_more c.args.after.now c.loop-piece.rest.now piece others c.loop-piece.invariant.is_end c.in-Some.ensures.whole;
+      written = pieces_more c.args.after.now c.loop-piece.rest.now piece others c.loop-piece.invariant.is_end c.in-Some.ensures.whole _ _ _ first c.loop-piece.invariant.written;
       words = words_more _ _ _ c.word-last.result piece _ _ _ first c.in_ok-push.ensures.items c.word-last.ensures c.loop-piece.invariant.words;
     }
 
 pub returns-clause-rest : goal.returns-clause-rest
-returns-clause-rest g c = pieces_done c.args.behind.now c.loop-piece.rest.now _ _ c.loop-piece.invariant.is_end c.in_default.ensures.belonging c.loop-piece.invariant.written
+returns-clause-rest g c = pieces_done c.args.after.now c.loop-piece.rest.now _ _ c.loop-piece.invariant.is_end c.in_default.ensures.belonging c.loop-piece.invariant.written

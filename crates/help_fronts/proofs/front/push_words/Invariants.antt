@@ -11,9 +11,9 @@ abbrev pub invariant-loop-piece : goal.invariant-loop-piece
 invariant-loop-piece g l = record {
   last_utf8 : shadow (Utf8 l.last);
   rest_utf8 : shadow (Utf8 l.rest);
-  is_end : IsEnd l.behind l.rest;
-  written : concat (belonging l.kind l.before (pieces l.behind)) ≡ front_of l.behind l.rest ++ concat (belonging l.kind l.last (pieces l.rest));
-  words : map (λ w. w.now) l.words.items ++ map word (belonging l.kind l.last (pieces l.rest)) ≡ map (λ w. w.now) l.initial.words.items ++ map word (belonging l.kind l.before (pieces l.behind));
+  is_end : IsEnd l.after l.rest;
+  written : concat (belonging l.kind l.before (pieces l.after)) ≡ front_of l.after l.rest ++ concat (belonging l.kind l.last (pieces l.rest));
+  words : map (λ w. w.now) l.words.items ++ map word (belonging l.kind l.last (pieces l.rest)) ≡ map (λ w. w.now) l.initial.words.items ++ map word (belonging l.kind l.before (pieces l.after));
 }
 
 abbrev pub decreases-loop-piece : goal.decreases-loop-piece

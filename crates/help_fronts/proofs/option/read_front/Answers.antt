@@ -8,7 +8,7 @@ use Rattle.help_fronts.proofs.option.read_front.Goals as goal
 
 pub returns-clause-exact : goal.returns-clause-exact
 returns-clause-exact g c =
-    let front = front_from kind.Option c.args.first.now (pieces c.args.behind.now) in
+    let front = front_from kind.Option c.args.first.now (pieces c.args.after.now) in
     let cut = c.in_ok-cut.ensures in
     let valued = c.from_last-valued.ensures ∙ ap (λ ws. from_last (map (λ w. w.now) ws)) c.deref-2.ensures.value ∙ ap from_last cut.words in
     ap Some

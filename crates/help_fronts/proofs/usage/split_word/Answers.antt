@@ -2,12 +2,12 @@ use Rattle.std.proofs.Common.{◌≡◌, ◌+◌, ◌∷◌, ◌∙◌, ap, drop
 use Rattle.help_fronts.specs.declared.bytes.Class.TheVariants as class
 use Rattle.help_fronts.specs.Bytes.{free_len}
 use Rattle.help_fronts.specs.Usages.{usage_words}
-use Rattle.help_fronts.proofs.Boundaries.{behind_free}
+use Rattle.help_fronts.proofs.Boundaries.{after_free}
 use Rattle.help_fronts.proofs.Runs.{last_is, said, word_first}
 use Rattle.help_fronts.proofs.usage.split_word.Goals as goal
 
 pub range_from-requires-then-len-line : goal.range_from-requires-then-len-line
-range_from-requires-then-len-line c = λ positive. behind_free class.UsageMark c.args.line.now c.free_len-len.result c.utf8.line c.if-len-line.true (rw c.as_bytes.ensures.value at c.free_len-len.ensures.passed (search rules))
+range_from-requires-then-len-line c = λ positive. after_free class.UsageMark c.args.line.now c.free_len-len.result c.utf8.line c.if-len-line.true (rw c.as_bytes.ensures.value at c.free_len-len.ensures.passed (search rules))
 
 pub returns-then-len-line-clause-words : goal.returns-then-len-line-clause-words
 returns-then-len-line-clause-words c =

@@ -8,7 +8,7 @@ loop-value-preserved g c =
     record {
       utf8 = search rules;
       put =
-          value_next c.loop-value.out c.token.new.self (c.args.out.now ++ listed_tokens c.args.text.now) c.loop-value.rest.now c.in-Some.value.now c.in-Some.behind.now c.in-Some.ensures.values c.in_ok-token.ensures.ok c.loop-value.invariant.put;
+          value_next c.loop-value.out c.token.new.self (c.args.out.now ++ listed_tokens c.args.text.now) c.loop-value.rest.now c.in-Some.value.now c.in-Some.after.now c.in-Some.ensures.values c.in_ok-token.ensures.ok c.loop-value.invariant.put;
     }
 
 pub returns : goal.returns

@@ -1,6 +1,6 @@
 use Rattle.std.proofs.Common.{drop, sym, ◌∙◌}
 use Rattle.help_differences.proofs.Noted.{at, none}
-use Rattle.help_differences.proofs.notes.behind_opening.Goals as goal
+use Rattle.help_differences.proofs.notes.after_opening.Goals as goal
 
 pub returns-in-None : goal.returns-in-None
 returns-in-None c = sym (none c.args.text.now c.in-None.ensures.cases)

@@ -1,9 +1,9 @@
 use Rattle.std.proofs.Common.{◌≡◌, length}
 use Rattle.help_blocks.specs.Looks as looks
-use Rattle.help_blocks.proofs.scan.behind_word.Given as goal
+use Rattle.help_blocks.proofs.scan.after_equals.Given as goal
 
 abbrev pub invariant-loop-rest : goal.invariant-loop-rest
-invariant-loop-rest l = looks.behind_word l.before l.rest ≡ looks.behind_word 32 l.text
+invariant-loop-rest l = looks.after_equals l.rest ≡ looks.after_equals l.text
 
 abbrev pub decreases-loop-rest : goal.decreases-loop-rest
 decreases-loop-rest l = length l.rest

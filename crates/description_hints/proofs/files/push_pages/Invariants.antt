@@ -1,8 +1,0 @@
-use Rattle.std.proofs.Common.{◌≡◌, ◌++◌, flat_map, map, take}
-use Rattle.description_hints.specs.Hints.{page_warnings}
-use Rattle.description_hints.specs.View.{page_said, warning_said}
-use Rattle.description_hints.proofs.files.push_pages.Given as goal
-
-abbrev pub invariant-loop-page : goal.invariant-loop-page
-invariant-loop-page l =
-    map warning_said l.found.items ≡ map warning_said l.fn.found.items ++ flat_map (page_warnings l.section) (map page_said (take l.page-index l.pages))
