@@ -47,12 +47,12 @@ module _ (name : List ℕ) where
   values_joined (text bytes rest) b = values_joined rest b
   values_joined (element tag given content rest) b = grind (arith, values_joined rest b, append_assoc)
 
-  behind_text : (bytes : List ℕ) (rest : Nodes) (b : ℕ) → values_in name (with_byte rest b) ≡ values_in name rest → values_in name (with_byte (text bytes rest) b) ≡ values_in name rest
-  behind_text bytes rest b h3 = grind arith
+  after_text : (bytes : List ℕ) (rest : Nodes) (b : ℕ) → values_in name (with_byte rest b) ≡ values_in name rest → values_in name (with_byte (text bytes rest) b) ≡ values_in name rest
+  after_text bytes rest b h3 = grind arith
 
   values_byte : (nodes : Nodes) (b : ℕ) → values_in name (with_byte nodes b) ≡ values_in name nodes
   values_byte none b = refl
-  values_byte (text bytes rest) b = behind_text bytes rest b (values_byte rest b)
+  values_byte (text bytes rest) b = after_text bytes rest b (values_byte rest b)
   values_byte (element tag given content rest) b = ap (λ vs. values_named name given ++ (values_in name content ++ vs)) (values_byte rest b)
 
   values_words : (bytes : List ℕ) (nodes : Nodes) → values_in name (with_words nodes bytes) ≡ values_in name nodes

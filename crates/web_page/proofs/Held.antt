@@ -10,7 +10,7 @@ use Rattle.web_page.specs.Reader.{Draft, Frame, Reading, Content, are_attributes
 use Rattle.web_page.specs.Models.{ReadsAs, ReadsInBody, are_fit, are_in_order, empty_body, fits_attributes, fits_model, has_ink, is_ink, is_language, last_child, may_end, may_hold, page_of, wants_ink}
 use Rattle.web_page.specs.Calls.{are_written, has_end_sign, has_ink_in, is_in_link, is_inside_body, is_link, may_end_in, may_stand_in, head_content, new_page, whole_page, with_end, with_end_in, with_text, with_words}
 use Rattle.web_page.specs.Exact.{end_text, escaped, page_end, page_front, start_text}
-use Rattle.web_page.specs.Steps.Open.{AreOpen, Describes, IsBody, IsContent, IsOngoing, behind_child, behind_text, draft_of, ends, in_page, inked, moved, opened}
+use Rattle.web_page.specs.Steps.Open.{AreOpen, Describes, IsBody, IsContent, IsOngoing, after_child, after_text, draft_of, ends, in_page, inked, moved, opened}
 use Rattle.web_page.proofs.Nodes.{joined-assoc, joined-none, are_fit-joined, are_fit-with_words, are_in_order-joined, are_in_order-with_words, are_kept-joined, are_kept-with_words, has_ink-joined, has_ink-with_words, last_child-joined, last_child-with_words}
 use Rattle.web_page.proofs.Pages.{IsBodyContent, body_of, fit_head, front_reads, page_reads}
 use Rattle.web_page.proofs.Readings.{CanStart, ReadAttributes, break_reads, each_tag, end_reads, run, run-append, run_then, start_reads, text_reads}
@@ -97,10 +97,10 @@ stands_is here outers frames nodes child h5 = grind (arith, stands_in)
 
 -- ---- a text
 
-described_text : (here : Open) (frame : Frame) (frames : List Frame) (nodes : Nodes) (bytes : List ℕ) → may_stand_in (frame ∷ frames) nodes Words ≡ true → list_all is_kept bytes ≡ true → Describes here frame frames nodes → Describes (behind_text here bytes) frame frames (with_words nodes bytes)
+described_text : (here : Open) (frame : Frame) (frames : List Frame) (nodes : Nodes) (bytes : List ℕ) → may_stand_in (frame ∷ frames) nodes Words ≡ true → list_all is_kept bytes ≡ true → Describes here frame frames nodes → Describes (after_text here bytes) frame frames (with_words nodes bytes)
 described_text here frame frames nodes bytes h5 h6 h7 = grind (arith, last_child-with_words, has_ink-with_words, are_in_order-with_words, and_parts, are_fit-with_words, are_kept-with_words)
 
-text_inside : (here : Open) (outers : List Open) (frames : List Frame) (nodes : Nodes) (bytes : List ℕ) → may_stand_in frames nodes Words ≡ true → list_all is_kept bytes ≡ true → AreOpen here outers frames nodes → AreOpen (behind_text here bytes) outers frames (with_words nodes bytes)
+text_inside : (here : Open) (outers : List Open) (frames : List Frame) (nodes : Nodes) (bytes : List ℕ) → may_stand_in frames nodes Words ≡ true → list_all is_kept bytes ≡ true → AreOpen here outers frames nodes → AreOpen (after_text here bytes) outers frames (with_words nodes bytes)
 text_inside here outers frames nodes bytes h5 h6 h7 = grind (arith, described_text)
 
 text_there : (draft : Draft) (words : List ℕ) → (first : Frame) × (second : Frame) × (third : Frame) × (others : List Frame) × (draft.open_elements ≡ first ∷ second ∷ third ∷ others)
@@ -110,7 +110,7 @@ text_there draft words t language head before =
     ∙ ap (λ draft. reading Content (Some draft)) (subst (λ list. with_text (in_page language head before (record { open_elements = list; nodes = draft.nodes })) words ≡ in_page language head before (with_text (record { open_elements = list; nodes = draft.nodes }) words)) (sym t.4) refl)
 
 pub text_held : {at : ℕ} (bytes : List ℕ) (here : Open) (outers : List Open) (words : List ℕ) (o : IsOngoing bytes at here outers) → IsUtf8 bytes → IsUtf8 words → are_written words ≡ true → stands here Words ≡ true
-    → (p : IsOngoing (bytes ++ escaped false words) at (behind_text here words) outers) × (p.draft ≡ with_text o.draft words)
+    → (p : IsOngoing (bytes ++ escaped false words) at (after_text here words) outers) × (p.draft ≡ with_text o.draft words)
 text_held bytes here outers words o u v w may = (
   record {
     draft = with_text o.draft words;
@@ -130,12 +130,12 @@ or_nothing a = grind arith
 -- with one more element, which is as its model has it
 with_inner : (here : Open) (frame : Frame) (frames : List Frame) (nodes : Nodes) (tag : Tag) (given : List Attribute) (content : Nodes) (ink : Bool)
     → may_stand_in (frame ∷ frames) nodes (Inner tag) ≡ true → fits_model tag given content ≡ true → are_fit (is_tag A tag || is_in_link (frame ∷ frames)) content ≡ true → ink ≡ has_ink content
-    → Describes here frame frames nodes → Describes (behind_child here tag ink) frame frames (joined nodes (element tag given content none))
+    → Describes here frame frames nodes → Describes (after_child here tag ink) frame frames (joined nodes (element tag given content none))
 with_inner here frame frames nodes tag given content ink may model fit inked d = grind (arith, and_parts, last_child-joined, or_nothing, has_ink-joined, are_in_order-joined, and_from, are_fit-joined, are_kept-joined)
 
 -- ---- a break
 
-break_inside : (here : Open) (outers : List Open) (frames : List Frame) (nodes : Nodes) → may_stand_in frames nodes (Inner Br) ≡ true → AreOpen here outers frames nodes → AreOpen (behind_child here Br false) outers frames (joined nodes (element Br [] none none))
+break_inside : (here : Open) (outers : List Open) (frames : List Frame) (nodes : Nodes) → may_stand_in frames nodes (Inner Br) ≡ true → AreOpen here outers frames nodes → AreOpen (after_child here Br false) outers frames (joined nodes (element Br [] none none))
 break_inside here outers frames nodes h4 h5 = grind (arith, with_inner)
 
 -- what holds an element takes elements
@@ -152,7 +152,7 @@ break_there draft takes t language head before =
     ∙ ap (λ draft. reading Content (Some draft)) (subst (λ list. with_element (in_page language head before (record { open_elements = list; nodes = draft.nodes })) Br [] none ≡ in_page language head before (with_element (record { open_elements = list; nodes = draft.nodes }) Br [] none)) (sym t.4) refl)
 
 pub break_held : {at : ℕ} (bytes : List ℕ) (here : Open) (outers : List Open) (o : IsOngoing bytes at here outers) → IsUtf8 bytes → stands here (Inner Br) ≡ true
-    → (p : IsOngoing (bytes ++ codes "<br>") at (behind_child here Br false) outers) × (p.draft ≡ with_element o.draft Br [] none)
+    → (p : IsOngoing (bytes ++ codes "<br>") at (after_child here Br false) outers) × (p.draft ≡ with_element o.draft Br [] none)
 break_held bytes here outers o u stood =
     let may : may_stand_in o.draft.open_elements o.draft.nodes (Inner Br) ≡ true = sym (stands_is here outers o.draft.open_elements o.draft.nodes (Inner Br) o.are_open) ∙ stood in (
       record {
@@ -240,7 +240,7 @@ model_from here frame frames nodes d may ink = grind (arith, and_from, ends_in, 
 
 -- after the end of an element that is as its model has it
 end_inside : (here outer : Open) (outers : List Open) (frame : Frame) (frames : List Frame) (nodes : Nodes) → ends here ≡ true → inked here ≡ true → AreOpen here (outer ∷ outers) (frame ∷ frames) nodes
-    → AreOpen (behind_child outer here.tag here.has_ink) outers frames (joined frame.before (element frame.tag frame.attributes nodes none))
+    → AreOpen (after_child outer here.tag here.has_ink) outers frames (joined frame.before (element frame.tag frame.attributes nodes none))
 end_inside here outer outers frame frames nodes h6 h7 h8 = grind (arith, with_inner, model_from)
 
 clean_end : (tag : Tag) → IsClean (end_text tag)
@@ -265,7 +265,7 @@ end_there here outer (around ∷ outers) frame frames nodes a language head befo
     (end_reads frame (moved before (empty_body language head).open_elements (t.0 ∷ t.1 ∷ t.2 ∷ t.3)) nodes (settles frame.tag nodes a.0.ordered a.0.kept))
 
 end_held_at : {at : ℕ} (bytes : List ℕ) (here outer : Open) (outers : List Open) (frames : List Frame) (nodes : Nodes) → reading_of bytes ≡ reading Content (Some (record { open_elements = frames; nodes = nodes })) → list_all is_permitted (chars bytes) ≡ true
-    → AreOpen here (outer ∷ outers) frames nodes → IsContent bytes at (record { open_elements = frames; nodes = nodes }) → IsUtf8 bytes → ends here ≡ true → inked here ≡ true → (o : IsOngoing (bytes ++ end_text here.tag) at (behind_child outer here.tag here.has_ink) outers) × (o.draft ≡ with_end_in frames nodes)
+    → AreOpen here (outer ∷ outers) frames nodes → IsContent bytes at (record { open_elements = frames; nodes = nodes }) → IsUtf8 bytes → ends here ≡ true → inked here ≡ true → (o : IsOngoing (bytes ++ end_text here.tag) at (after_child outer here.tag here.has_ink) outers) × (o.draft ≡ with_end_in frames nodes)
 end_held_at bytes here outer outers [] nodes reads permitted a c u may ink = absurd a
 end_held_at bytes here outer outers (frame ∷ frames) nodes reads permitted a c u may ink =
     let draft : Draft = record { open_elements = frame ∷ frames; nodes = nodes } in (
@@ -281,7 +281,7 @@ end_held_at bytes here outer outers (frame ∷ frames) nodes reads permitted a c
     )
 
 pub end_held : {at : ℕ} (bytes : List ℕ) (here outer : Open) (outers : List Open) (o : IsOngoing bytes at here (outer ∷ outers)) → IsUtf8 bytes → ends here ≡ true → inked here ≡ true
-    → (p : IsOngoing (bytes ++ end_text here.tag) at (behind_child outer here.tag here.has_ink) outers) × (p.draft ≡ with_end o.draft)
+    → (p : IsOngoing (bytes ++ end_text here.tag) at (after_child outer here.tag here.has_ink) outers) × (p.draft ≡ with_end o.draft)
 end_held bytes here outer outers o u may ink = end_held_at bytes here outer outers o.draft.open_elements o.draft.nodes o.reads o.permitted o.are_open o.content u may ink
 
 -- ---- the whole

@@ -12,7 +12,7 @@ use Rattle.web_page.specs.Reader.{Draft, with_element, with_start}
 use Rattle.web_page.specs.Models.{ReadsAs, ReadsInBody}
 use Rattle.web_page.specs.Calls.{FailsOnlyBy, are_written, child_fault, end_fault, finish_fault, has_ink_in, is_inside_body, may_end_in, may_stand, text_fault, whole_page, with_end, with_text}
 use Rattle.web_page.specs.Exact.{end_text, escaped, page_end, start_text}
-use Rattle.web_page.specs.Steps.Open.{IsOngoing, attributes_of, behind_child, behind_text, draft_of, ends, inked, may_give, opened}
+use Rattle.web_page.specs.Steps.Open.{IsOngoing, attributes_of, after_child, after_text, draft_of, ends, inked, may_give, opened}
 use Rattle.web_page.proofs.Held.{around_is, break_held, content_held, draft_is, end_held, ends_is, inked_is, is_around, stands, stands_is, start_held, text_held, whole_held}
 use Rattle.web_page.proofs.Starts.{start_is}
 use Rattle.web_page.specs.declared.elements.Child.{Child}
@@ -48,23 +48,23 @@ started bytes bytes' value here here' old new now tag key o v u w may stood b h 
     held.0 (held.1 ∙ ap (λ d. with_start d tag given) (seen bytes here (reverse old) now o v)) b h (ap reverse os ∙ reverse-append old (here ∷ []))
 
 pub texted : {at : ℕ} (bytes bytes' words : List ℕ) (here here' : Open) (outers : List Open) (now : Draft) (o : IsOngoing bytes at here outers) → draft_of bytes ≡ now → IsUtf8 bytes → IsUtf8 words → are_written words ≡ true → stands here Words ≡ true
-    → bytes' ≡ bytes ++ escaped false words → here' ≡ behind_text here words → Outcome bytes' at here' outers (with_text now words)
+    → bytes' ≡ bytes ++ escaped false words → here' ≡ after_text here words → Outcome bytes' at here' outers (with_text now words)
 texted bytes bytes' words here here' outers now o v u w written stood b h =
     let held = text_held bytes here outers words o u w written stood in
-    outcome (bytes ++ escaped false words) bytes' (behind_text here words) here' outers outers (with_text now words) held.0 (held.1 ∙ ap (λ d. with_text d words) (seen bytes here outers now o v)) b h refl
+    outcome (bytes ++ escaped false words) bytes' (after_text here words) here' outers outers (with_text now words) held.0 (held.1 ∙ ap (λ d. with_text d words) (seen bytes here outers now o v)) b h refl
 
 pub broken : {at : ℕ} (bytes bytes' : List ℕ) (here here' : Open) (outers : List Open) (now : Draft) (o : IsOngoing bytes at here outers) → draft_of bytes ≡ now → IsUtf8 bytes → stands here (Inner Br) ≡ true
-    → bytes' ≡ bytes ++ codes "<br>" → here' ≡ behind_child here Br false → Outcome bytes' at here' outers (with_element now Br [] none)
+    → bytes' ≡ bytes ++ codes "<br>" → here' ≡ after_child here Br false → Outcome bytes' at here' outers (with_element now Br [] none)
 broken bytes bytes' here here' outers now o v u stood b h =
     let held = break_held bytes here outers o u stood in
-    outcome (bytes ++ codes "<br>") bytes' (behind_child here Br false) here' outers outers (with_element now Br [] none) held.0 (held.1 ∙ ap (λ d. with_element d Br [] none) (seen bytes here outers now o v)) b h refl
+    outcome (bytes ++ codes "<br>") bytes' (after_child here Br false) here' outers outers (with_element now Br [] none) held.0 (held.1 ∙ ap (λ d. with_element d Br [] none) (seen bytes here outers now o v)) b h refl
 
 pub ended : {at : ℕ} (bytes bytes' : List ℕ) (here outer here' : Open) (old new : List Open) (now : Draft) (o : IsOngoing bytes at here (reverse old)) → draft_of bytes ≡ now → IsUtf8 bytes → ends here ≡ true → inked here ≡ true
-    → bytes' ≡ bytes ++ end_text here.tag → here' ≡ behind_child outer here.tag here.has_ink → old ≡ new ++ outer ∷ [] → Outcome bytes' at here' (reverse new) (with_end now)
+    → bytes' ≡ bytes ++ end_text here.tag → here' ≡ after_child outer here.tag here.has_ink → old ≡ new ++ outer ∷ [] → Outcome bytes' at here' (reverse new) (with_end now)
 ended {at = at} bytes bytes' here outer here' old new now o v u may ink b h os =
     let back : reverse old ≡ outer ∷ reverse new = ap reverse os ∙ reverse-append new (outer ∷ []) in
     let held = end_held bytes here outer (reverse new) (subst (IsOngoing bytes at here) back o) u may ink in
-    outcome (bytes ++ end_text here.tag) bytes' (behind_child outer here.tag here.has_ink) here' (reverse new) (reverse new) (with_end now) held.0
+    outcome (bytes ++ end_text here.tag) bytes' (after_child outer here.tag here.has_ink) here' (reverse new) (reverse new) (with_end now) held.0
     (held.1 ∙ ap with_end (seen bytes here (outer ∷ reverse new) now (subst (IsOngoing bytes at here) back o) v)) b h refl
 
 pub whole : {at : ℕ} (bytes bytes' : List ℕ) (here : Open) (old : List Open) (now : Draft) (o : IsOngoing bytes at here (reverse old)) → draft_of bytes ≡ now → IsUtf8 bytes → ends here ≡ true → old ≡ [] → bytes' ≡ bytes ++ page_end → ReadsAs bytes' (whole_page now)

@@ -32,9 +32,9 @@ abbrev pub is_flow : Child → Bool
 is_flow child = is_child (Of (Heading One) ∷ Of P ∷ Of Pre ∷ Of Ul ∷ Of Dl ∷ []) child
 
 -- whether the child before, if there is one, is such a child
-abbrev pub is_behind : (Child → Bool) → Option Child → Bool
-is_behind test None = false
-is_behind test (Some before) = test before
+abbrev pub is_after : (Child → Bool) → Option Child → Bool
+is_after test None = false
+is_after test (Some before) = test before
 
 -- whether a child may stand in an element of the body, after this child or, at None, as the first one
 abbrev pub element_may_hold : Element → Option Child → Child → Bool
@@ -51,14 +51,14 @@ element_may_hold Pre before child = is_phrasing child
 element_may_hold Ul before child = is_child (Of Li ∷ []) child
 -- what stands within a line, and after it at most one list
 element_may_hold Li before child =
-    not (is_behind (is_child (Of Ul ∷ [])) before) && (is_phrasing child || is_child (Of Ul ∷ []) child)
+    not (is_after (is_child (Of Ul ∷ [])) before) && (is_phrasing child || is_child (Of Ul ∷ []) child)
 -- a term first, and then terms and descriptions
 element_may_hold Dl before child = is_child (Of Dt ∷ []) child || (is_child (Of Dd ∷ []) child && not (is_none before))
 element_may_hold Dt before child = is_phrasing child
 -- what stands within a line, or elements that stand by themselves, never both
 element_may_hold Dd before child =
-    (is_phrasing child && (is_none before || is_behind is_phrasing before))
-    || (is_child (Of P ∷ Of Pre ∷ Of Ul ∷ Of Dl ∷ []) child && not (is_behind is_phrasing before))
+    (is_phrasing child && (is_none before || is_after is_phrasing before))
+    || (is_child (Of P ∷ Of Pre ∷ Of Ul ∷ Of Dl ∷ []) child && not (is_after is_phrasing before))
 element_may_hold Code before child = is_phrasing child
 element_may_hold Strong before child = is_phrasing child
 element_may_hold Em before child = is_phrasing child
@@ -69,31 +69,31 @@ abbrev pub may_hold : Tag → Option Child → Child → Bool
 -- the head and then the body
 may_hold Html before child =
     (is_child (Head ∷ []) child && is_none before)
-    || (is_child (Body ∷ []) child && is_behind (is_child (Head ∷ [])) before)
+    || (is_child (Body ∷ []) child && is_after (is_child (Head ∷ [])) before)
 -- meta elements, the title, the style
 may_hold Head before child =
-    (is_child (Meta ∷ []) child && (is_none before || is_behind (is_child (Meta ∷ [])) before))
-    || (is_child (Title ∷ []) child && is_behind (is_child (Meta ∷ [])) before)
-    || (is_child (Style ∷ []) child && is_behind (is_child (Title ∷ [])) before)
+    (is_child (Meta ∷ []) child && (is_none before || is_after (is_child (Meta ∷ [])) before))
+    || (is_child (Title ∷ []) child && is_after (is_child (Meta ∷ [])) before)
+    || (is_child (Style ∷ []) child && is_after (is_child (Title ∷ [])) before)
 may_hold Meta before child = false
 may_hold Title before child = is_words child
 may_hold Style before child = is_words child
 -- at most one header, then at most one nav, then one main, then at most one footer
 may_hold Body before child =
     (is_child (Of Header ∷ []) child && is_none before)
-    || (is_child (Of Nav ∷ []) child && (is_none before || is_behind (is_child (Of Header ∷ [])) before))
-    || (is_child (Of Main ∷ []) child && (is_none before || is_behind (is_child (Of Header ∷ Of Nav ∷ [])) before))
-    || (is_child (Of Footer ∷ []) child && is_behind (is_child (Of Main ∷ [])) before)
+    || (is_child (Of Nav ∷ []) child && (is_none before || is_after (is_child (Of Header ∷ [])) before))
+    || (is_child (Of Main ∷ []) child && (is_none before || is_after (is_child (Of Header ∷ Of Nav ∷ [])) before))
+    || (is_child (Of Footer ∷ []) child && is_after (is_child (Of Main ∷ [])) before)
 may_hold Br before child = false
 may_hold A before child = is_phrasing child
 may_hold (Of e) before child = element_may_hold e before child
 
 -- whether an element may end after this child
 abbrev pub may_end : Tag → Option Child → Bool
-may_end Html last = is_behind (is_child (Body ∷ [])) last
-may_end Head last = is_behind (is_child (Style ∷ [])) last
-may_end Body last = is_behind (is_child (Of Main ∷ Of Footer ∷ [])) last
-may_end (Of Dl) last = is_behind (is_child (Of Dd ∷ [])) last
+may_end Html last = is_after (is_child (Body ∷ [])) last
+may_end Head last = is_after (is_child (Style ∷ [])) last
+may_end Body last = is_after (is_child (Of Main ∷ Of Footer ∷ [])) last
+may_end (Of Dl) last = is_after (is_child (Of Dd ∷ [])) last
 may_end _ last = true
 
 -- the last of some nodes, otherwise the child before them

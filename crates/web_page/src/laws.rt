@@ -21,10 +21,10 @@ pub fn texts_join()
 #[tactic(auto, using(crate::proofs::TextLaws::at_front, crate::proofs::TextLaws::behind, crate::proofs::TextLaws::on_text))]
 pub fn texts_stay()
     ensures first { (b : ℕ) (bytes : List ℕ) → with_words none (b ∷ bytes) ≡ text (b ∷ bytes) none }
-    ensures behind_element { (nodes content : Nodes) (tag : Tag) (given : List Attribute) (b : ℕ) (bytes : List ℕ)
+    ensures after_element { (nodes content : Nodes) (tag : Tag) (given : List Attribute) (b : ℕ) (bytes : List ℕ)
         → with_words (joined nodes (element tag given content none)) (b ∷ bytes)
         ≡ joined nodes (element tag given content (text (b ∷ bytes) none)) }
-    ensures behind_text { (before bytes : List ℕ) → with_words (text before none) bytes ≡ text (before ++ bytes) none }
+    ensures after_text { (before bytes : List ℕ) → with_words (text before none) bytes ≡ text (before ++ bytes) none }
 {}
 
 /// Each page that `Page::new` can begin has a front, after which the content of a body reads as what it is.

@@ -3,7 +3,7 @@
 ghost use Rattle.std.specs.Prelude.{◌≡◌};
 ghost use Rattle.std.specs.List.{list_any};
 ghost use Rattle.web_page.specs.Tree.{is_tag};
-ghost use Rattle.web_page.specs.Models.{element_may_hold, is_behind, is_child, is_flow, is_ink, is_phrasing, is_words};
+ghost use Rattle.web_page.specs.Models.{element_may_hold, is_after, is_child, is_flow, is_ink, is_phrasing, is_words};
 ghost use Rattle.web_page.specs.Models.{may_end, may_hold, wants_ink};
 
 use crate::elements::{Child, Element, Level, Tag};
@@ -85,8 +85,8 @@ fn is_flow(child: Child) -> bool
 }
 
 // Whether the child before is of one of these kinds.
-fn is_behind(tags: &[Tag], before: Option<Child>) -> bool
-    ensures { result ≡ is_behind (is_child tags.now) before }
+fn is_after(tags: &[Tag], before: Option<Child>) -> bool
+    ensures { result ≡ is_after (is_child tags.now) before }
 {
     match before {
         Some(before) => is_child(tags, before),
@@ -95,7 +95,7 @@ fn is_behind(tags: &[Tag], before: Option<Child>) -> bool
 }
 
 fn is_behind_phrasing(before: Option<Child>) -> bool
-    ensures { result ≡ is_behind is_phrasing before }
+    ensures { result ≡ is_after is_phrasing before }
 {
     match before {
         Some(before) => is_phrasing(before),
@@ -106,7 +106,7 @@ fn is_behind_phrasing(before: Option<Child>) -> bool
 fn may_item_hold(before: Option<Child>, child: Child) -> bool
     ensures { result ≡ element_may_hold Element.Li before child }
 {
-    !is_behind(&[UL], before) && (is_phrasing(child) || is_child(&[UL], child))
+    !is_after(&[UL], before) && (is_phrasing(child) || is_child(&[UL], child))
 }
 
 fn may_description_hold(before: Option<Child>, child: Child) -> bool
@@ -144,24 +144,24 @@ fn may_html_hold(before: Option<Child>, child: Child) -> bool
     ensures { result ≡ may_hold Tag.Html before child }
 {
     (is_child(&[Tag::Head], child) && before.is_none())
-        || (is_child(&[Tag::Body], child) && is_behind(&[Tag::Head], before))
+        || (is_child(&[Tag::Body], child) && is_after(&[Tag::Head], before))
 }
 
 fn may_head_hold(before: Option<Child>, child: Child) -> bool
     ensures { result ≡ may_hold Tag.Head before child }
 {
-    (is_child(&[Tag::Meta], child) && (before.is_none() || is_behind(&[Tag::Meta], before)))
-        || (is_child(&[Tag::Title], child) && is_behind(&[Tag::Meta], before))
-        || (is_child(&[Tag::Style], child) && is_behind(&[Tag::Title], before))
+    (is_child(&[Tag::Meta], child) && (before.is_none() || is_after(&[Tag::Meta], before)))
+        || (is_child(&[Tag::Title], child) && is_after(&[Tag::Meta], before))
+        || (is_child(&[Tag::Style], child) && is_after(&[Tag::Title], before))
 }
 
 fn may_body_hold(before: Option<Child>, child: Child) -> bool
     ensures { result ≡ may_hold Tag.Body before child }
 {
     (is_child(&[HEADER], child) && before.is_none())
-        || (is_child(&[NAV], child) && (before.is_none() || is_behind(&[HEADER], before)))
-        || (is_child(&[MAIN], child) && (before.is_none() || is_behind(&[HEADER, NAV], before)))
-        || (is_child(&[FOOTER], child) && is_behind(&[MAIN], before))
+        || (is_child(&[NAV], child) && (before.is_none() || is_after(&[HEADER], before)))
+        || (is_child(&[MAIN], child) && (before.is_none() || is_after(&[HEADER, NAV], before)))
+        || (is_child(&[FOOTER], child) && is_after(&[MAIN], before))
 }
 
 /// Whether a child may stand in an element, after this child or, at `None`, as the first one.
@@ -186,10 +186,10 @@ pub fn may_end(tag: Tag, last: Option<Child>) -> bool
     ensures { result ≡ may_end tag last }
 {
     match tag {
-        Tag::Html => is_behind(&[Tag::Body], last),
-        Tag::Head => is_behind(&[Tag::Style], last),
-        Tag::Body => is_behind(&[MAIN, FOOTER], last),
-        Tag::Of(Element::Dl) => is_behind(&[DD], last),
+        Tag::Html => is_after(&[Tag::Body], last),
+        Tag::Head => is_after(&[Tag::Style], last),
+        Tag::Body => is_after(&[MAIN, FOOTER], last),
+        Tag::Of(Element::Dl) => is_after(&[DD], last),
         _ => true,
     }
 }

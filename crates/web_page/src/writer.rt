@@ -12,7 +12,7 @@ ghost use Rattle.web_page.specs.Calls.{FailsJustBy, FailsOnlyBy, are_written, at
 ghost use Rattle.web_page.specs.Calls.{has_end_sign, id_fault, is_link, is_written, link_fault, new_page, page_fault};
 ghost use Rattle.web_page.specs.Calls.{finish_fault, text_fault, whole_page, with_end, with_text};
 ghost use Rattle.web_page.specs.Steps.Bytes.{is_written_byte};
-ghost use Rattle.web_page.specs.Steps.Open.{attributes_of, behind_child, behind_text, checked, ends, inked, may_give};
+ghost use Rattle.web_page.specs.Steps.Open.{attributes_of, after_child, after_text, checked, ends, inked, may_give};
 ghost use Rattle.web_page.specs.Steps.Open.{opened};
 
 use crate::elements::{Child, Element, Tag};
@@ -196,8 +196,8 @@ fn opened(here: Open, tag: Tag) -> Open
 }
 
 // The same element after a child with ink or without it.
-fn behind_child(here: Open, tag: Tag, has_ink: bool) -> Open
-    ensures { result ≡ behind_child here tag has_ink }
+fn after_child(here: Open, tag: Tag, has_ink: bool) -> Open
+    ensures { result ≡ after_child here tag has_ink }
 {
     Open {
         before: Some(Child::Inner(tag)),
@@ -207,8 +207,8 @@ fn behind_child(here: Open, tag: Tag, has_ink: bool) -> Open
 }
 
 // The same element after a text.
-fn behind_text(here: Open, text: &str) -> Open
-    ensures { result ≡ behind_text here text.now }
+fn after_text(here: Open, text: &str) -> Open
+    ensures { result ≡ after_text here text.now }
 {
     if text.is_empty() {
         return here;
@@ -407,7 +407,7 @@ impl<A: Allocator> Page<A> {
             return Err(PageError::Misplaced);
         }
         write(&mut self.text, &[Piece::Text(text)])?;
-        self.innermost = behind_text(self.innermost, text);
+        self.innermost = after_text(self.innermost, text);
         Ok(())
     }
 
@@ -421,7 +421,7 @@ impl<A: Allocator> Page<A> {
             return Err(PageError::Misplaced);
         }
         write(&mut self.text, &[Piece::Plain("<br>")])?;
-        self.innermost = behind_child(self.innermost, Tag::Br, false);
+        self.innermost = after_child(self.innermost, Tag::Br, false);
         Ok(())
     }
 
@@ -444,7 +444,7 @@ impl<A: Allocator> Page<A> {
         write_end(&mut self.text, self.innermost.tag)?;
         // `is_empty` said that there is one.
         let outer = self.outer.pop().unwrap();
-        self.innermost = behind_child(outer, self.innermost.tag, self.innermost.has_ink);
+        self.innermost = after_child(outer, self.innermost.tag, self.innermost.has_ink);
         Ok(())
     }
 

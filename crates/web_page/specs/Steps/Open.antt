@@ -91,13 +91,13 @@ abbrev pub opened : Open → Tag → Open
 opened outer tag = record { tag = tag; before = None; has_ink = false; in_link = is_tag A tag || outer.in_link }
 
 -- after an element with ink or without it
-abbrev pub behind_child : Open → Tag → Bool → Open
-behind_child here tag ink = record here { before = Some (Inner tag); has_ink = here.has_ink || ink }
+abbrev pub after_child : Open → Tag → Bool → Open
+after_child here tag ink = record here { before = Some (Inner tag); has_ink = here.has_ink || ink }
 
 -- after a text
-abbrev pub behind_text : Open → List ℕ → Open
-behind_text here [] = here
-behind_text here (b ∷ bytes) = record here { before = Some Words; has_ink = here.has_ink || list_any is_ink (b ∷ bytes) }
+abbrev pub after_text : Open → List ℕ → Open
+after_text here [] = here
+after_text here (b ∷ bytes) = record here { before = Some Words; has_ink = here.has_ink || list_any is_ink (b ∷ bytes) }
 
 -- the code's answer whether the innermost element may end
 abbrev pub ends : Open → Bool

@@ -24,14 +24,14 @@ returns-in_err-write_end-clause-fails g c =
 
 pub invariant_of-self-2 : goal.invariant_of-self-2
 invariant_of-self-2 g c =
-    (ended (string_bytes c.self.inside.text) (string_bytes c.write_end.new.out) c.self.inside.innermost c.unwrap-outer.result c.behind_child-self-inside.result c.self.inside.outer.items c.pop.new.self.items c.args.self.now c.self.invariant c.self.view_is
-    (IsUtf8-string_bytes c.self.inside.text) (sym c.may_end.ensures ∙ c.if-not-may_end.false) (sym c.is_inked.ensures ∙ c.if-not-is_inked.false) c.in_ok-write_end.ensures.ok c.behind_child-self-inside.ensures
+    (ended (string_bytes c.self.inside.text) (string_bytes c.write_end.new.out) c.self.inside.innermost c.unwrap-outer.result c.after_child-self-inside.result c.self.inside.outer.items c.pop.new.self.items c.args.self.now c.self.invariant c.self.view_is
+    (IsUtf8-string_bytes c.self.inside.text) (sym c.may_end.ensures ∙ c.if-not-may_end.false) (sym c.is_inked.ensures ∙ c.if-not-is_inked.false) c.in_ok-write_end.ensures.ok c.after_child-self-inside.ensures
     (c.pop.ensures.items ∙ ap (λ o. c.pop.new.self.items ++ option_to_list o) c.unwrap-outer.ensures)).ongoing
 
 pub returns-clause-ok : goal.returns-clause-ok
 returns-clause-ok g c =
-    (ended (string_bytes c.self.inside.text) (string_bytes c.write_end.new.out) c.self.inside.innermost c.unwrap-outer.result c.behind_child-self-inside.result c.self.inside.outer.items c.pop.new.self.items c.args.self.now c.self.invariant c.self.view_is
-    (IsUtf8-string_bytes c.self.inside.text) (sym c.may_end.ensures ∙ c.if-not-may_end.false) (sym c.is_inked.ensures ∙ c.if-not-is_inked.false) c.in_ok-write_end.ensures.ok c.behind_child-self-inside.ensures
+    (ended (string_bytes c.self.inside.text) (string_bytes c.write_end.new.out) c.self.inside.innermost c.unwrap-outer.result c.after_child-self-inside.result c.self.inside.outer.items c.pop.new.self.items c.args.self.now c.self.invariant c.self.view_is
+    (IsUtf8-string_bytes c.self.inside.text) (sym c.may_end.ensures ∙ c.if-not-may_end.false) (sym c.is_inked.ensures ∙ c.if-not-is_inked.false) c.in_ok-write_end.ensures.ok c.after_child-self-inside.ensures
     (c.pop.ensures.items ∙ ap (λ o. c.pop.new.self.items ++ option_to_list o) c.unwrap-outer.ensures)).is
 
 pub returns-clause-fails : goal.returns-clause-fails

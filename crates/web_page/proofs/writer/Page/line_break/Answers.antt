@@ -17,13 +17,13 @@ returns-in_err-write-clause-fails g c =
 
 pub invariant_of-self-2 : goal.invariant_of-self-2
 invariant_of-self-2 g c =
-    (broken (string_bytes c.self.inside.text) (string_bytes c.write.new.out) c.self.inside.innermost c.behind_child-self-inside.result _ c.args.self.now c.self.invariant c.self.view_is (IsUtf8-string_bytes c.self.inside.text)
-    (sym c.may_stand.ensures ∙ c.if-not-may_stand.false) c.in_ok-write.ensures.ok c.behind_child-self-inside.ensures).ongoing
+    (broken (string_bytes c.self.inside.text) (string_bytes c.write.new.out) c.self.inside.innermost c.after_child-self-inside.result _ c.args.self.now c.self.invariant c.self.view_is (IsUtf8-string_bytes c.self.inside.text)
+    (sym c.may_stand.ensures ∙ c.if-not-may_stand.false) c.in_ok-write.ensures.ok c.after_child-self-inside.ensures).ongoing
 
 pub returns-clause-ok : goal.returns-clause-ok
 returns-clause-ok g c =
-    (broken (string_bytes c.self.inside.text) (string_bytes c.write.new.out) c.self.inside.innermost c.behind_child-self-inside.result _ c.args.self.now c.self.invariant c.self.view_is (IsUtf8-string_bytes c.self.inside.text)
-    (sym c.may_stand.ensures ∙ c.if-not-may_stand.false) c.in_ok-write.ensures.ok c.behind_child-self-inside.ensures).is
+    (broken (string_bytes c.self.inside.text) (string_bytes c.write.new.out) c.self.inside.innermost c.after_child-self-inside.result _ c.args.self.now c.self.invariant c.self.view_is (IsUtf8-string_bytes c.self.inside.text)
+    (sym c.may_stand.ensures ∙ c.if-not-may_stand.false) c.in_ok-write.ensures.ok c.after_child-self-inside.ensures).is
 
 pub returns-clause-fails : goal.returns-clause-fails
 returns-clause-fails g c =

@@ -19,13 +19,13 @@ returns-in_err-write-clause-fails g c =
 
 pub invariant_of-self-2 : goal.invariant_of-self-2
 invariant_of-self-2 g c =
-    (texted (string_bytes c.self.inside.text) (string_bytes c.write.new.out) c.args.text.now c.self.inside.innermost c.behind_text-self-inside.result _ c.args.self.now c.self.invariant c.self.view_is (IsUtf8-string_bytes c.self.inside.text) c.utf8.text
-    (sym c.are_written.ensures ∙ c.if-not-are_written.false) (sym c.may_stand.ensures ∙ c.if-not-may_stand.false) (c.in_ok-write.ensures.ok ∙ ap (λ x. string_bytes c.self.inside.text ++ x) (append-nil (escaped false c.args.text.now))) c.behind_text-self-inside.ensures).ongoing
+    (texted (string_bytes c.self.inside.text) (string_bytes c.write.new.out) c.args.text.now c.self.inside.innermost c.after_text-self-inside.result _ c.args.self.now c.self.invariant c.self.view_is (IsUtf8-string_bytes c.self.inside.text) c.utf8.text
+    (sym c.are_written.ensures ∙ c.if-not-are_written.false) (sym c.may_stand.ensures ∙ c.if-not-may_stand.false) (c.in_ok-write.ensures.ok ∙ ap (λ x. string_bytes c.self.inside.text ++ x) (append-nil (escaped false c.args.text.now))) c.after_text-self-inside.ensures).ongoing
 
 pub returns-clause-ok : goal.returns-clause-ok
 returns-clause-ok g c =
-    (texted (string_bytes c.self.inside.text) (string_bytes c.write.new.out) c.args.text.now c.self.inside.innermost c.behind_text-self-inside.result _ c.args.self.now c.self.invariant c.self.view_is (IsUtf8-string_bytes c.self.inside.text) c.utf8.text
-    (sym c.are_written.ensures ∙ c.if-not-are_written.false) (sym c.may_stand.ensures ∙ c.if-not-may_stand.false) (c.in_ok-write.ensures.ok ∙ ap (λ x. string_bytes c.self.inside.text ++ x) (append-nil (escaped false c.args.text.now))) c.behind_text-self-inside.ensures).is
+    (texted (string_bytes c.self.inside.text) (string_bytes c.write.new.out) c.args.text.now c.self.inside.innermost c.after_text-self-inside.result _ c.args.self.now c.self.invariant c.self.view_is (IsUtf8-string_bytes c.self.inside.text) c.utf8.text
+    (sym c.are_written.ensures ∙ c.if-not-are_written.false) (sym c.may_stand.ensures ∙ c.if-not-may_stand.false) (c.in_ok-write.ensures.ok ∙ ap (λ x. string_bytes c.self.inside.text ++ x) (append-nil (escaped false c.args.text.now))) c.after_text-self-inside.ensures).is
 
 pub returns-clause-fails : goal.returns-clause-fails
 returns-clause-fails g c =
