@@ -48,6 +48,9 @@ const STANDARD_INPUT: &str = "-";
 const NO_NAMES: &str = "clidoc: no options or commands were found in HELP; \
     if the program prints its help on standard error, add 2>&1";
 
+/// What is said after a fault of FILE where HELP has a line as a description does.
+const IS_SWAPPED: &str = "clidoc: HELP stands before FILE, and HELP looks like a description";
+
 /// Why a run fails.
 #[derive(Debug, Drop, Error)]
 pub(crate) enum Failure {
@@ -259,9 +262,11 @@ where
         let line = "clidoc: HELP and FILE are both standard input";
         return Ok(expecting(rt, line));
     }
+    let printed = help_text(rt, global, help)?;
+    let is_swapped = has_name_key(&printed);
     let page = Page::Differences {
         help: HelpGiven {
-            printed: help_text(rt, global, help)?,
+            printed,
             help_name: name_of(global, named(Some(help)))?,
             description_name: name_of(global, named(file))?,
         },
@@ -269,7 +274,17 @@ where
     };
     let compared = write_differences(rt, global, &page, file);
     drop(page);
-    compared
+    match compared {
+        Err(Failure::Told(lines)) if is_swapped => {
+            Err(Failure::Told(format!(in global; "{lines}\n{IS_SWAPPED}")?))
+        }
+        compared => compared,
+    }
+}
+
+// Whether a line begins as that of a description with its name.
+fn has_name_key(text: &str) -> bool {
+    text.lines().any(|line| line.starts_with("name ="))
 }
 
 // Writes them, and says on standard error where the help text has no name at all.
@@ -514,13 +529,18 @@ fn within<T: Drop, S: Drop>(
     file: &str,
     reader: Watched<Bounded<S>>,
 ) -> Result<T, Failure> {
-    if reader.into_inner().is_over() {
+    let reader = reader.into_inner();
+    if reader.is_over() {
         drop(outcome);
         let line = format!(in global; "{}: the input is {limit}", Echoed(file))?;
         return Err(Failure::Told(line));
     }
+    let is_empty = reader.moved() == 0;
     match outcome {
         Ok(made) => Ok(made),
+        Err(Fault::NotDescription(_)) if is_empty => {
+            Err(Failure::Told(format!(in global; "{}: the input is empty", Echoed(file))?))
+        }
         Err(fault) => Err(told(global, &fault, file)),
     }
 }

@@ -1374,13 +1374,11 @@ short = 'b'
 metavar = 'X'
 => option 1 (-b): no key metavar is known here; it is called value
 
-name = 'a'
 [[option]]
 long = 'b'
 negatable = true
 => option 1 (--b): no key negatable is known here; it is called syntax
 
-name = 'a'
 [[option]]
 long = 'b'
 optional_value = 'X'

@@ -1025,7 +1025,7 @@ const FAULTY: &[Faulty] = &[
         FIRST,
         1,
         0,
-        "-:1:1: name is missing",
+        "-: the input is empty",
     ),
     (
         "clidoc|usage|--command=x",

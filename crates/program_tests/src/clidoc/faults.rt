@@ -40,7 +40,7 @@ title = 'A'
 about = 'é日😀' x
 
 ----
--:1:1: name is missing
+-: the input is empty
 ====
 
 ----

@@ -155,6 +155,19 @@ const WRONG: &[(&str, &[u8], &[u8], &str)] = &[
         "-:1:1: name is no text",
     ),
     (
+        "clidoc|against|my.txt",
+        DESCRIPTION,
+        b"name = 1",
+        "-:1:1: name is no text
+clidoc: HELP stands before FILE, and HELP looks like a description",
+    ),
+    (
+        "clidoc|against|my.txt",
+        PRINTED,
+        b"",
+        "-: the input is empty",
+    ),
+    (
         "clidoc|against|my.txt|--command=to",
         PRINTED,
         DESCRIPTION,
