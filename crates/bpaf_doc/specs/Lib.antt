@@ -1,6 +1,7 @@
 pub mod Buffer
 pub mod Splitter
 pub mod Shown
+pub mod Words
 pub mod Snippets
 pub mod Console
 pub mod Html

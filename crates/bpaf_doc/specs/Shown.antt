@@ -33,8 +33,7 @@ is_inline_end _ = false
 -- a text with a Paragraph chunk
 abbrev pub breaks_off : Part → Bool
 breaks_off (Text bytes style) = list_any is_paragraph (chunks_of bytes)
-breaks_off (Start b) = false
-breaks_off (End b) = false
+breaks_off _ = false
 
 -- Whether brief hides a text after these parts: one of them is a text with a Paragraph, and the inline block around it,
 -- or else the document, is still open. (What hid that text, if anything, hides this one too.)

@@ -1,8 +1,7 @@
 -- The marks among the tokens.
-use Rattle.std.specs.Prelude.{List, [], ◌∷◌, ⊤}
+use Rattle.bpaf_doc.specs.Words.{List, [], ◌∷◌, ⊤, Part, Start, End}
 use Rattle.bpaf_doc.specs.declared.buffer.Token.{Token}
 use Rattle.bpaf_doc.specs.declared.buffer.Token.TheVariants.{Text, BlockStart, BlockEnd}
-use Rattle.bpaf_doc.specs.Buffer.Parts.{Part, Start, End}
 
 -- the start or the end of a block
 abbrev pub IsMark : Token → Type 0

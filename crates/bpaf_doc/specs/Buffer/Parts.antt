@@ -27,14 +27,12 @@ ink bytes = filter is_not_whitespace (chars bytes)
 
 abbrev pub part_ink : Part → List ℕ
 part_ink (Text bytes style) = ink bytes
-part_ink (Start b) = []
-part_ink (End b) = []
+part_ink _ = []
 
 -- the bytes of a text; a mark has none
 abbrev pub part_bytes : Part → List ℕ
 part_bytes (Text bytes style) = bytes
-part_bytes (Start b) = []
-part_bytes (End b) = []
+part_bytes _ = []
 
 -- the texts of a document, joined
 abbrev pub document_bytes : List Part → List ℕ

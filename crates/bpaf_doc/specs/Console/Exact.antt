@@ -2,15 +2,9 @@
 -- another. What depends on the place in the document, such as margins and what brief hides, comes from the counting
 -- definitions of `Margin` and `Shown`. The ink and the laws of `IsLayout` are theorems about this function
 -- (`Console/Laws`): whoever relies on them need not read it.
-use Rattle.std.specs.Prelude.{ℕ, ◌+◌, ◌-◌, Bool, true, false, not, ◌&&◌, ◌||◌, List, [], ◌∷◌, ◌++◌, codes, take, replicate, min, nat_eq, nat_lt, nat_le, if◌then◌else◌}
-use Rattle.std.specs.List.{ends_with}
-use Rattle.std.specs.Str.{trim_end, bytes_eq}
+use Rattle.bpaf_doc.specs.Words.{ℕ, ◌+◌, ◌-◌, Bool, true, false, not, ◌&&◌, ◌||◌, List, [], ◌∷◌, ◌++◌, codes, take, replicate, min, nat_eq, nat_lt, nat_le, if◌then◌else◌, ends_with, trim_end, bytes_eq, Block, Part, Text, Start, End, Chunk, Raw, Paragraph, LineBreak, columns, has_some, numbered, shown_chunks, is_term_ref}
 use Rattle.bpaf_roff.specs.Bytes as byte
 use Rattle.bpaf_doc.specs.declared.buffer.Block.TheVariants as blocks
-use Rattle.bpaf_doc.specs.declared.buffer.Block.{Block}
-use Rattle.bpaf_doc.specs.Buffer.Parts.{Part, Text, Start, End}
-use Rattle.bpaf_doc.specs.Splitter.Chunks.{Chunk, Raw, Paragraph, LineBreak, columns, has_some}
-use Rattle.bpaf_doc.specs.Shown.{numbered, shown_chunks, is_term_ref}
 use Rattle.bpaf_doc.specs.Console.Margin.{margin, is_skipped}
 
 -- what has to stand before the next text
@@ -45,14 +39,12 @@ with_blanks count page =
 -- a new line or a blank line is asked for
 abbrev pub asks_line : Request → Bool
 asks_line NoBreak = false
-asks_line NewLine = true
-asks_line BlankLine = true
+asks_line _ = true
 
 -- a blank line is asked for
 abbrev pub asks_blank_line : Request → Bool
-asks_blank_line NoBreak = false
-asks_blank_line NewLine = false
 asks_blank_line BlankLine = true
+asks_blank_line _ = false
 
 -- (a) where a line or a blank line is asked for and the text does not end in a newline, a newline is put, and the
 -- column is 0
@@ -125,8 +117,7 @@ raw_put width margin slice weight page =
 -- Paragraph and LineBreak write a newline
 abbrev pub chunk_put : ℕ → ℕ → Chunk → PageSoFar → PageSoFar
 chunk_put width margin (Raw slice weight) page = raw_put width margin slice weight page
-chunk_put width margin Paragraph page = on_new_line page
-chunk_put width margin LineBreak page = on_new_line page
+chunk_put width margin _ page = on_new_line page
 
 abbrev pub chunks_put : ℕ → ℕ → List Chunk → PageSoFar → PageSoFar
 chunks_put width margin [] page = page
@@ -142,8 +133,7 @@ backquoted b page =
 -- a new line is asked for, where a blank line is not
 abbrev pub at_least_new_line : Request → Request
 at_least_new_line NoBreak = NewLine
-at_least_new_line NewLine = NewLine
-at_least_new_line BlankLine = BlankLine
+at_least_new_line request = request
 
 -- what a start asks for
 abbrev pub request_at_start : Block → Request → Request

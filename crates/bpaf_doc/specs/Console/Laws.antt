@@ -1,6 +1,5 @@
 -- Theorems about the page as a function.
-use Rattle.std.specs.Prelude.{ℕ, ◌^◌, ◌<◌, Bool, List, length}
-use Rattle.bpaf_doc.specs.Buffer.Parts.{Part, HasUtf8Texts}
+use Rattle.bpaf_doc.specs.Words.{ℕ, ◌^◌, ◌<◌, Bool, List, length, Part, HasUtf8Texts}
 use Rattle.bpaf_doc.specs.Console.Layout.{IsLayout}
 use Rattle.bpaf_doc.specs.Console.Exact.{console_page}
 

@@ -1,14 +1,9 @@
 -- An HTML page as one function of the document, by the rules of docs/html.md: what each fragment writes depends on the
 -- text and the fragments before it. `render_html` returns exactly this text. The laws of `Html` are theorems about it
 -- (proofs/lemmas/Html/Exact, proofs/lemmas/Html/Meets).
-use Rattle.std.specs.Prelude.{ℕ, zero, suc, Bool, true, false, ◌||◌, List, [], ◌∷◌, ◌++◌, Option, Some, None, reverse, flat_map, if◌then◌else◌, codes, nat_eq}
-use Rattle.std.specs.List.{ends_with}
-use Rattle.bpaf_doc.specs.declared.buffer.Style.{Style}
+use Rattle.bpaf_doc.specs.Words.{ℕ, zero, suc, Bool, true, false, ◌||◌, List, [], ◌∷◌, ◌++◌, Option, Some, None, reverse, flat_map, if◌then◌else◌, codes, nat_eq, ends_with, Style, Block, Part, Chunk, Raw, Paragraph, LineBreak}
 use Rattle.bpaf_doc.specs.declared.buffer.Style.TheVariants as styles
-use Rattle.bpaf_doc.specs.declared.buffer.Block.{Block}
 use Rattle.bpaf_doc.specs.declared.buffer.Block.TheVariants as blocks
-use Rattle.bpaf_doc.specs.Buffer.Parts.{Part}
-use Rattle.bpaf_doc.specs.Splitter.Chunks.{Chunk, Raw, Paragraph, LineBreak}
 use Rattle.bpaf_doc.specs.Html.Fragments.{Fragment, TextStart, Shown, TextEnd, Hidden, Start, End, shown_fragments}
 use Rattle.bpaf_doc.specs.Html.Page.{escaped_character, is_definition_list, style_sheet}
 
@@ -101,8 +96,7 @@ header_break text b = if is_header b then (if is_at_break text then [] else brea
 -- what a chunk of a shown text writes
 abbrev pub chunk_html : Chunk → List ℕ
 chunk_html (Raw bytes weight) = flat_map escaped_character bytes
-chunk_html Paragraph = break_text
-chunk_html LineBreak = break_text
+chunk_html _ = break_text
 
 -- What a fragment writes, by the text and the fragments before it. An end closes a start before its own tag is chosen.
 abbrev pub fragment_html : List ℕ → List Fragment → Fragment → List ℕ

@@ -1,13 +1,7 @@
 -- What HTML and markdown show of a document, in order: each shown text with its chunks, each hidden text, and each
 -- mark. In brief the last chunk of a console text may be the Paragraph that hides what follows; HTML and markdown leave
 -- that Paragraph out.
-use Rattle.std.specs.Prelude.{Bool, not, ◌&&◌, List, [], ◌∷◌, ◌++◌, map, take, false, flat_map, if◌then◌else◌, ℕ}
-use Rattle.std.specs.List.{before_first}
-use Rattle.bpaf_doc.specs.declared.buffer.Style.{Style}
-use Rattle.bpaf_doc.specs.declared.buffer.Block.{Block}
-use Rattle.bpaf_doc.specs.Buffer.Parts.{Part, Text, Start as PartStart, End as PartEnd}
-use Rattle.bpaf_doc.specs.Splitter.Chunks.{Chunk, is_paragraph}
-use Rattle.bpaf_doc.specs.Shown.{numbered, is_hidden, shown_chunks}
+use Rattle.bpaf_doc.specs.Words.{Bool, not, ◌&&◌, List, [], ◌∷◌, ◌++◌, map, take, false, flat_map, if◌then◌else◌, ℕ, before_first, Style, Block, Part, Text, Start as PartStart, End as PartEnd, Chunk, is_paragraph, numbered, is_hidden, shown_chunks}
 
 -- the start of a shown text, a chunk of it, its end, a hidden text, or a mark
 pub data Fragment : Type 0 where

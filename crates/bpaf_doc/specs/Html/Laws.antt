@@ -1,6 +1,5 @@
 -- Theorems about the page as a function.
-use Rattle.std.specs.Prelude.{Bool, List}
-use Rattle.bpaf_doc.specs.Buffer.Parts.{Part, IsWellNested}
+use Rattle.bpaf_doc.specs.Words.{Bool, List, Part, IsWellNested}
 use Rattle.bpaf_doc.specs.Html.Page.{IsHtmlPageOf, IsHtmlTextPageOf}
 use Rattle.bpaf_doc.specs.Html.Exact.{html_page}
 

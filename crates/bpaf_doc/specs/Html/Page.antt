@@ -1,14 +1,9 @@
 -- What an HTML answer promises: it can be cut into tags, newlines and the fragments of the document, in the document's
 -- order.
-use Rattle.std.specs.Prelude.{◌≡◌, ℕ, ◌==◌, Bool, true, false, not, ◌&&◌, ◌||◌, List, [], ◌∷◌, ◌++◌, map, reverse, filter, flat_map, if◌then◌else◌, IsTrue, codes}
-use Rattle.std.specs.List.{list_any, AllPass}
+use Rattle.bpaf_doc.specs.Words.{◌≡◌, ℕ, ◌==◌, Bool, true, false, not, ◌&&◌, ◌||◌, List, [], ◌∷◌, ◌++◌, map, reverse, filter, flat_map, if◌then◌else◌, IsTrue, codes, list_any, AllPass, Style, Block, Part, Raw, Paragraph, LineBreak, is_inked, is_raw, is_line_byte}
 use Rattle.bpaf_roff.specs.Bytes as byte
-use Rattle.bpaf_doc.specs.declared.buffer.Style.{Style}
 use Rattle.bpaf_doc.specs.declared.buffer.Style.TheVariants.{Text, Emphasis, Literal, Metavar, Invalid}
-use Rattle.bpaf_doc.specs.declared.buffer.Block.{Block}
 use Rattle.bpaf_doc.specs.declared.buffer.Block.TheVariants.{Header, Section2, Section3, Section4, ItemTerm, ItemBody, DefinitionList, Block as Plain}
-use Rattle.bpaf_doc.specs.Splitter.Chunks.{Raw, Paragraph, LineBreak, is_inked, is_raw, is_line_byte}
-use Rattle.bpaf_doc.specs.Buffer.Parts.{Part}
 use Rattle.bpaf_doc.specs.Html.Fragments.{Fragment, Shown, Start, End, shows, shown_fragments}
 use Rattle.bpaf_doc.specs.Snippets.{Snippet, Put, Of, fragments_in, is_mark_or_fragment, styled_by, Touch}
 

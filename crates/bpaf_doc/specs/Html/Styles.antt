@@ -1,6 +1,5 @@
 -- What a style turns on.
-use Rattle.std.specs.Prelude.{true, false}
-use Rattle.bpaf_doc.specs.declared.buffer.Style.{Style}
+use Rattle.bpaf_doc.specs.Words.{true, false, Style}
 use Rattle.bpaf_doc.specs.declared.buffer.Style.TheVariants as style
 use Rattle.bpaf_doc.specs.declared.html.Styles.{Styles}
 

@@ -1,16 +1,11 @@
 -- The events of a document as a manual page. What a part gives depends on the marks before it.
-use Rattle.std.specs.Prelude.{ℕ, Bool, true, false, List, [], ◌∷◌, ◌++◌, Option, Some, map, reverse, find, flat_map, codes, if◌then◌else◌}
-use Rattle.std.specs.List.{after_last}
-use Rattle.std.specs.Str.{str_to_ascii_uppercase}
+use Rattle.bpaf_doc.specs.Words.{ℕ, Bool, true, false, List, [], ◌∷◌, ◌++◌, Option, Some, map, reverse, find, flat_map, codes, if◌then◌else◌, after_last, str_to_ascii_uppercase, Style, Block, Part, Text, Start, End}
 use Rattle.bpaf_roff.specs.Escaping.{newline_as_blank}
 use Rattle.bpaf_roff.specs.Roff.{argument_word}
 use Rattle.bpaf_roff.specs.declared.roff.Font.{Font}
 use Rattle.bpaf_roff.specs.declared.roff.Font.TheVariants.{Roman, Bold, Italic}
-use Rattle.bpaf_doc.specs.Buffer.Parts.{Part, Text, Start, End}
 use Rattle.bpaf_doc.specs.Manpage.Reader.{Event, Control, Span, LineEnd}
-use Rattle.bpaf_doc.specs.declared.buffer.Style.{Style}
 use Rattle.bpaf_doc.specs.declared.buffer.Style.TheVariants as style
-use Rattle.bpaf_doc.specs.declared.buffer.Block.{Block}
 use Rattle.bpaf_doc.specs.declared.buffer.Block.TheVariants as block
 
 -- each part with the parts before it
@@ -56,8 +51,7 @@ is_term_mark _ = false
 -- the text of a place, if it is one and the last section mark before it is a start
 abbrev pub captured_text : List Part × Part → List ℕ
 captured_text (before, Text bytes how) = if last_is_start is_section_mark before then bytes else []
-captured_text (before, Start b) = []
-captured_text (before, End b) = []
+captured_text _ = []
 
 -- a text as one word of a control: newlines are blanks, and an empty text is two quotes
 abbrev pub word_of : List ℕ → List ℕ

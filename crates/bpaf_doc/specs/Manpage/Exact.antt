@@ -2,17 +2,13 @@
 -- on the marks before it. `render_roff` returns exactly the rendering of the page with these pieces. That a reader of
 -- roff reads them as the document's events, where the page takes a document, is a theorem about them
 -- (proofs/lemmas/Manpage/Drafts, proofs/lemmas/Manpage/PageRead).
-use Rattle.std.specs.Prelude.{ℕ, Bool, List, [], ◌∷◌, ◌++◌, Option, Some, None, reverse, find, flat_map, codes, if◌then◌else◌}
-use Rattle.std.specs.Str.{str_to_ascii_uppercase}
+use Rattle.bpaf_doc.specs.Words.{ℕ, Bool, List, [], ◌∷◌, ◌++◌, Option, Some, None, reverse, find, flat_map, codes, if◌then◌else◌, str_to_ascii_uppercase, Style, Block, Part, Text, Start, End}
 use Rattle.bpaf_roff.specs.Pieces.{Piece}
 use Rattle.bpaf_roff.specs.Roff.{Script, control_pieces, linebreak_pieces, text_pieces, rendering}
 use Rattle.bpaf_roff.specs.declared.escape.Apostrophes.TheVariants.{Handle}
 use Rattle.bpaf_roff.specs.declared.escape.Escape.{Escape}
-use Rattle.bpaf_doc.specs.Buffer.Parts.{Part, Text, Start, End}
 use Rattle.bpaf_doc.specs.Manpage.Events.{places, is_start, last_is_start, is_section_mark, is_term_mark, captured_texts, font_of}
-use Rattle.bpaf_doc.specs.declared.buffer.Style.{Style}
 use Rattle.bpaf_doc.specs.declared.buffer.Style.TheVariants as style
-use Rattle.bpaf_doc.specs.declared.buffer.Block.{Block}
 use Rattle.bpaf_doc.specs.declared.buffer.Block.TheVariants as block
 
 -- a control without arguments

@@ -1,12 +1,8 @@
 -- What a markdown answer promises: it can be cut into marks and the fragments of the document, in the document's order.
-use Rattle.std.specs.Prelude.{◌≡◌, ℕ, ◌<◌, ◌==◌, Bool, true, false, not, ◌&&◌, ◌||◌, List, [], ◌∷◌, ◌++◌, map, reverse, filter, flat_map, count_by, if◌then◌else◌, IsTrue, nat_lt, codes}
-use Rattle.std.specs.List.{list_any, AllPass, after_last}
+use Rattle.bpaf_doc.specs.Words.{◌≡◌, ℕ, ◌<◌, ◌==◌, Bool, true, false, not, ◌&&◌, ◌||◌, List, [], ◌∷◌, ◌++◌, map, reverse, filter, flat_map, count_by, if◌then◌else◌, IsTrue, nat_lt, codes, list_any, AllPass, after_last, Style, Part, Raw, starts, is_raw, is_ordinary, is_code_line, is_whole_line, is_paragraph, is_line_break}
 use Rattle.bpaf_roff.specs.Bytes as byte
-use Rattle.bpaf_doc.specs.declared.buffer.Style.{Style}
 use Rattle.bpaf_doc.specs.declared.buffer.Style.TheVariants.{Text, Emphasis, Literal, Metavar, Invalid}
 use Rattle.bpaf_doc.specs.declared.buffer.Block.TheVariants.{Header, Section3, Section4, ItemTerm, ItemBody, DefinitionList, Mono}
-use Rattle.bpaf_doc.specs.Splitter.Chunks.{Raw, starts, is_raw, is_ordinary, is_code_line, is_whole_line, is_paragraph, is_line_break}
-use Rattle.bpaf_doc.specs.Buffer.Parts.{Part}
 use Rattle.bpaf_doc.specs.Html.Fragments.{Fragment, Shown, TextEnd, Start, End, shows, shown_fragments}
 use Rattle.bpaf_doc.specs.Snippets.{Snippet, Put, Of, fragments_in, is_mark_or_fragment, styled_by, Touch}
 

@@ -8,7 +8,7 @@ pub use Rattle.bpaf_doc.specs.Console.Steps.Page.{Sheet, blank_sheet}
 pub use Rattle.bpaf_doc.specs.Console.Steps.Pairs.{HasMarkAt, KnowsPairs, SkipsAt}
 pub use Rattle.bpaf_doc.specs.Console.Steps.Text.{console_text, no_pairs, pairs_after, part_put, parts_put, tab_stop_from, whole_page}
 pub use Rattle.bpaf_doc.specs.Shown.{breaks_off, console_ink, is_hidden, is_inline_end, is_inline_start, mark_bytes, numbered, shown_chunks, shown_part_ink, stays_open, through_paragraph}
-pub use Rattle.bpaf_doc.specs.Splitter.Chunks.{Chunk, IsLine, IsOrdinary, LineBreak, Paragraph, Raw, chunks_of, code_weight, columns, fence_weight, has_some, is_inked, is_ordinary, is_paragraph, is_whole_line, starts}
+pub use Rattle.bpaf_doc.specs.Splitter.Chunks.{Chunk, IsLine, LineBreak, Paragraph, Raw, chunks_of, code_weight, columns, fence_weight, has_some, is_inked, is_ordinary, is_paragraph, is_whole_line, starts}
 pub use Rattle.bpaf_doc.specs.Splitter.Promises.{IsText}
 pub use Rattle.bpaf_doc.specs.declared.buffer.Block.{Block}
 pub use Rattle.bpaf_doc.specs.declared.buffer.Style.{Style}
@@ -27,5 +27,5 @@ pub use Rattle.std.proofs.lemmas.Option.{get_or_from_slice_get, slice_get_past, 
 pub use Rattle.std.proofs.lemmas.Str.{IsCharBoundary-from_take, IsUtf8-append, IsUtf8-from_ascii, IsUtf8-nil, IsUtf8-string_bytes, chars-IsAscii, chars-append, chars-encodes, encode_ascii, encodes-append, encodes-chars, length-le-encodes, scalars-chars}
 pub use Rattle.std.specs.Char.{is_ascii_graphic, is_not_whitespace, is_whitespace}
 pub use Rattle.std.specs.List.{after_last, before_first, ends_with, enumerate_from, list_all, list_any, position_or_len, prefix_len, slice_split}
-pub use Rattle.std.specs.Prelude.{get_or, ⊤, ◌*◌, ◌≢◌}
+pub use Rattle.std.specs.Prelude.{IsTrue, get_or, ⊤, ◌*◌, ◌≢◌}
 pub use Rattle.std.specs.Str.{bytes_eq, trim_end}

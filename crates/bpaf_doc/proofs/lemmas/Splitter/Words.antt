@@ -1,6 +1,6 @@
 -- The words of std and of `specs/` that lemmas of this folder cite, passed on from one place.
 pub use Rattle.bpaf_doc.specs.Buffer.Parts.{ink}
-pub use Rattle.bpaf_doc.specs.Splitter.Chunks.{Chunk, Form, IsLine, IsLineEnd, IsOrdinary, IsPastNewline, IsWordEnd, LineBreak, Paragraph, Plain, Raw, Spells, before_code, blank, chunk_ink, chunks_in, chunks_of, closing, closing_paragraph, code_line, code_weight, columns, fence, fence_weight, has_some, is_line_byte, is_word_byte, later, line_break, newline, nothing, opening, paragraph, word}
+pub use Rattle.bpaf_doc.specs.Splitter.Chunks.{Chunk, Form, IsLine, IsLineEnd, IsPastNewline, IsWordEnd, LineBreak, Paragraph, Plain, Raw, Spells, before_code, blank, chunk_ink, chunks_in, chunks_of, closing, closing_paragraph, code_line, code_weight, columns, fence, fence_weight, has_some, is_line_byte, is_ordinary, is_word_byte, later, line_break, newline, nothing, opening, paragraph, word}
 pub use Rattle.bpaf_doc.specs.Splitter.Promises.{IsGap, IsOneLine, IsPlace, IsSpelledOnce, IsText, StandInOrder, StandsFor, is_gap_byte}
 pub use Rattle.bpaf_doc.specs.Splitter.Steps.Runs.{IsLettered, IsRunEnd, begins, is_lettered, letters}
 pub use Rattle.memchr.specs.Find.{IsLastByte, NoneAfter, NoneBefore, Nowhere, Passes, is_byte}

@@ -1,10 +1,6 @@
 -- What brief hides, as a count that goes from part to part.
-use Rattle.std.specs.Prelude.{ℕ, ◌+◌, ◌-◌, Bool, true, false, not, ◌&&◌, ◌==◌, List, if◌then◌else◌}
-use Rattle.std.specs.List.{list_any}
+use Rattle.bpaf_doc.specs.Words.{ℕ, ◌+◌, ◌-◌, Bool, true, false, not, ◌&&◌, ◌==◌, List, if◌then◌else◌, list_any, Block, Part, Text, Start, End, Chunk, chunks_of, is_paragraph}
 use Rattle.bpaf_doc.specs.declared.buffer.Block.TheVariants as blocks
-use Rattle.bpaf_doc.specs.declared.buffer.Block.{Block}
-use Rattle.bpaf_doc.specs.Buffer.Parts.{Part, Text, Start, End}
-use Rattle.bpaf_doc.specs.Splitter.Chunks.{Chunk, chunks_of, is_paragraph}
 
 -- whether the chunks hide what follows them
 abbrev pub hides : Bool → List Chunk → Bool

@@ -1,15 +1,11 @@
 -- A console page, step by step, as the private functions leave it: the page so far of the exact rules, and what the
 -- code carries beside it. This is internal.
-use Rattle.std.specs.Prelude.{◌≡◌, ℕ, ◌+◌, ◌-◌, ◌<◌, ◌≤◌, ◌==◌, Bool, false, not, ◌&&◌, List, [], ◌∷◌, ◌++◌, Option, Some, None, unwrap_or, length, take, nat_eq, nat_lt, string_bytes, if◌then◌else◌}
-use Rattle.std.specs.List.{slice_get, ends_with}
-use Rattle.std.specs.Str.{trim_end, bytes_eq}
+use Rattle.bpaf_doc.specs.Words.{◌≡◌, ℕ, ◌+◌, ◌-◌, ◌<◌, ◌≤◌, ◌==◌, Bool, false, not, ◌&&◌, List, [], ◌∷◌, ◌++◌, Option, Some, None, unwrap_or, length, take, nat_eq, nat_lt, string_bytes, if◌then◌else◌, slice_get, ends_with, trim_end, bytes_eq, Block, Chunk, Raw, Paragraph, LineBreak, code_weight, columns}
 use Rattle.bpaf_roff.specs.Bytes as byte
 use Rattle.bpaf_doc.specs.declared.buffer.Block.TheVariants as blocks
-use Rattle.bpaf_doc.specs.declared.buffer.Block.{Block}
 use Rattle.bpaf_doc.specs.declared.console.page.Asked.TheVariants as asked
 use Rattle.bpaf_doc.specs.declared.console.page.Asked.{Asked}
 use Rattle.bpaf_doc.specs.declared.console.page.Page.{Page}
-use Rattle.bpaf_doc.specs.Splitter.Chunks.{Chunk, Raw, Paragraph, LineBreak, code_weight, columns}
 use Rattle.bpaf_doc.specs.Console.Exact.{Request, NoBreak, NewLine, BlankLine, PageSoFar, saturated, empty_page, asks_line, asks_blank_line, on_new_line, with_blanks, request_met, wrapped, placed, start_put, end_put}
 
 abbrev pub request_of : Asked → Request

@@ -1,10 +1,8 @@
 -- What the console remembers of empty Block pairs from part to part. This is internal: that it comes to `is_skipped` is
 -- proved (proofs/lemmas/Console/Pairs).
-use Rattle.std.specs.Prelude.{◌≡◌, ℕ, ◌+◌, ◌<◌, true, ◌⊎◌, List, Some, slice_get}
+use Rattle.bpaf_doc.specs.Words.{◌≡◌, ℕ, ◌+◌, ◌<◌, true, ◌⊎◌, List, Some, slice_get, Block, Part, Start, End}
 use Rattle.bpaf_doc.specs.declared.buffer.Block.TheVariants as blocks
-use Rattle.bpaf_doc.specs.declared.buffer.Block.{Block}
 use Rattle.bpaf_doc.specs.declared.console.pairs.Pairs.{Pairs}
-use Rattle.bpaf_doc.specs.Buffer.Parts.{Part, Start, End}
 use Rattle.bpaf_doc.specs.Console.Margin.{after_section4, skips_pair}
 
 -- a Section4 start at place i skips a pair

@@ -1,12 +1,8 @@
 -- A console text, part by part, as the private functions leave it. This is internal: that such a text is the exact page
 -- is proved.
-use Rattle.std.specs.Prelude.{ℕ, ◌+◌, ◌-◌, ◌==◌, Bool, true, false, ◌&&◌, List, [], ◌∷◌, Option, Some, drop, max, nat_le, nat_lt, if◌then◌else◌}
-use Rattle.std.specs.List.{slice_get, position_or_len}
+use Rattle.bpaf_doc.specs.Words.{ℕ, ◌+◌, ◌-◌, ◌==◌, Bool, true, false, ◌&&◌, List, [], ◌∷◌, Option, Some, drop, max, nat_le, nat_lt, if◌then◌else◌, slice_get, position_or_len, Block, Part, Text, Start, End, columns, chunks_of}
 use Rattle.bpaf_doc.specs.declared.buffer.Block.TheVariants as blocks
-use Rattle.bpaf_doc.specs.declared.buffer.Block.{Block}
 use Rattle.bpaf_doc.specs.declared.console.pairs.Pairs.{Pairs}
-use Rattle.bpaf_doc.specs.Buffer.Parts.{Part, Text, Start, End}
-use Rattle.bpaf_doc.specs.Splitter.Chunks.{columns, chunks_of}
 use Rattle.bpaf_doc.specs.Console.Steps.Hiding.{hidden_after}
 use Rattle.bpaf_doc.specs.Console.Exact.{saturated, finished}
 use Rattle.bpaf_doc.specs.Console.Steps.Page.{Sheet, blank_sheet, text_put, opened, closed}
@@ -87,9 +83,8 @@ skips p index b = (p.has_pair && is_block b) && (nat_lt p.end index && nat_le (i
 -- ---- the parts
 
 abbrev pub pairs_after : List Part → ℕ → Pairs → Part → Pairs
-pairs_after document index p (Text bytes style) = p
 pairs_after document index p (Start b) = pairs_at document index b p
-pairs_after document index p (End b) = p
+pairs_after document index p _ = p
 
 abbrev pub start_put : Pairs → ℕ → Block → Sheet → Sheet
 start_put p index b s = if skips p index b then s else opened b (is_adjacent b p) s

@@ -1,8 +1,6 @@
 -- An HTML page as the code keeps it while it writes one fragment after another. This is internal: `Html/Exact` says
 -- what comes out, and that these pages are the same is proved (proofs/lemmas/Html/Exact).
-use Rattle.std.specs.Prelude.{ℕ, Bool, true, false, ◌&&◌, List, [], ◌∷◌, ◌++◌, flat_map, if◌then◌else◌, codes}
-use Rattle.bpaf_doc.specs.declared.buffer.Block.{Block}
-use Rattle.bpaf_doc.specs.Splitter.Chunks.{Chunk, Raw, Paragraph, LineBreak}
+use Rattle.bpaf_doc.specs.Words.{ℕ, Bool, true, false, ◌&&◌, List, [], ◌∷◌, ◌++◌, flat_map, if◌then◌else◌, codes, Block, Chunk, Raw, Paragraph, LineBreak}
 use Rattle.bpaf_doc.specs.Html.Fragments.{Fragment, TextStart, Shown, TextEnd, Hidden, Start, End}
 use Rattle.bpaf_doc.specs.Html.Page.{escaped_character, is_definition_list}
 pub use Rattle.bpaf_doc.specs.Html.Exact.{is_empty, is_header, start_tag, end_tag, opening_tags, closing_tags}
@@ -56,8 +54,7 @@ ended p b = with_text (with_heading (closed p) b) (end_tag b (first_or_false p.o
 -- the page after a chunk that is shown
 abbrev pub chunk_page : Written → Chunk → Written
 chunk_page p (Raw bytes weight) = with_words p bytes
-chunk_page p Paragraph = with_break p
-chunk_page p LineBreak = with_break p
+chunk_page p _ = with_break p
 
 -- the page after a fragment
 abbrev pub page_after : Written → Fragment → Written

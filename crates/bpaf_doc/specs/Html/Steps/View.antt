@@ -1,12 +1,11 @@
 -- Fragments, styles and languages of the code, as the definitions name them.
-use Rattle.std.specs.Prelude.{◌≡◌, ◌≢◌, ℕ, ◌<◌, Bool, ⊤, List, if◌then◌else◌, [], ◌∷◌, ◌++◌, length, map, take, slice_index, flat_map, Option, MatchOption}
+use Rattle.bpaf_doc.specs.Words.{◌≡◌, ◌≢◌, ℕ, ◌<◌, Bool, ⊤, List, if◌then◌else◌, [], ◌∷◌, ◌++◌, length, map, take, slice_index, flat_map, Option, MatchOption, Raw, chunks_of, code_weight}
 use Rattle.bpaf_doc.specs.declared.html.Language.{Language}
 use Rattle.bpaf_doc.specs.declared.html.Language.TheVariants as language
 use Rattle.bpaf_doc.specs.declared.html.fragments.Fragment as declared
 use Rattle.bpaf_doc.specs.declared.html.fragments.Fragment.TheVariants as handed
 use Rattle.bpaf_doc.specs.declared.html.fragments.Taken as declared_taken
 use Rattle.bpaf_doc.specs.declared.html.fragments.Taken.TheVariants as taken
-use Rattle.bpaf_doc.specs.Splitter.Chunks.{Raw, chunks_of, code_weight}
 use Rattle.bpaf_doc.specs.Splitter.Steps.Runs.{IsRun}
 use Rattle.bpaf_doc.specs.Splitter.View.{chunk_of}
 use Rattle.bpaf_doc.specs.Html.Fragments.{Fragment, TextStart, Shown, TextEnd, Hidden, Start, End}
@@ -31,8 +30,7 @@ fragments_in (taken.One fragment) = fragment_of fragment ∷ []
 -- what is returned as a run is one
 abbrev pub IsTaken : declared_taken.Taken → Type 0
 IsTaken (taken.Words style run) = IsRun run.now
-IsTaken (taken.Code style line) = ⊤
-IsTaken (taken.One fragment) = ⊤
+IsTaken _ = ⊤
 
 -- a call returned the first of the remaining fragments, and left the others, or returned None where none remained
 abbrev pub YieldsTaken : List Fragment → Option declared_taken.Taken → List Fragment → Type 0

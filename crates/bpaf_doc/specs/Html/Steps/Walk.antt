@@ -1,13 +1,8 @@
 -- The fragments of a document as the code finds them: one part after another, with a number that says how deep hiding
 -- is. This is internal: `shown_fragments` says what is meant, by looking back, and that this is the same is proved
 -- (proofs/lemmas/Html/Fragments/Walking).
-use Rattle.std.specs.Prelude.{ℕ, zero, suc, Bool, true, false, not, ◌&&◌, List, [], ◌∷◌, ◌++◌, map, if◌then◌else◌}
-use Rattle.std.specs.List.{list_any, before_first}
-use Rattle.bpaf_doc.specs.declared.buffer.Style.{Style}
-use Rattle.bpaf_doc.specs.declared.buffer.Block.{Block}
+use Rattle.bpaf_doc.specs.Words.{ℕ, zero, suc, Bool, true, false, not, ◌&&◌, List, [], ◌∷◌, ◌++◌, map, if◌then◌else◌, list_any, before_first, Style, Block, Part, Text, Start as PartStart, End as PartEnd, Chunk, is_paragraph, chunks_of}
 use Rattle.bpaf_doc.specs.declared.buffer.Block.TheVariants as blocks
-use Rattle.bpaf_doc.specs.Buffer.Parts.{Part, Text, Start as PartStart, End as PartEnd}
-use Rattle.bpaf_doc.specs.Splitter.Chunks.{Chunk, is_paragraph, chunks_of}
 use Rattle.bpaf_doc.specs.Html.Fragments.{Fragment, TextStart, Shown, TextEnd, Hidden, Start, End}
 
 abbrev pub is_inline : Block → Bool

@@ -1,16 +1,12 @@
 -- What an unfinished page holds after each part, as its writer keeps it. This is internal: `Manpage/Exact` says what
 -- comes out, and that this comes to it is proved (proofs/lemmas/Manpage/Drafts).
-use Rattle.std.specs.Prelude.{ℕ, Bool, true, false, List, [], ◌∷◌, ◌++◌, ◌||◌, Option, Some, None, flat_map, fold, codes, if◌then◌else◌}
-use Rattle.std.specs.Str.{str_to_ascii_uppercase}
+use Rattle.bpaf_doc.specs.Words.{ℕ, Bool, true, false, List, [], ◌∷◌, ◌++◌, ◌||◌, Option, Some, None, flat_map, fold, codes, if◌then◌else◌, str_to_ascii_uppercase, Style, Block, Part, Text, Start, End}
 use Rattle.bpaf_roff.specs.Pieces.{Piece}
 use Rattle.bpaf_roff.specs.Roff.{RoffText, with_written, control_pieces, linebreak_pieces, text_pieces}
 use Rattle.bpaf_roff.specs.declared.escape.Escape.{Escape}
 use Rattle.bpaf_roff.specs.declared.roff.Font.{Font}
-use Rattle.bpaf_doc.specs.Buffer.Parts.{Part, Text, Start, End}
 use Rattle.bpaf_doc.specs.Manpage.Events.{font_of, is_section}
-use Rattle.bpaf_doc.specs.declared.buffer.Style.{Style}
 use Rattle.bpaf_doc.specs.declared.buffer.Style.TheVariants as style
-use Rattle.bpaf_doc.specs.declared.buffer.Block.{Block}
 use Rattle.bpaf_doc.specs.declared.buffer.Block.TheVariants as block
 
 -- a call of a roff: a control, a text of one item, or a line break

@@ -1,9 +1,6 @@
 -- A run: words of a line and blanks between them, at the start of a text. Cut into chunks as a text of its own, it
 -- gives the same chunks.
-use Rattle.std.specs.Prelude.{◌≡◌, ◌≢◌, ℕ, ◌≤◌, Bool, true, not, ◌||◌, List, [], length, take, drop, count_by}
-use Rattle.std.specs.Int.{is_in_range}
-use Rattle.std.specs.List.{list_all}
-use Rattle.bpaf_doc.specs.Splitter.Chunks.{IsLine, IsWordEnd}
+use Rattle.bpaf_doc.specs.Words.{◌≡◌, ◌≢◌, ℕ, ◌≤◌, Bool, true, not, ◌||◌, List, [], length, take, drop, count_by, list_all, is_in_range, IsLine, IsWordEnd}
 
 -- a run of the text ends at this place
 pub record IsRunEnd (text : List ℕ) (end : ℕ) : Type 0 where
