@@ -7,3 +7,4 @@ pub mod Console
 pub mod Html
 pub mod Markdown
 pub mod Manpage
+pub mod Laws

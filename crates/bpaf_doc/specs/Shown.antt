@@ -20,14 +20,19 @@ fronts (x ∷ xs) = [] ∷ map (λ front. x ∷ front) (fronts xs)
 abbrev pub stays_open : {A : Type 0} → (A → Bool) → (A → Bool) → List A → Bool
 stays_open opens closes xs = list_all (λ front. nat_le (count_by closes front) (count_by opens front)) (fronts xs)
 
+-- a block that hiding counts
+abbrev pub is_inline : Block → Bool
+is_inline blocks.InlineBlock = true
+is_inline _ = false
+
 -- a start of InlineBlock
 abbrev pub is_inline_start : Part → Bool
-is_inline_start (Start blocks.InlineBlock) = true
+is_inline_start (Start b) = is_inline b
 is_inline_start _ = false
 
 -- an end of InlineBlock
 abbrev pub is_inline_end : Part → Bool
-is_inline_end (End blocks.InlineBlock) = true
+is_inline_end (End b) = is_inline b
 is_inline_end _ = false
 
 -- a text with a Paragraph chunk

@@ -230,10 +230,9 @@ pub record FollowsBlank (before : List Stretch) (f : Place) : Type 0 where
 -- last ink there was no blank chunk and no TermRef mark, or only one blank of the same text.
 pub record KeepsMargin (document : List Part) (stretches : List Stretch) : Type 0 where
   pub at_least : (before after : List Stretch) (f : Place) → stretches ≡ before ++ Placed f ∷ after
-      → IsTrue (is_inked (chunk_at f))
-      → margin document f.part ≤ column before
-  pub exact : (before after : List Stretch) (f : Place) → stretches ≡ before ++ Placed f ∷ after → IsTrue (is_inked (chunk_at f))
-      → IsFirstInLine before
+      → IsTrue (is_inked (chunk_at f)) → margin document f.part ≤ column before
+  pub exact : (before after : List Stretch) (f : Place) → stretches ≡ before ++ Placed f ∷ after
+      → IsTrue (is_inked (chunk_at f)) → IsFirstInLine before
       → (IsTrue (not (list_any is_raw_or_ref (events_since_ink before))) ⊎ FollowsBlank before f)
       → column before ≡ margin document f.part
 
@@ -322,8 +321,7 @@ leads_to_place _ = false
 -- line ends in added blanks.
 pub record PadsToMargin (document : List Part) (stretches : List Stretch) : Type 0 where
   pub up_to_margin : (before after : List Stretch) (f : Place) → stretches ≡ before ++ Placed f ∷ after
-      → 0 < padding before
-      → (column before ≡ margin document f.part)
+      → 0 < padding before → (column before ≡ margin document f.part)
       ⊎ ((padding before ≡ 2) × IsTrue (list_any opens_body (events_of (after_last is_placed before))))
   pub before_place : (before after : List Stretch) → stretches ≡ before ++ Gap byte.blank ∷ after
       → IsTrue (leads_to_place after)
@@ -350,8 +348,7 @@ abbrev pub BreaksForRoom : List Part → ℕ → List Stretch → Type 0
 BreaksForRoom document width stretches =
     (before between : List Stretch) (e f : Place) → AreApart stretches before e between f
     → IsTrue (not (list_any is_inked_stretch between)) → IsTrue (not (list_any asks_newline (events_of between)))
-    → IsTrue (list_any is_newline between)
-    → width
+    → IsTrue (list_any is_newline between) → width
     < column before + e.weight + sum_by room_of (events_of between) + columns f.bytes
     + (if e.part == f.part then 0 else greatest_margin document)
 

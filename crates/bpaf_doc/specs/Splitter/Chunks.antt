@@ -116,8 +116,7 @@ pub data Spells : Form → List Chunk → List ℕ → Type 0 where
   nothing : {form : Form} {chunks : List Chunk} {text : List ℕ} → chunks ≡ [] → text ≡ [] → Spells form chunks text
   -- a newline and four blanks, then a code line up to the next newline or the end
   code_line : {chunks : List Chunk} {text : List ℕ} (line rest : List ℕ) (others : List Chunk)
-      → chunks ≡ Raw line code_weight ∷ others
-      → text ≡ codes "\n    " ++ (line ++ rest) → IsLine line → IsLineEnd rest
+      → chunks ≡ Raw line code_weight ∷ others → text ≡ codes "\n    " ++ (line ++ rest) → IsLine line → IsLineEnd rest
       → Spells Plain others rest → Spells Plain chunks text
   -- two newlines with three backquotes after them: a fence opens
   fence : {chunks : List Chunk} {text : List ℕ} (rest : List ℕ) (others : List Chunk) → chunks ≡ Paragraph ∷ others
@@ -125,8 +124,7 @@ pub data Spells : Form → List Chunk → List ℕ → Type 0 where
       → Spells Opening others rest → Spells Plain chunks text
   -- a newline with a code line's newline and four blanks after it
   before_code : {chunks : List Chunk} {text : List ℕ} (rest : List ℕ) (others : List Chunk)
-      → chunks ≡ Paragraph ∷ others
-      → text ≡ codes "\n" ++ rest → IsTrue (starts rest (codes "\n    "))
+      → chunks ≡ Paragraph ∷ others → text ≡ codes "\n" ++ rest → IsTrue (starts rest (codes "\n    "))
       → Spells Plain others rest → Spells Plain chunks text
   -- two newlines with neither after them
   paragraph : {chunks : List Chunk} {text : List ℕ} (rest : List ℕ) (others : List Chunk) → chunks ≡ Paragraph ∷ others
@@ -142,12 +140,10 @@ pub data Spells : Form → List Chunk → List ℕ → Type 0 where
       → text ≡ codes "\n" ++ rest → ¬ IsTrue (starts rest (codes "\n")) → ¬ IsTrue (starts rest (codes " "))
       → Spells Plain others rest → Spells Plain chunks text
   blank : {chunks : List Chunk} {text : List ℕ} (rest : List ℕ) (others : List Chunk)
-      → chunks ≡ Raw (codes " ") 1 ∷ others
-      → text ≡ codes " " ++ rest
+      → chunks ≡ Raw (codes " ") 1 ∷ others → text ≡ codes " " ++ rest
       → Spells Plain others rest → Spells Plain chunks text
   word : {chunks : List Chunk} {text : List ℕ} (bytes rest : List ℕ) (others : List Chunk)
-      → chunks ≡ Raw bytes (columns bytes) ∷ others
-      → text ≡ bytes ++ rest → IsWord bytes → IsWordEnd rest
+      → chunks ≡ Raw bytes (columns bytes) ∷ others → text ≡ bytes ++ rest → IsWord bytes → IsWordEnd rest
       → Spells Plain others rest → Spells Plain chunks text
   -- the opening line of a fence, with its newline
   opening : {chunks : List Chunk} {text : List ℕ} (line rest next : List ℕ) (others : List Chunk)
@@ -163,8 +159,7 @@ pub data Spells : Form → List Chunk → List ℕ → Type 0 where
   closing : {chunks : List Chunk} {text : List ℕ} (line rest next : List ℕ) (others : List Chunk)
       → chunks ≡ Raw line fence_weight ∷ others
       → text ≡ line ++ rest → IsLine line → IsTrue (starts line (codes "```")) → ¬ IsTrue (starts rest (codes "\n\n"))
-      → IsPastNewline rest next
-      → Spells Plain others next → Spells Later chunks text
+      → IsPastNewline rest next → Spells Plain others next → Spells Later chunks text
   -- the same where two newlines follow, which both stay
   closing_paragraph : {chunks : List Chunk} {text : List ℕ} (line rest : List ℕ) (others : List Chunk)
       → chunks ≡ Raw line fence_weight ∷ others

@@ -1,8 +1,7 @@
 -- How the running ends cut the payload of a document into its parts.
 use Rattle.bpaf_doc.specs.Words.{◌≡◌, ℕ, zero, suc, ◌+◌, ◌-◌, ◌^◌, ◌<◌, ◌≤◌, Bool, false, if◌then◌else◌, List, [], ◌∷◌, length, take, drop, IsUtf8, Style, Part, Text, Start, End}
-use Rattle.bpaf_doc.specs.declared.buffer.Kind.{Kind}
+use Rattle.bpaf_doc.specs.declared.buffer.{Kind.Kind, PartEnd.PartEnd}
 use Rattle.bpaf_doc.specs.declared.buffer.Kind.TheVariants as kind
-use Rattle.bpaf_doc.specs.declared.buffer.PartEnd.{PartEnd}
 use Rattle.bpaf_doc.specs.Buffer.Writes.{same_style}
 
 -- the part of this kind with these bytes; a mark has none

@@ -1,6 +1,6 @@
 -- An HTML page as the code keeps it while it writes one fragment after another. This is internal: `Html/Exact` says
 -- what comes out, and that these pages are the same is proved (proofs/lemmas/Html/Exact).
-use Rattle.bpaf_doc.specs.Words.{ℕ, Bool, true, false, ◌&&◌, List, [], ◌∷◌, ◌++◌, flat_map, if◌then◌else◌, codes, Block, Chunk, Raw, Paragraph, LineBreak}
+use Rattle.bpaf_doc.specs.Words.{ℕ, Bool, true, false, ◌&&◌, List, [], ◌∷◌, ◌++◌, flat_map, if◌then◌else◌, codes, Block, Chunk, Raw, drop}
 use Rattle.bpaf_doc.specs.Html.Fragments.{Fragment, TextStart, Shown, TextEnd, Hidden, Start, End}
 use Rattle.bpaf_doc.specs.Html.Page.{escaped_character, is_definition_list}
 pub use Rattle.bpaf_doc.specs.Html.Exact.{is_empty, is_header, start_tag, end_tag, opening_tags, closing_tags}
@@ -38,12 +38,8 @@ abbrev pub first_or_false : List Bool → Bool
 first_or_false [] = false
 first_or_false (b ∷ bs) = b
 
-abbrev pub without_first : List Bool → List Bool
-without_first [] = []
-without_first (b ∷ bs) = bs
-
 abbrev pub closed : Written → Written
-closed p = record p { in_list = first_or_false p.outer; outer = without_first p.outer }
+closed p = record p { in_list = first_or_false p.outer; outer = drop 1 p.outer }
 
 abbrev pub started : Written → Block → Written
 started p b = opened (with_text (with_heading p b) (start_tag b p.in_list)) b
