@@ -2,8 +2,7 @@
 use Rattle.std.specs.Prelude.{ℕ, ◌+◌, Bool, true, false, ◌&&◌, ◌||◌, List, [], ◌∷◌, map, take, count_by, flat_map, nat_le, if◌then◌else◌}
 use Rattle.std.specs.List.{list_any, list_all, enumerate_from, position_or_len}
 use Rattle.bpaf_roff.specs.Bytes as byte
-use Rattle.bpaf_doc.specs.declared.buffer.Block.TheVariants as blocks
-use Rattle.bpaf_doc.specs.declared.buffer.Block.{Block}
+use Rattle.bpaf_doc.specs.declared.buffer.Block.{Block, TheVariants.InlineBlock, TheVariants.TermRef}
 use Rattle.bpaf_doc.specs.Buffer.Parts.{Part, Text, Start, End}
 use Rattle.bpaf_doc.specs.Splitter.Chunks.{Chunk, chunks_of, chunk_ink, is_paragraph}
 
@@ -22,7 +21,7 @@ stays_open opens closes xs = list_all (λ front. nat_le (count_by closes front) 
 
 -- a block that hiding counts
 abbrev pub is_inline : Block → Bool
-is_inline blocks.InlineBlock = true
+is_inline InlineBlock = true
 is_inline _ = false
 
 -- a start of InlineBlock
@@ -59,7 +58,7 @@ shown_chunks full before bytes =
 
 -- the block of TermRef marks
 abbrev pub is_term_ref : Block → Bool
-is_term_ref blocks.TermRef = true
+is_term_ref TermRef = true
 is_term_ref _ = false
 
 -- the backquote that a TermRef mark writes

@@ -1,10 +1,8 @@
 -- A document is the list of its parts.
-use Rattle.std.specs.Prelude.{◌≡◌, ℕ, List, [], ◌∷◌, ◌++◌, All, filter, chars}
+use Rattle.std.specs.Prelude.{◌≡◌, ℕ, List, [], ◌∷◌, ◌++◌, All, filter, flat_map, chars}
 use Rattle.std.specs.Char.{is_not_whitespace}
-use Rattle.std.specs.List.{flat_map}
 use Rattle.std.specs.Str.{IsUtf8}
-use Rattle.bpaf_doc.specs.declared.buffer.Style.{Style}
-use Rattle.bpaf_doc.specs.declared.buffer.Block.{Block}
+use Rattle.bpaf_doc.specs.declared.buffer.{Style.Style, Block.Block}
 
 -- a styled text by its bytes, or the start or the end of a block
 pub data Part : Type 0 where

@@ -2,8 +2,7 @@
 -- another. What depends on the place in the document, such as margins and what brief hides, comes from the counting
 -- definitions of `Margin` and `Shown`. The ink and the laws of `IsLayout` are theorems about this function
 -- (`specs/Laws`): whoever relies on them need not read it.
-use Rattle.bpaf_doc.specs.Words.{ℕ, ◌+◌, ◌-◌, Bool, true, false, not, ◌&&◌, ◌||◌, List, [], ◌∷◌, ◌++◌, codes, take, replicate, min, nat_eq, nat_lt, nat_le, if◌then◌else◌, ends_with, trim_end, bytes_eq, Block, Part, Text, Start, End, Chunk, Raw, columns, has_some, numbered, shown_chunks, is_term_ref}
-use Rattle.bpaf_roff.specs.Bytes as byte
+use Rattle.bpaf_doc.specs.Words.{ℕ, ◌+◌, ◌-◌, Bool, true, false, not, ◌&&◌, ◌||◌, List, [], ◌∷◌, ◌++◌, codes, take, replicate, min, nat_eq, nat_lt, nat_le, if◌then◌else◌, ends_with, trim_end, bytes_eq, Block, Part, Text, Start, End, Chunk, Raw, columns, has_some, numbered, shown_chunks, is_term_ref, blank}
 use Rattle.bpaf_doc.specs.declared.buffer.Block.TheVariants as blocks
 use Rattle.bpaf_doc.specs.Console.Margin.{margin, is_skipped}
 
@@ -32,7 +31,7 @@ on_new_line page = record page { text = page.text ++ codes "\n"; column = 0 }
 -- that many blanks are put
 abbrev pub with_blanks : ℕ → PageSoFar → PageSoFar
 with_blanks count page =
-    record page { text = page.text ++ replicate count byte.blank; column = saturated (page.column + count) }
+    record page { text = page.text ++ replicate count blank; column = saturated (page.column + count) }
 
 -- ---- a Raw chunk, step 1: the line is broken
 
@@ -104,13 +103,11 @@ raw_put width margin slice weight page =
     else placed margin slice weight page
 
 -- Paragraph and LineBreak write a newline
-abbrev pub chunk_put : ℕ → ℕ → Chunk → PageSoFar → PageSoFar
-chunk_put width margin (Raw slice weight) page = raw_put width margin slice weight page
-chunk_put width margin _ page = on_new_line page
-
 abbrev pub chunks_put : ℕ → ℕ → List Chunk → PageSoFar → PageSoFar
 chunks_put width margin [] page = page
-chunks_put width margin (chunk ∷ chunks) page = chunks_put width margin chunks (chunk_put width margin chunk page)
+chunks_put width margin (Raw slice weight ∷ chunks) page =
+    chunks_put width margin chunks (raw_put width margin slice weight page)
+chunks_put width margin (_ ∷ chunks) page = chunks_put width margin chunks (on_new_line page)
 
 -- ---- the marks
 

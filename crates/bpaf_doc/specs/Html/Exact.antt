@@ -1,7 +1,7 @@
 -- An HTML page as one function of the document, by the rules of docs/html.md: what each fragment writes depends on the
 -- text and the fragments before it. `render_html` returns exactly this text. The laws of `Html` are theorems about it
 -- (proofs/lemmas/Html/Exact, proofs/lemmas/Html/Meets).
-use Rattle.bpaf_doc.specs.Words.{ℕ, zero, suc, Bool, true, false, ◌||◌, List, [], ◌∷◌, ◌++◌, Option, Some, None, reverse, flat_map, if◌then◌else◌, codes, nat_eq, ends_with, Style, Block, Part, Chunk, Raw}
+use Rattle.bpaf_doc.specs.Words.{ℕ, zero, suc, Bool, true, false, ◌||◌, List, [], ◌∷◌, ◌++◌, Option, Some, None, reverse, flat_map, if◌then◌else◌, codes, nat_eq, ends_with, Style, Block, Part, Raw}
 use Rattle.bpaf_doc.specs.declared.buffer.Block.TheVariants as blocks
 use Rattle.bpaf_doc.specs.Html.Fragments.{Fragment, TextStart, Shown, TextEnd, Hidden, Start, End, shown_fragments}
 use Rattle.bpaf_doc.specs.Html.Page.{opening_tag, closing_tag, style_elements, block_elements, escaped_character, is_definition_list, style_sheet}
@@ -77,15 +77,11 @@ header_break text b = if is_header b then (if is_at_break text then [] else brea
 
 -- ---- the page
 
--- what a chunk of a shown text writes
-abbrev pub chunk_html : Chunk → List ℕ
-chunk_html (Raw bytes weight) = flat_map escaped_character bytes
-chunk_html _ = break_text
-
 -- What a fragment writes, by the text and the fragments before it. An end closes a start before its own tag is chosen.
 abbrev pub fragment_html : List ℕ → List Fragment → Fragment → List ℕ
 fragment_html text before (TextStart style) = opening_tags style
-fragment_html text before (Shown style chunk) = chunk_html chunk
+fragment_html text before (Shown style (Raw bytes weight)) = flat_map escaped_character bytes
+fragment_html text before (Shown style _) = break_text
 fragment_html text before (TextEnd style) = closing_tags style
 fragment_html text before Hidden = []
 fragment_html text before (Start b) = header_break text b ++ start_tag b (is_directly_in_list before)

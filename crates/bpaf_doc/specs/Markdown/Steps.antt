@@ -1,6 +1,6 @@
 -- A markdown text as the code keeps it while it writes one fragment after another. This is internal: `Markdown/Exact`
 -- says what comes out, and that these texts are the same is proved (proofs/lemmas/Markdown/Exact).
-use Rattle.bpaf_doc.specs.Words.{ℕ, ◌+◌, ◌-◌, ◌^◌, ◌==◌, Bool, true, false, List, [], ◌∷◌, ◌++◌, flat_map, if◌then◌else◌, codes, nat_lt, min, Style, Block, Chunk, Raw, Paragraph, LineBreak, code_weight, fence_weight}
+use Rattle.bpaf_doc.specs.Words.{ℕ, ◌+◌, ◌-◌, ◌^◌, ◌==◌, Bool, true, false, List, [], ◌++◌, flat_map, if◌then◌else◌, codes, nat_lt, min, Style, Block, Chunk, Raw, Paragraph, LineBreak, code_weight, fence_weight, fold}
 use Rattle.bpaf_doc.specs.declared.buffer.Block.TheVariants as blocks
 use Rattle.bpaf_doc.specs.declared.html.markdown.Item.{Item}
 use Rattle.bpaf_doc.specs.declared.html.markdown.Item.TheVariants as items
@@ -138,5 +138,4 @@ abbrev pub marked_after : Marked → Fragment → Marked
 marked_after p f = own_after (with_item p (is_term_end f)) f
 
 abbrev pub marked_after_all : Marked → List Fragment → Marked
-marked_after_all p [] = p
-marked_after_all p (f ∷ fs) = marked_after_all (marked_after p f) fs
+marked_after_all = fold marked_after

@@ -1,6 +1,5 @@
 -- What the chunks of a text promise.
-use Rattle.bpaf_doc.specs.Words.{◌≡◌, ℕ, ◌≤◌, Bool, ◌||◌, ◌==◌, IsTrue, ◌⊎◌, ⊤, List, [], ◌∷◌, codes, length, drop, slice_range, All, flat_map, list_all, IsUtf8, ink, Chunk, Raw, Paragraph, LineBreak, Plain, Spells, chunk_ink, chunks_of, IsLine}
-use Rattle.bpaf_roff.specs.Bytes as byte
+use Rattle.bpaf_doc.specs.Words.{◌≡◌, ℕ, ◌≤◌, Bool, ◌||◌, ◌==◌, IsTrue, ◌⊎◌, ⊤, List, [], ◌∷◌, codes, length, drop, slice_range, All, flat_map, list_all, IsUtf8, ink, Chunk, Raw, Paragraph, LineBreak, Plain, Spells, chunk_ink, chunks_of, IsLine, newline, blank}
 
 -- the text is spelled by its chunks, and by no other list
 pub record IsSpelledOnce (text : List ℕ) : Type 0 where
@@ -21,7 +20,7 @@ IsText _ = ⊤
 
 -- a newline or a blank
 abbrev pub is_gap_byte : ℕ → Bool
-is_gap_byte b = (b == byte.newline) || (b == byte.blank)
+is_gap_byte b = (b == newline) || (b == blank)
 
 -- only newlines and blanks
 abbrev pub IsGap : List ℕ → Type 0

@@ -1,5 +1,5 @@
 -- Pages of small documents: their events, their roff, and what that is read as, computed.
-use Rattle.std.specs.Prelude.{◌≡◌, [], ◌∷◌, ◌++◌, Some, None, codes, refl}
+use Rattle.std.specs.Prelude.{◌≡◌, false, [], ◌∷◌, ◌++◌, Some, None, codes, refl}
 use Rattle.bpaf_roff.specs.Roff.{control_pieces, rendering}
 use Rattle.bpaf_roff.specs.declared.escape.Apostrophes.TheVariants.{Handle}
 use Rattle.bpaf_roff.specs.declared.roff.Font.TheVariants.{Roman, Bold, Italic}

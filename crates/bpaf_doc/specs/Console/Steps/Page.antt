@@ -1,7 +1,6 @@
 -- A console page, step by step, as the private functions leave it: the page so far of the exact rules, and what the
 -- code carries beside it. This is internal.
-use Rattle.bpaf_doc.specs.Words.{◌≡◌, ℕ, ◌+◌, ◌-◌, ◌<◌, ◌≤◌, ◌==◌, Bool, false, not, ◌&&◌, List, [], ◌∷◌, ◌++◌, Option, Some, None, unwrap_or, length, take, nat_lt, string_bytes, if◌then◌else◌, slice_get, trim_end, bytes_eq, Block, Chunk, Raw, Paragraph, LineBreak, code_weight, columns}
-use Rattle.bpaf_roff.specs.Bytes as byte
+use Rattle.bpaf_doc.specs.Words.{◌≡◌, ℕ, ◌+◌, ◌-◌, ◌<◌, ◌≤◌, ◌==◌, Bool, false, not, ◌&&◌, List, [], ◌∷◌, ◌++◌, Option, Some, None, unwrap_or, length, take, nat_lt, string_bytes, if◌then◌else◌, slice_get, trim_end, bytes_eq, Block, Chunk, Raw, Paragraph, LineBreak, code_weight, columns, codes}
 use Rattle.bpaf_doc.specs.declared.buffer.Block.TheVariants as blocks
 use Rattle.bpaf_doc.specs.declared.console.page.Asked.TheVariants as asked
 use Rattle.bpaf_doc.specs.declared.console.page.{Asked.Asked, Page.Page}
@@ -86,7 +85,7 @@ columns_of raw weight = if nat_lt weight code_weight then weight else columns ra
 -- a Raw chunk; a blank that does not fit is left out
 unfoldable pub raw_put : ℕ → ℕ → List ℕ → ℕ → PageSoFar → PageSoFar
 raw_put width margin raw weight page =
-    if wraps width (columns_of raw weight) page && bytes_eq raw (byte.blank ∷ [])
+    if wraps width (columns_of raw weight) page && bytes_eq raw (codes " ")
     then room_made width (columns_of raw weight) page
     else placed margin raw weight (room_made width (columns_of raw weight) page)
 
