@@ -2,7 +2,6 @@
 pub mod Parts
 pub mod View
 pub mod Writes
-pub mod Marks
 pub mod Growth
 pub mod FirstLine
 pub mod Equality

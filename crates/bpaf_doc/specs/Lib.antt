@@ -1,8 +1,10 @@
 pub mod Buffer
 pub mod Splitter
 pub mod Shown
+pub mod Words
 pub mod Snippets
 pub mod Console
 pub mod Html
 pub mod Markdown
 pub mod Manpage
+pub mod Laws

@@ -2,8 +2,7 @@
 use Rattle.std.specs.Prelude.{ℕ, ◌+◌, Bool, true, false, ◌&&◌, ◌||◌, List, [], ◌∷◌, map, take, count_by, flat_map, nat_le, if◌then◌else◌}
 use Rattle.std.specs.List.{list_any, list_all, enumerate_from, position_or_len}
 use Rattle.bpaf_roff.specs.Bytes as byte
-use Rattle.bpaf_doc.specs.declared.buffer.Block.TheVariants as blocks
-use Rattle.bpaf_doc.specs.declared.buffer.Block.{Block}
+use Rattle.bpaf_doc.specs.declared.buffer.Block.{Block, TheVariants.InlineBlock, TheVariants.TermRef}
 use Rattle.bpaf_doc.specs.Buffer.Parts.{Part, Text, Start, End}
 use Rattle.bpaf_doc.specs.Splitter.Chunks.{Chunk, chunks_of, chunk_ink, is_paragraph}
 
@@ -20,21 +19,25 @@ fronts (x ∷ xs) = [] ∷ map (λ front. x ∷ front) (fronts xs)
 abbrev pub stays_open : {A : Type 0} → (A → Bool) → (A → Bool) → List A → Bool
 stays_open opens closes xs = list_all (λ front. nat_le (count_by closes front) (count_by opens front)) (fronts xs)
 
+-- a block that hiding counts
+abbrev pub is_inline : Block → Bool
+is_inline InlineBlock = true
+is_inline _ = false
+
 -- a start of InlineBlock
 abbrev pub is_inline_start : Part → Bool
-is_inline_start (Start blocks.InlineBlock) = true
+is_inline_start (Start b) = is_inline b
 is_inline_start _ = false
 
 -- an end of InlineBlock
 abbrev pub is_inline_end : Part → Bool
-is_inline_end (End blocks.InlineBlock) = true
+is_inline_end (End b) = is_inline b
 is_inline_end _ = false
 
 -- a text with a Paragraph chunk
 abbrev pub breaks_off : Part → Bool
 breaks_off (Text bytes style) = list_any is_paragraph (chunks_of bytes)
-breaks_off (Start b) = false
-breaks_off (End b) = false
+breaks_off _ = false
 
 -- Whether brief hides a text after these parts: one of them is a text with a Paragraph, and the inline block around it,
 -- or else the document, is still open. (What hid that text, if anything, hides this one too.)
@@ -55,7 +58,7 @@ shown_chunks full before bytes =
 
 -- the block of TermRef marks
 abbrev pub is_term_ref : Block → Bool
-is_term_ref blocks.TermRef = true
+is_term_ref TermRef = true
 is_term_ref _ = false
 
 -- the backquote that a TermRef mark writes

@@ -1,7 +1,6 @@
 -- What an answer in HTML or markdown is cut into: the marks that are put around the texts, and the fragments of the
 -- document.
-use Rattle.std.specs.Prelude.{◌≡◌, Bool, true, List, [], ◌∷◌, ◌++◌, map, IsTrue}
-use Rattle.bpaf_doc.specs.declared.buffer.Style.{Style}
+use Rattle.bpaf_doc.specs.Words.{◌≡◌, Bool, true, List, [], ◌∷◌, ◌++◌, map, IsTrue, Style}
 use Rattle.bpaf_doc.specs.Html.Fragments.{Fragment, TextStart, TextEnd}
 
 pub data Snippet (M : Type 0) : Type 0 where

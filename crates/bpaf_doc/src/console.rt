@@ -4,7 +4,7 @@ ghost use Rattle.bpaf_doc.specs.Console.Exact.{console_page};
 ghost use Rattle.bpaf_doc.specs.Console.Layout.{IsLayout};
 ghost use Rattle.bpaf_doc.specs.Buffer.Parts.{ink, HasUtf8Texts};
 ghost use Rattle.bpaf_doc.specs.Shown.{console_ink};
-ghost use Rattle.bpaf_doc.specs.Console.Steps.Hiding.{hidden_from_start, hidden_from_end};
+ghost use Rattle.bpaf_doc.specs.Console.Steps.Text.{hidden_from_start, hidden_from_end};
 ghost use Rattle.bpaf_doc.specs.Console.Steps.Text.{console_text};
 
 use crate::buffer::{Block, Doc, Part};

@@ -3,7 +3,7 @@
 ghost use Rattle.std.specs.Prelude.{◌≡◌, ◌≤◌, ◌++◌, length, not, IsTrue, MatchOption, OnOk, string_bytes};
 ghost use Rattle.std.specs.List.{flat_map, list_all};
 ghost use Rattle.memchr.specs.Find.{is_byte2};
-ghost use Rattle.bpaf_doc.specs.Html.Styles.{styles_of};
+ghost use Rattle.bpaf_doc.specs.Html.Page.{styles_of};
 ghost use Rattle.bpaf_doc.specs.Html.Steps.View.{spelling_of, when, IsPlain, IsFirstSpelled};
 
 use self::spelling::{BLOCK, ROOM, fill};

@@ -1,8 +1,7 @@
 //! Laws of the definitions that the contracts cite: statements that the check proves, not functions to call.
 
 ghost use Rattle.bpaf_doc.specs.Console.Ink.{FullInkIsBackquotedInk, FullInkIsDocumentInk};
-ghost use Rattle.bpaf_doc.specs.Console.Laws.{IsExactPageLayout};
-ghost use Rattle.bpaf_doc.specs.Html.Laws.{IsExactHtmlPage, IsExactHtmlText};
+ghost use Rattle.bpaf_doc.specs.Laws.{IsExactPageLayout, IsExactHtmlPage, IsExactHtmlText};
 ghost use Rattle.bpaf_doc.specs.Splitter.Promises.{EachTextIsSpelledOnce, ChunksKeepInk, ChunksAreLines};
 ghost use Rattle.bpaf_doc.specs.Splitter.Promises.{ChunksStandInOrder, ChunksAreTexts};
 ghost use Rattle.bpaf_doc.specs.Buffer.Equality.{IsEqualityOfParts};

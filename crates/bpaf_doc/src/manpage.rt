@@ -5,7 +5,8 @@ ghost use Rattle.std.specs.Option.{option_copied};
 ghost use Rattle.bpaf_roff.specs.Roff.{with_written, control_pieces, text_pieces};
 ghost use Rattle.bpaf_doc.specs.Manpage.Page.{TakesDocument, IsPageOf};
 ghost use Rattle.bpaf_doc.specs.Manpage.Exact.{roff_page};
-ghost use Rattle.bpaf_doc.specs.Manpage.Steps.Draft.{start_name, end_name, heading_name, after_parts, draft_on};
+ghost use Rattle.bpaf_doc.specs.Manpage.Events.{start_name, end_name, heading_name};
+ghost use Rattle.bpaf_doc.specs.Manpage.Steps.{after_parts, draft_on};
 
 use crate::buffer::{Block, Doc, Part, Parts, Style};
 use bpaf_roff::escape::{Apostrophes, Escape};
@@ -87,7 +88,7 @@ struct Writer<A: Allocator> {
 
 impl<A: Allocator> Model for Writer<A> {
     ghost use Rattle.std.specs.Prelude.{string_bytes};
-    ghost use Rattle.bpaf_doc.specs.Manpage.Steps.Draft.{Draft};
+    ghost use Rattle.bpaf_doc.specs.Manpage.Steps.{Draft};
 
     ghost Value = { Draft };
 
@@ -114,8 +115,8 @@ impl<A: Allocator + Copy> Writer<A> {
 }
 
 impl<A: Allocator> Writer<A> {
-    ghost use Rattle.bpaf_doc.specs.Manpage.Steps.Draft.{after_text, after_start, after_section, after_block};
-    ghost use Rattle.bpaf_doc.specs.Manpage.Steps.Draft.{after_part};
+    ghost use Rattle.bpaf_doc.specs.Manpage.Steps.{after_text, after_start, after_section, after_block};
+    ghost use Rattle.bpaf_doc.specs.Manpage.Steps.{after_part};
     ghost use Rattle.bpaf_doc.specs.Buffer.View.{part_of};
 
     fn part(&mut self, part: Part<'_>) -> Result<(), AllocError>

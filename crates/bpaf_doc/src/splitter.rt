@@ -11,7 +11,7 @@ ghost use Rattle.bpaf_doc.specs.Splitter.Chunks.{IsPastNewline, IsWordEnd, chunk
 ghost use Rattle.bpaf_doc.specs.Splitter.Chunks.{code_weight, columns, is_word_byte};
 ghost use Rattle.bpaf_doc.specs.Splitter.Promises.{IsOneLine, StandInOrder};
 ghost use Rattle.bpaf_doc.specs.Buffer.Parts.{ink};
-ghost use Rattle.bpaf_doc.specs.Splitter.Steps.Runs.{IsRun, IsRunEnd, IsLettered, is_lettered, letters};
+ghost use Rattle.bpaf_doc.specs.Splitter.Steps.{IsRun, IsRunEnd, IsLettered, is_lettered, letters};
 ghost use Rattle.bpaf_doc.specs.Splitter.View.{chunk_of};
 
 use memchr::{memchr, memrchr};
@@ -65,7 +65,7 @@ pub struct Splitter<'a> {
 impl<'a> Model for Splitter<'a> {
     ghost use Rattle.std.specs.Prelude.{List};
     ghost use Rattle.bpaf_doc.specs.Splitter.Chunks.{Chunk, chunks_in};
-    ghost use Rattle.bpaf_doc.specs.Splitter.Steps.Forms.{form_of};
+    ghost use Rattle.bpaf_doc.specs.Splitter.View.{form_of};
 
     ghost Value = { List Chunk };
 

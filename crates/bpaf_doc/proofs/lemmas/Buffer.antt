@@ -1,4 +1,5 @@
 -- Lemmas about documents.
+pub mod Words
 pub mod Ends
 pub mod RollBack
 pub mod Growing

@@ -1,7 +1,8 @@
 -- Lemmas about manual pages and their reader.
+pub mod Words
 pub mod Program
 pub mod OneReading
-mod ReadBack
+pub mod ReadBack
 pub mod PageRead
 pub mod LookingBack
 pub mod Drafts

@@ -1,17 +1,13 @@
 -- The first line of a document.
-use Rattle.std.specs.Prelude.{◌≡◌, ℕ, true, if◌then◌else◌, List, [], ◌∷◌, Option, None, Some}
-use Rattle.std.specs.List.{list_any, before_first, after_first}
-use Rattle.bpaf_doc.specs.Buffer.Parts.{Part, Text, Start, End}
+use Rattle.bpaf_doc.specs.Words.{◌≡◌, ℕ, true, if◌then◌else◌, List, [], ◌∷◌, Option, None, Some, list_any, before_first, after_first, Part, Text}
 use Rattle.bpaf_doc.specs.Buffer.Writes.{is_newline}
 
 -- the leading texts up to the first newline or mark, without either
 abbrev pub leading_texts : List Part → List Part
-leading_texts [] = []
 leading_texts (Text bytes style ∷ ps) =
     if list_any is_newline bytes then Text (before_first is_newline bytes) style ∷ []
     else Text bytes style ∷ leading_texts ps
-leading_texts (Start b ∷ ps) = []
-leading_texts (End b ∷ ps) = []
+leading_texts _ = []
 
 -- a document without parts has none
 -- e.g. first_line_of (Text (codes "one\ntwo") style.Text ∷ Text (codes "z") style.Literal ∷ [])

@@ -1,6 +1,5 @@
 -- How a document grows, and how far it is at a checkpoint.
-use Rattle.std.specs.Prelude.{◌≡◌, ℕ, List, length}
-use Rattle.bpaf_doc.specs.Buffer.Parts.{Part, HasUtf8Texts, document_bytes}
+use Rattle.bpaf_doc.specs.Words.{◌≡◌, ℕ, List, length, Part, HasUtf8Texts, document_bytes}
 use Rattle.bpaf_doc.specs.Buffer.Writes.{Write, with_writes}
 
 -- some writes lead from the first list of parts to the second

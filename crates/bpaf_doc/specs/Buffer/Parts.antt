@@ -1,10 +1,8 @@
 -- A document is the list of its parts.
-use Rattle.std.specs.Prelude.{◌≡◌, ℕ, List, [], ◌∷◌, ◌++◌, All, filter, chars}
+use Rattle.std.specs.Prelude.{◌≡◌, ℕ, List, [], ◌∷◌, ◌++◌, All, filter, flat_map, chars}
 use Rattle.std.specs.Char.{is_not_whitespace}
-use Rattle.std.specs.List.{flat_map}
 use Rattle.std.specs.Str.{IsUtf8}
-use Rattle.bpaf_doc.specs.declared.buffer.Style.{Style}
-use Rattle.bpaf_doc.specs.declared.buffer.Block.{Block}
+use Rattle.bpaf_doc.specs.declared.buffer.{Style.Style, Block.Block}
 
 -- a styled text by its bytes, or the start or the end of a block
 pub data Part : Type 0 where
@@ -27,14 +25,12 @@ ink bytes = filter is_not_whitespace (chars bytes)
 
 abbrev pub part_ink : Part → List ℕ
 part_ink (Text bytes style) = ink bytes
-part_ink (Start b) = []
-part_ink (End b) = []
+part_ink _ = []
 
 -- the bytes of a text; a mark has none
 abbrev pub part_bytes : Part → List ℕ
 part_bytes (Text bytes style) = bytes
-part_bytes (Start b) = []
-part_bytes (End b) = []
+part_bytes _ = []
 
 -- the texts of a document, joined
 abbrev pub document_bytes : List Part → List ℕ

@@ -1,14 +1,10 @@
 -- What is written into a document, and the parts that it leaves there.
-use Rattle.std.specs.Prelude.{ℕ, Bool, if◌then◌else◌, List, [], ◌∷◌, ◌++◌, ◌==◌, fold, flat_map, codes}
+use Rattle.bpaf_doc.specs.Words.{ℕ, Bool, if◌then◌else◌, List, [], ◌∷◌, ◌++◌, ◌==◌, fold, flat_map, codes, list_any, before_first, after_first, Style, Block, Part, Text, Start, End}
 use Rattle.std.specs.Borrow.{Bor}
-use Rattle.std.specs.List.{list_any, before_first, after_first}
 use Rattle.bpaf_roff.specs.Bytes as byte
-use Rattle.bpaf_doc.specs.declared.buffer.Style.{Style}
 use Rattle.bpaf_doc.specs.declared.buffer.Style.TheVariants as style
-use Rattle.bpaf_doc.specs.declared.buffer.Block.{Block}
 use Rattle.bpaf_doc.specs.declared.buffer.Block.TheVariants as block
 use Rattle.bpaf_doc.specs.contracts.buffer.StylePartialEq.TheImpl as style_eq
-use Rattle.bpaf_doc.specs.Buffer.Parts.{Part, Text, Start, End}
 
 -- a text, the start or the end of a block, or the parts of a whole document
 pub data Write : Type 0 where
@@ -24,8 +20,7 @@ same_style = (style_eq.ghosts).eq
 abbrev pub part_then_text : Part → List ℕ → Style → List Part
 part_then_text (Text before kind) bytes style =
     if same_style kind style then Text (before ++ bytes) style ∷ [] else Text before kind ∷ Text bytes style ∷ []
-part_then_text (Start b) bytes style = Start b ∷ Text bytes style ∷ []
-part_then_text (End b) bytes style = End b ∷ Text bytes style ∷ []
+part_then_text mark bytes style = mark ∷ Text bytes style ∷ []
 
 -- the parts with a text written after them: it joins the last part if that is a text of the same style, and otherwise
 -- is a part of its own

@@ -1,16 +1,9 @@
 -- The console page as a function of the document, the width, and full or brief: the rules of docs/console.md, one after
 -- another. What depends on the place in the document, such as margins and what brief hides, comes from the counting
 -- definitions of `Margin` and `Shown`. The ink and the laws of `IsLayout` are theorems about this function
--- (`Console/Laws`): whoever relies on them need not read it.
-use Rattle.std.specs.Prelude.{ℕ, ◌+◌, ◌-◌, Bool, true, false, not, ◌&&◌, ◌||◌, List, [], ◌∷◌, ◌++◌, codes, take, replicate, min, nat_eq, nat_lt, nat_le, if◌then◌else◌}
-use Rattle.std.specs.List.{ends_with}
-use Rattle.std.specs.Str.{trim_end, bytes_eq}
-use Rattle.bpaf_roff.specs.Bytes as byte
+-- (`specs/Laws`): whoever relies on them need not read it.
+use Rattle.bpaf_doc.specs.Words.{ℕ, ◌+◌, ◌-◌, Bool, true, false, not, ◌&&◌, ◌||◌, List, [], ◌∷◌, ◌++◌, codes, take, replicate, min, nat_eq, nat_lt, nat_le, if◌then◌else◌, ends_with, trim_end, bytes_eq, Block, Part, Text, Start, End, Chunk, Raw, columns, has_some, numbered, shown_chunks, is_term_ref, blank}
 use Rattle.bpaf_doc.specs.declared.buffer.Block.TheVariants as blocks
-use Rattle.bpaf_doc.specs.declared.buffer.Block.{Block}
-use Rattle.bpaf_doc.specs.Buffer.Parts.{Part, Text, Start, End}
-use Rattle.bpaf_doc.specs.Splitter.Chunks.{Chunk, Raw, Paragraph, LineBreak, columns, has_some}
-use Rattle.bpaf_doc.specs.Shown.{numbered, shown_chunks, is_term_ref}
 use Rattle.bpaf_doc.specs.Console.Margin.{margin, is_skipped}
 
 -- what has to stand before the next text
@@ -38,42 +31,43 @@ on_new_line page = record page { text = page.text ++ codes "\n"; column = 0 }
 -- that many blanks are put
 abbrev pub with_blanks : ℕ → PageSoFar → PageSoFar
 with_blanks count page =
-    record page { text = page.text ++ replicate count byte.blank; column = saturated (page.column + count) }
+    record page { text = page.text ++ replicate count blank; column = saturated (page.column + count) }
 
 -- ---- a Raw chunk, step 1: the line is broken
 
 -- a new line or a blank line is asked for
 abbrev pub asks_line : Request → Bool
 asks_line NoBreak = false
-asks_line NewLine = true
-asks_line BlankLine = true
+asks_line _ = true
 
 -- a blank line is asked for
 abbrev pub asks_blank_line : Request → Bool
-asks_blank_line NoBreak = false
-asks_blank_line NewLine = false
 asks_blank_line BlankLine = true
+asks_blank_line _ = false
 
--- (a) where a line or a blank line is asked for and the text does not end in a newline, a newline is put, and the
--- column is 0
+-- (a) a line or a blank line is asked for, and the text does not end in a newline
+abbrev pub lacks_newline : PageSoFar → Bool
+lacks_newline page = asks_line page.request && not (ends_with nat_eq page.text (codes "\n"))
+
+-- then a newline is put, and the column is 0
 abbrev pub line_ended : PageSoFar → PageSoFar
-line_ended page =
-    if asks_line page.request && not (ends_with nat_eq page.text (codes "\n")) then on_new_line page else page
+line_ended page = if lacks_newline page then on_new_line page else page
 
--- (b) where a blank line is asked for and the text does not end in two newlines, a newline is put
+-- (b) a blank line is asked for, and the text does not end in two newlines
+abbrev pub lacks_blank_line : PageSoFar → Bool
+lacks_blank_line page = asks_blank_line page.request && not (ends_with nat_eq page.text (codes "\n\n"))
+
+-- then a newline is put
 abbrev pub blank_line_put : PageSoFar → PageSoFar
-blank_line_put page =
-    if asks_blank_line page.request && not (ends_with nat_eq page.text (codes "\n\n"))
-    then record page { text = page.text ++ codes "\n" }
-    else page
+blank_line_put page = if lacks_blank_line page then record page { text = page.text ++ codes "\n" } else page
 
 -- (a) and (b): what is asked for stands at the end of the text
 abbrev pub request_met : PageSoFar → PageSoFar
 request_met page = blank_line_put (line_ended page)
 
--- (c) the column plus the columns of the slice exceeds the width
-abbrev pub is_too_wide : ℕ → List ℕ → PageSoFar → Bool
-is_too_wide width slice page = nat_lt width (saturated (page.column + columns slice))
+-- (c) the column plus these columns exceeds the width
+abbrev pub has_no_room : ℕ → ℕ → PageSoFar → Bool
+has_no_room width more page = nat_lt width (saturated (page.column + more))
 
 -- (c) the White_Space at the end is removed, newlines too, a newline is put, and the column is 0
 abbrev pub wrapped : PageSoFar → PageSoFar
@@ -81,56 +75,39 @@ wrapped page = on_new_line (record page { text = trim_end page.text })
 
 -- ---- steps 2 to 4: the slice is written from its margin on
 
--- step 2: the blanks that are missing up to the margin, none where the column is past it
-abbrev pub missing_blanks : ℕ → PageSoFar → ℕ
-missing_blanks margin page = margin - page.column
-
 -- step 3: where the margin is pending and the column is at least 28, two blanks in all, this many of which step 2 put
 abbrev pub body_parted : ℕ → PageSoFar → PageSoFar
 body_parted missing page = if page.is_pending && nat_le 28 page.column then with_blanks (2 - missing) page else page
 
--- steps 2 and 3
+-- step 2, the blanks that are missing up to the margin, none where the column is past it; and step 3
 abbrev pub indented : ℕ → PageSoFar → PageSoFar
-indented margin page = body_parted (missing_blanks margin page) (with_blanks (missing_blanks margin page) page)
+indented margin page = body_parted (margin - page.column) (with_blanks (margin - page.column) page)
 
--- step 4: all that was asked for or pending is cleared, the slice is written, and the column grows by its weight
-abbrev pub slice_put : List ℕ → ℕ → PageSoFar → PageSoFar
-slice_put slice weight page =
-    record {
-      text = page.text ++ slice;
-      column = saturated (page.column + weight);
-      request = NoBreak;
-      is_pending = false;
-    }
-
--- steps 2 to 4
+-- steps 2 to 4: all that was asked for or pending is cleared, the slice is written, and the column grows by its weight
 abbrev pub placed : ℕ → List ℕ → ℕ → PageSoFar → PageSoFar
-placed margin slice weight page = slice_put slice weight (indented margin page)
+placed margin slice weight page =
+    let p : PageSoFar = indented margin page in
+    record { text = p.text ++ slice; column = saturated (p.column + weight); request = NoBreak; is_pending = false }
 
 -- ---- the chunks of a text
 
--- The rest of step 1 and the steps after it, where there is text and what was asked for is at its end: either (c),
--- where a blank is dropped and what was asked for still is, or the slice is placed.
-abbrev pub fitted : ℕ → ℕ → List ℕ → ℕ → PageSoFar → PageSoFar
-fitted width margin slice weight page =
-    if is_too_wide width slice page
-    then if bytes_eq slice (codes " ") then wrapped page else placed margin slice weight (wrapped page)
-    else placed margin slice weight page
-
--- a Raw chunk, at the margin of its text: step 1 is skipped where there is no text yet
+-- A Raw chunk, at the margin of its text. Step 1 is skipped where there is no text yet. Otherwise what is asked for is
+-- put at its end, and then either (c), where a blank is dropped and what was asked for still is, or the slice is placed.
 abbrev pub raw_put : ℕ → ℕ → List ℕ → ℕ → PageSoFar → PageSoFar
 raw_put width margin slice weight page =
-    if has_some page.text then fitted width margin slice weight (request_met page) else placed margin slice weight page
+    let met : PageSoFar = request_met page in
+    if has_some page.text
+    then if has_no_room width (columns slice) met
+    then if bytes_eq slice (codes " ") then wrapped met else placed margin slice weight (wrapped met)
+    else placed margin slice weight met
+    else placed margin slice weight page
 
 -- Paragraph and LineBreak write a newline
-abbrev pub chunk_put : ℕ → ℕ → Chunk → PageSoFar → PageSoFar
-chunk_put width margin (Raw slice weight) page = raw_put width margin slice weight page
-chunk_put width margin Paragraph page = on_new_line page
-chunk_put width margin LineBreak page = on_new_line page
-
 abbrev pub chunks_put : ℕ → ℕ → List Chunk → PageSoFar → PageSoFar
 chunks_put width margin [] page = page
-chunks_put width margin (chunk ∷ chunks) page = chunks_put width margin chunks (chunk_put width margin chunk page)
+chunks_put width margin (Raw slice weight ∷ chunks) page =
+    chunks_put width margin chunks (raw_put width margin slice weight page)
+chunks_put width margin (_ ∷ chunks) page = chunks_put width margin chunks (on_new_line page)
 
 -- ---- the marks
 
@@ -142,8 +119,7 @@ backquoted b page =
 -- a new line is asked for, where a blank line is not
 abbrev pub at_least_new_line : Request → Request
 at_least_new_line NoBreak = NewLine
-at_least_new_line NewLine = NewLine
-at_least_new_line BlankLine = BlankLine
+at_least_new_line request = request
 
 -- what a start asks for
 abbrev pub request_at_start : Block → Request → Request

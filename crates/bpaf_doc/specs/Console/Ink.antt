@@ -1,8 +1,5 @@
 -- The ink of a console page in full: that of the document's texts.
-use Rattle.std.specs.Prelude.{◌≡◌, ℕ, Bool, true, false, not, List, flat_map, IsTrue}
-use Rattle.std.specs.List.{list_any}
-use Rattle.bpaf_doc.specs.Buffer.Parts.{Part, Text, Start, End, ink, document_ink, HasUtf8Texts}
-use Rattle.bpaf_doc.specs.Shown.{console_ink, is_term_ref, mark_bytes}
+use Rattle.bpaf_doc.specs.Words.{◌≡◌, ℕ, Bool, true, false, not, List, flat_map, IsTrue, list_any, Part, Text, Start, End, ink, document_ink, HasUtf8Texts, console_ink, is_term_ref, mark_bytes}
 
 -- the ink of a text, or the backquote of a TermRef mark
 abbrev pub backquoted_part_ink : Part → List ℕ

@@ -1,13 +1,7 @@
 -- What a console text may look like: a layout of a document at a width.
-use Rattle.std.specs.Prelude.{◌≡◌, ◌≢◌, ℕ, ◌+◌, ◌<◌, ◌≤◌, max, Bool, true, false, not, ◌&&◌, ◌==◌, IsTrue, ◌⊎◌, List, [], ◌∷◌, ◌++◌, map, length, take, sum_by, count_by, flat_map, All, codes, if◌then◌else◌}
-use Rattle.std.specs.List.{list_any, list_all, before_first, after_last, slice_split}
-use Rattle.std.specs.Str.{trim_end}
+use Rattle.bpaf_doc.specs.Words.{◌≡◌, ◌≢◌, ℕ, ◌+◌, ◌<◌, ◌≤◌, max, Bool, true, false, not, ◌&&◌, ◌==◌, IsTrue, ◌⊎◌, List, [], ◌∷◌, ◌++◌, map, length, take, sum_by, count_by, flat_map, All, codes, if◌then◌else◌, list_any, list_all, before_first, after_last, slice_split, trim_end, Block, Part, Text, Start, End, ink, Chunk, Raw, Paragraph, LineBreak, code_weight, columns, is_ordinary, is_inked, is_raw, is_whole_line, has_some, starts, numbered, shown_chunks, console_ink, is_term_ref, mark_bytes}
 use Rattle.bpaf_roff.specs.Bytes as byte
 use Rattle.bpaf_doc.specs.declared.buffer.Block.TheVariants as blocks
-use Rattle.bpaf_doc.specs.declared.buffer.Block.{Block}
-use Rattle.bpaf_doc.specs.Buffer.Parts.{Part, Text, Start, End, ink}
-use Rattle.bpaf_doc.specs.Splitter.Chunks.{Chunk, Raw, Paragraph, LineBreak, code_weight, columns, is_ordinary, is_inked, is_raw, is_whole_line, IsOrdinary, IsInked, has_some, starts}
-use Rattle.bpaf_doc.specs.Shown.{numbered, shown_chunks, console_ink, is_term_ref, mark_bytes}
 use Rattle.bpaf_doc.specs.Console.Margin.{is_skipped, margin, greatest, greatest_margin}
 
 -- ---- what is shown, in order
@@ -140,8 +134,8 @@ widest events = greatest (map event_columns events)
 pub record AreApart (stretches before : List Stretch) (e : Place) (between : List Stretch) (f : Place) : Type 0 where
   pub after : List Stretch
   pub order : stretches ≡ before ++ Placed e ∷ (between ++ Placed f ∷ after)
-  pub first_inked : IsInked (chunk_at e)
-  pub second_inked : IsInked (chunk_at f)
+  pub first_inked : IsTrue (is_inked (chunk_at e))
+  pub second_inked : IsTrue (is_inked (chunk_at f))
 
 -- a break chunk; a start of Header, Section2, Section3, Section4 or ItemTerm; an end of Block
 abbrev pub asks_newline : Event → Bool
@@ -228,7 +222,7 @@ pub record FollowsBlank (before : List Stretch) (f : Place) : Type 0 where
   pub between : List Stretch
   pub e : Place
   pub order : before ≡ front ++ Placed e ∷ between
-  pub inked : IsInked (chunk_at e)
+  pub inked : IsTrue (is_inked (chunk_at e))
   pub same_text : e.part ≡ f.part
   pub one_blank : events_of between ≡ Shows f.part (Raw (codes " ") 1) ∷ []
 
@@ -236,10 +230,9 @@ pub record FollowsBlank (before : List Stretch) (f : Place) : Type 0 where
 -- last ink there was no blank chunk and no TermRef mark, or only one blank of the same text.
 pub record KeepsMargin (document : List Part) (stretches : List Stretch) : Type 0 where
   pub at_least : (before after : List Stretch) (f : Place) → stretches ≡ before ++ Placed f ∷ after
-      → IsInked (chunk_at f)
-      → margin document f.part ≤ column before
-  pub exact : (before after : List Stretch) (f : Place) → stretches ≡ before ++ Placed f ∷ after → IsInked (chunk_at f)
-      → IsFirstInLine before
+      → IsTrue (is_inked (chunk_at f)) → margin document f.part ≤ column before
+  pub exact : (before after : List Stretch) (f : Place) → stretches ≡ before ++ Placed f ∷ after
+      → IsTrue (is_inked (chunk_at f)) → IsFirstInLine before
       → (IsTrue (not (list_any is_raw_or_ref (events_since_ink before))) ⊎ FollowsBlank before f)
       → column before ≡ margin document f.part
 
@@ -269,7 +262,7 @@ is_light_mark event = is_light event
 abbrev pub WrapsOnlyIfNeeded : ℕ → List Stretch → Type 0
 WrapsOnlyIfNeeded width stretches =
     (before between : List Stretch) (e f : Place) → AreApart stretches before e between f
-    → IsOrdinary (chunk_at e) → IsOrdinary (chunk_at f)
+    → IsTrue (is_ordinary (chunk_at e)) → IsTrue (is_ordinary (chunk_at f))
     → IsTrue (list_all is_light (events_of between)) ⊎ IsTrue (list_all is_light_mark (events_of between))
     → IsTrue (list_any is_newline between)
     → width < column before + columns e.bytes + sum_by event_columns (events_of between) + columns f.bytes
@@ -328,8 +321,7 @@ leads_to_place _ = false
 -- line ends in added blanks.
 pub record PadsToMargin (document : List Part) (stretches : List Stretch) : Type 0 where
   pub up_to_margin : (before after : List Stretch) (f : Place) → stretches ≡ before ++ Placed f ∷ after
-      → 0 < padding before
-      → (column before ≡ margin document f.part)
+      → 0 < padding before → (column before ≡ margin document f.part)
       ⊎ ((padding before ≡ 2) × IsTrue (list_any opens_body (events_of (after_last is_placed before))))
   pub before_place : (before after : List Stretch) → stretches ≡ before ++ Gap byte.blank ∷ after
       → IsTrue (leads_to_place after)
@@ -356,8 +348,7 @@ abbrev pub BreaksForRoom : List Part → ℕ → List Stretch → Type 0
 BreaksForRoom document width stretches =
     (before between : List Stretch) (e f : Place) → AreApart stretches before e between f
     → IsTrue (not (list_any is_inked_stretch between)) → IsTrue (not (list_any asks_newline (events_of between)))
-    → IsTrue (list_any is_newline between)
-    → width
+    → IsTrue (list_any is_newline between) → width
     < column before + e.weight + sum_by room_of (events_of between) + columns f.bytes
     + (if e.part == f.part then 0 else greatest_margin document)
 

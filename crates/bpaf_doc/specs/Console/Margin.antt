@@ -1,10 +1,6 @@
 -- The margin at each place of a document, by counting its marks.
-use Rattle.std.specs.Prelude.{ℕ, ◌+◌, Bool, true, false, ◌&&◌, ◌||◌, ◌==◌, List, [], ◌∷◌, map, filter, take, drop, max, fold, sum_by, nat_le, if◌then◌else◌}
-use Rattle.std.specs.List.{list_any, position_or_len, before_first, after_last}
+use Rattle.bpaf_doc.specs.Words.{ℕ, ◌+◌, Bool, true, false, ◌&&◌, ◌||◌, ◌==◌, List, [], ◌∷◌, map, filter, take, drop, max, fold, sum_by, nat_le, if◌then◌else◌, list_any, position_or_len, before_first, after_last, Part, Text, Start, End, columns, numbered, stays_open}
 use Rattle.bpaf_doc.specs.declared.buffer.Block.TheVariants as blocks
-use Rattle.bpaf_doc.specs.Buffer.Parts.{Part, Text, Start, End}
-use Rattle.bpaf_doc.specs.Splitter.Chunks.{columns}
-use Rattle.bpaf_doc.specs.Shown.{numbered, stays_open}
 
 -- the greatest of some numbers, or 0
 abbrev pub greatest : List ℕ → ℕ
@@ -58,8 +54,7 @@ is_term_end _ = false
 -- the columns of a text
 abbrev pub text_columns : Part → ℕ
 text_columns (Text bytes style) = columns bytes
-text_columns (Start b) = 0
-text_columns (End b) = 0
+text_columns _ = 0
 
 -- The length at an ItemTerm end after these parts: the columns of the texts between the last ItemTerm start and the
 -- first ItemTerm end after it, or 0 without such a start.

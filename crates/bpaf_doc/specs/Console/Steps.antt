@@ -1,5 +1,3 @@
 -- What leads from the code to a console page and its promise. This is internal.
-pub mod Hiding
 pub mod Page
-pub mod Pairs
 pub mod Text

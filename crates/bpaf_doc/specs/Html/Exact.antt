@@ -1,34 +1,20 @@
 -- An HTML page as one function of the document, by the rules of docs/html.md: what each fragment writes depends on the
 -- text and the fragments before it. `render_html` returns exactly this text. The laws of `Html` are theorems about it
 -- (proofs/lemmas/Html/Exact, proofs/lemmas/Html/Meets).
-use Rattle.std.specs.Prelude.{ℕ, zero, suc, Bool, true, false, ◌||◌, List, [], ◌∷◌, ◌++◌, Option, Some, None, reverse, flat_map, if◌then◌else◌, codes, nat_eq}
-use Rattle.std.specs.List.{ends_with}
-use Rattle.bpaf_doc.specs.declared.buffer.Style.{Style}
-use Rattle.bpaf_doc.specs.declared.buffer.Style.TheVariants as styles
-use Rattle.bpaf_doc.specs.declared.buffer.Block.{Block}
+use Rattle.bpaf_doc.specs.Words.{ℕ, zero, suc, Bool, true, false, ◌||◌, List, [], ◌∷◌, ◌++◌, Option, Some, None, reverse, flat_map, if◌then◌else◌, codes, nat_eq, ends_with, Style, Block, Part, Raw}
 use Rattle.bpaf_doc.specs.declared.buffer.Block.TheVariants as blocks
-use Rattle.bpaf_doc.specs.Buffer.Parts.{Part}
-use Rattle.bpaf_doc.specs.Splitter.Chunks.{Chunk, Raw, Paragraph, LineBreak}
 use Rattle.bpaf_doc.specs.Html.Fragments.{Fragment, TextStart, Shown, TextEnd, Hidden, Start, End, shown_fragments}
-use Rattle.bpaf_doc.specs.Html.Page.{escaped_character, is_definition_list, style_sheet}
+use Rattle.bpaf_doc.specs.Html.Page.{opening_tag, closing_tag, style_elements, block_elements, escaped_character, is_definition_list, style_sheet}
 
 -- ---- styles
 
 -- before the chunks of a text of this style
 abbrev pub opening_tags : Style → List ℕ
-opening_tags styles.Text = []
-opening_tags styles.Emphasis = codes "<b>"
-opening_tags styles.Literal = codes "<tt><b>"
-opening_tags styles.Metavar = codes "<tt><i>"
-opening_tags styles.Invalid = codes "<b>"
+opening_tags style = flat_map opening_tag (style_elements style)
 
 -- and after them
 abbrev pub closing_tags : Style → List ℕ
-closing_tags styles.Text = []
-closing_tags styles.Emphasis = codes "</b>"
-closing_tags styles.Literal = codes "</b></tt>"
-closing_tags styles.Metavar = codes "</i></tt>"
-closing_tags styles.Invalid = codes "</b>"
+closing_tags style = flat_map closing_tag (reverse (style_elements style))
 
 -- ---- blocks
 
@@ -36,14 +22,7 @@ closing_tags styles.Invalid = codes "</b>"
 abbrev pub start_tag : Block → Bool → List ℕ
 start_tag blocks.Header _ = codes "# "
 start_tag blocks.Section2 _ = codes "<div>\n"
-start_tag blocks.Section3 _ = codes "<div style='padding-left: 0.5em'>"
-start_tag blocks.Section4 _ = codes "<div style='padding-left: 0.5em'>"
-start_tag blocks.ItemTerm _ = codes "<dt>"
-start_tag blocks.ItemBody true = codes "<dd>"
-start_tag blocks.ItemBody false = codes "<li>"
-start_tag blocks.DefinitionList _ = codes "<dl>"
-start_tag blocks.Block _ = codes "<p>"
-start_tag _ _ = []
+start_tag b in_list = flat_map opening_tag (block_elements in_list b)
 
 -- the tag at its end
 abbrev pub end_tag : Block → Bool → List ℕ
@@ -98,16 +77,11 @@ header_break text b = if is_header b then (if is_at_break text then [] else brea
 
 -- ---- the page
 
--- what a chunk of a shown text writes
-abbrev pub chunk_html : Chunk → List ℕ
-chunk_html (Raw bytes weight) = flat_map escaped_character bytes
-chunk_html Paragraph = break_text
-chunk_html LineBreak = break_text
-
 -- What a fragment writes, by the text and the fragments before it. An end closes a start before its own tag is chosen.
 abbrev pub fragment_html : List ℕ → List Fragment → Fragment → List ℕ
 fragment_html text before (TextStart style) = opening_tags style
-fragment_html text before (Shown style chunk) = chunk_html chunk
+fragment_html text before (Shown style (Raw bytes weight)) = flat_map escaped_character bytes
+fragment_html text before (Shown style _) = break_text
 fragment_html text before (TextEnd style) = closing_tags style
 fragment_html text before Hidden = []
 fragment_html text before (Start b) = header_break text b ++ start_tag b (is_directly_in_list before)

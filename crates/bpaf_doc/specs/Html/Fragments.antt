@@ -1,13 +1,7 @@
 -- What HTML and markdown show of a document, in order: each shown text with its chunks, each hidden text, and each
 -- mark. In brief the last chunk of a console text may be the Paragraph that hides what follows; HTML and markdown leave
 -- that Paragraph out.
-use Rattle.std.specs.Prelude.{Bool, not, ◌&&◌, List, [], ◌∷◌, ◌++◌, map, take, false, flat_map, if◌then◌else◌, ℕ}
-use Rattle.std.specs.List.{before_first}
-use Rattle.bpaf_doc.specs.declared.buffer.Style.{Style}
-use Rattle.bpaf_doc.specs.declared.buffer.Block.{Block}
-use Rattle.bpaf_doc.specs.Buffer.Parts.{Part, Text, Start as PartStart, End as PartEnd}
-use Rattle.bpaf_doc.specs.Splitter.Chunks.{Chunk, is_paragraph}
-use Rattle.bpaf_doc.specs.Shown.{numbered, is_hidden, shown_chunks}
+use Rattle.bpaf_doc.specs.Words.{Bool, not, ◌&&◌, List, [], ◌∷◌, ◌++◌, map, take, false, flat_map, if◌then◌else◌, before_first, Style, Block, Part, Text, Start as PartStart, End as PartEnd, Chunk, is_paragraph, numbered, is_hidden, shown_chunks}
 
 -- the start of a shown text, a chunk of it, its end, a hidden text, or a mark
 pub data Fragment : Type 0 where
@@ -23,16 +17,15 @@ abbrev pub shows : (Chunk → Bool) → Fragment → Bool
 shows passes (Shown style chunk) = passes chunk
 shows passes _ = false
 
--- the chunks that are shown of a text after these parts, in brief without a Paragraph
-abbrev pub chunks_without_break : Bool → List Part → List ℕ → List Chunk
-chunks_without_break full before bytes =
-    if full then shown_chunks full before bytes else before_first is_paragraph (shown_chunks full before bytes)
+-- in brief without the Paragraph at the end
+abbrev pub visible : Bool → List Chunk → List Chunk
+visible full chunks = if full then chunks else before_first is_paragraph chunks
 
 -- the fragments of a part after these parts
 abbrev pub part_fragments : Bool → List Part → Part → List Fragment
 part_fragments full before (Text bytes style) =
     if not full && is_hidden before then Hidden ∷ []
-    else TextStart style ∷ (map (Shown style) (chunks_without_break full before bytes) ++ TextEnd style ∷ [])
+    else TextStart style ∷ (map (Shown style) (visible full (shown_chunks full before bytes)) ++ TextEnd style ∷ [])
 part_fragments full before (PartStart b) = Start b ∷ []
 part_fragments full before (PartEnd b) = End b ∷ []
 

@@ -1,14 +1,10 @@
 -- What an HTML answer promises: it can be cut into tags, newlines and the fragments of the document, in the document's
 -- order.
-use Rattle.std.specs.Prelude.{◌≡◌, ℕ, ◌==◌, Bool, true, false, not, ◌&&◌, ◌||◌, List, [], ◌∷◌, ◌++◌, map, reverse, filter, flat_map, if◌then◌else◌, IsTrue, codes}
-use Rattle.std.specs.List.{list_any, AllPass}
+use Rattle.bpaf_doc.specs.Words.{◌≡◌, ℕ, ◌==◌, Bool, true, false, not, ◌&&◌, ◌||◌, List, [], ◌∷◌, ◌++◌, map, reverse, filter, flat_map, if◌then◌else◌, IsTrue, codes, list_any, AllPass, Style, Block, Part, Raw, Paragraph, LineBreak, is_inked, is_raw, is_line_byte}
 use Rattle.bpaf_roff.specs.Bytes as byte
-use Rattle.bpaf_doc.specs.declared.buffer.Style.{Style}
 use Rattle.bpaf_doc.specs.declared.buffer.Style.TheVariants.{Text, Emphasis, Literal, Metavar, Invalid}
-use Rattle.bpaf_doc.specs.declared.buffer.Block.{Block}
 use Rattle.bpaf_doc.specs.declared.buffer.Block.TheVariants.{Header, Section2, Section3, Section4, ItemTerm, ItemBody, DefinitionList, Block as Plain}
-use Rattle.bpaf_doc.specs.Splitter.Chunks.{Raw, Paragraph, LineBreak, is_inked, is_raw, is_line_byte}
-use Rattle.bpaf_doc.specs.Buffer.Parts.{Part}
+use Rattle.bpaf_doc.specs.declared.html.Styles.{Styles}
 use Rattle.bpaf_doc.specs.Html.Fragments.{Fragment, Shown, Start, End, shows, shown_fragments}
 use Rattle.bpaf_doc.specs.Snippets.{Snippet, Put, Of, fragments_in, is_mark_or_fragment, styled_by, Touch}
 
@@ -133,6 +129,14 @@ abbrev pub is_break : HtmlSnippet → Bool
 is_break (Put Break) = true
 is_break _ = false
 
+-- what a style turns on
+abbrev pub styles_of : Style → Styles
+styles_of Text = record { mono = false; bold = false; italic = false }
+styles_of Emphasis = record { mono = false; bold = true; italic = false }
+styles_of Literal = record { mono = true; bold = true; italic = false }
+styles_of Metavar = record { mono = true; bold = false; italic = true }
+styles_of Invalid = record { mono = false; bold = true; italic = false }
+
 -- the elements around a text of a style, from the outside in
 abbrev pub style_elements : Style → List Element
 style_elements Text = []
@@ -192,9 +196,7 @@ pub data HasBlockTags : Bool → List Fragment → List HtmlSnippet → Type 0 w
   fragment : {in_list : Bool} {fragments : List Fragment} {snippets : List HtmlSnippet} (p : Fragment)
       → is_mark p ≡ false → fragments ≡ p ∷ [] → snippets ≡ Of p ∷ [] → HasBlockTags in_list fragments snippets
   enclosed : {in_list : Bool} {fragments : List Fragment} {snippets : List HtmlSnippet} (b : Block)
-      (inner : List Fragment) (held : List HtmlSnippet)
-      → fragments ≡ Start b ∷ (inner ++ End b ∷ [])
-      → snippets
+      (inner : List Fragment) (held : List HtmlSnippet) → fragments ≡ Start b ∷ (inner ++ End b ∷ []) → snippets
       ≡ Of (Start b) ∷
       (open_each (block_elements in_list b) ++ held ++ close_each (block_elements in_list b) ++ Of (End b) ∷ [])
       → HasBlockTags (is_definition_list b) inner held → HasBlockTags in_list fragments snippets

@@ -1,4 +1,3 @@
 -- What leads from the code to fragments and pages, in HTML and in markdown. This is internal.
 pub mod View
-pub mod Walk
 pub mod Page

@@ -1,16 +1,7 @@
 -- The events of a document as a manual page. What a part gives depends on the marks before it.
-use Rattle.std.specs.Prelude.{ℕ, Bool, true, false, List, [], ◌∷◌, ◌++◌, Option, Some, map, reverse, find, flat_map, codes, if◌then◌else◌}
-use Rattle.std.specs.List.{after_last}
-use Rattle.std.specs.Str.{str_to_ascii_uppercase}
-use Rattle.bpaf_roff.specs.Escaping.{newline_as_blank}
-use Rattle.bpaf_roff.specs.Roff.{argument_word}
-use Rattle.bpaf_roff.specs.declared.roff.Font.{Font}
-use Rattle.bpaf_roff.specs.declared.roff.Font.TheVariants.{Roman, Bold, Italic}
-use Rattle.bpaf_doc.specs.Buffer.Parts.{Part, Text, Start, End}
+use Rattle.bpaf_doc.specs.Words.{ℕ, Bool, true, false, List, [], ◌∷◌, ◌++◌, Option, Some, map, reverse, find, flat_map, codes, if◌then◌else◌, after_last, str_to_ascii_uppercase, Style, Block, Part, Text, Start, End, newline_as_blank, argument_word, Font, None, Roman, Bold, Italic}
 use Rattle.bpaf_doc.specs.Manpage.Reader.{Event, Control, Span, LineEnd}
-use Rattle.bpaf_doc.specs.declared.buffer.Style.{Style}
 use Rattle.bpaf_doc.specs.declared.buffer.Style.TheVariants as style
-use Rattle.bpaf_doc.specs.declared.buffer.Block.{Block}
 use Rattle.bpaf_doc.specs.declared.buffer.Block.TheVariants as block
 
 -- each part with the parts before it
@@ -56,8 +47,7 @@ is_term_mark _ = false
 -- the text of a place, if it is one and the last section mark before it is a start
 abbrev pub captured_text : List Part × Part → List ℕ
 captured_text (before, Text bytes how) = if last_is_start is_section_mark before then bytes else []
-captured_text (before, Start b) = []
-captured_text (before, End b) = []
+captured_text _ = []
 
 -- a text as one word of a control: newlines are blanks, and an empty text is two quotes
 abbrev pub word_of : List ℕ → List ℕ
@@ -76,10 +66,6 @@ pub data Step : Type 0 where
   Gives : Event → Step
   Stop : Step
 
--- a control as a step
-abbrev pub control_step : List ℕ → List (List ℕ) → List Step
-control_step name words = Gives (Control name words) ∷ []
-
 -- the font of a style
 abbrev pub font_of : Style → Font
 font_of style.Text = Roman
@@ -88,40 +74,51 @@ font_of style.Literal = Bold
 font_of style.Metavar = Italic
 font_of style.Invalid = Italic
 
--- what a start gives
-abbrev pub start_steps : Block → List Step
-start_steps block.ItemTerm = control_step (codes "TP") []
-start_steps block.Block = control_step (codes "PP") []
-start_steps block.Meta = control_step (codes "nf") []
-start_steps _ = []
+-- the control that a start gives
+abbrev pub start_name : Block → Option (List ℕ)
+start_name block.ItemTerm = Some (codes "TP")
+start_name block.Block = Some (codes "PP")
+start_name block.Meta = Some (codes "nf")
+start_name _ = None
 
--- what an end gives, with the heading of what is before
-abbrev pub end_steps : List Part → Block → List Step
-end_steps before block.Header = control_step (codes "SH") (heading before ∷ [])
-end_steps before block.Section2 = control_step (codes "SS") (heading before ∷ [])
-end_steps before block.Section3 = control_step (codes "SS") (heading before ∷ [])
-end_steps before block.Section4 = control_step (codes "SS") (heading before ∷ [])
-end_steps before block.ItemTerm = Stop ∷ []
-end_steps before block.ItemBody = control_step (codes "PP") []
-end_steps before block.Meta = control_step (codes "fi") []
-end_steps before _ = []
+-- the control that the end of a section gives, with the heading of what is before
+abbrev pub heading_name : Block → Option (List ℕ)
+heading_name block.Header = Some (codes "SH")
+heading_name block.Section2 = Some (codes "SS")
+heading_name block.Section3 = Some (codes "SS")
+heading_name block.Section4 = Some (codes "SS")
+heading_name _ = None
+
+-- the control that any other end gives
+abbrev pub end_name : Block → Option (List ℕ)
+end_name block.ItemBody = Some (codes "PP")
+end_name block.Meta = Some (codes "fi")
+end_name _ = None
 
 -- an emphasized text is under a heading without words
-abbrev pub emphasis_steps : Style → List Step
-emphasis_steps style.Emphasis = control_step (codes "SS") []
-emphasis_steps _ = []
+abbrev pub style_name : Style → Option (List ℕ)
+style_name style.Emphasis = Some (codes "SS")
+style_name _ = None
 
--- the text of a span: in a term newlines are blanks
-abbrev pub span_text : List Part → List ℕ → List ℕ
-span_text before bytes = if last_is_start is_term_mark before then map newline_as_blank bytes else bytes
+-- a control without words, if there is one
+abbrev pub control_steps : Option (List ℕ) → List Step
+control_steps None = []
+control_steps (Some name) = Gives (Control name []) ∷ []
 
--- what a part gives: a captured text nothing, any other text a span
+-- what an end gives, by the control of its heading: a term stops the line
+abbrev pub end_steps : List Part → Block → Option (List ℕ) → List Step
+end_steps before b (Some name) = Gives (Control name (heading before ∷ [])) ∷ []
+end_steps before block.ItemTerm None = Stop ∷ []
+end_steps before b None = control_steps (end_name b)
+
+-- what a part gives: a captured text nothing, any other text a span, in a term with blanks for its newlines
 abbrev pub place_steps : List Part × Part → List Step
 place_steps (before, Text bytes how) =
     if last_is_start is_section_mark before then []
-    else emphasis_steps how ++ Gives (Span (font_of how) (span_text before bytes)) ∷ []
-place_steps (before, Start b) = start_steps b
-place_steps (before, End b) = end_steps before b
+    else control_steps (style_name how)
+    ++ Gives (Span (font_of how) (if last_is_start is_term_mark before then map newline_as_blank bytes else bytes)) ∷ []
+place_steps (before, Start b) = control_steps (start_name b)
+place_steps (before, End b) = end_steps before b (heading_name b)
 
 -- what the parts give, in order
 abbrev pub page_steps : List Part → List Step

@@ -2,49 +2,25 @@
 -- on the marks before it. `render_roff` returns exactly the rendering of the page with these pieces. That a reader of
 -- roff reads them as the document's events, where the page takes a document, is a theorem about them
 -- (proofs/lemmas/Manpage/Drafts, proofs/lemmas/Manpage/PageRead).
-use Rattle.std.specs.Prelude.{ℕ, Bool, List, [], ◌∷◌, ◌++◌, Option, Some, None, reverse, find, flat_map, codes, if◌then◌else◌}
-use Rattle.std.specs.Str.{str_to_ascii_uppercase}
-use Rattle.bpaf_roff.specs.Pieces.{Piece}
-use Rattle.bpaf_roff.specs.Roff.{Script, control_pieces, linebreak_pieces, text_pieces, rendering}
-use Rattle.bpaf_roff.specs.declared.escape.Apostrophes.TheVariants.{Handle}
-use Rattle.bpaf_roff.specs.declared.escape.Escape.{Escape}
-use Rattle.bpaf_doc.specs.Buffer.Parts.{Part, Text, Start, End}
-use Rattle.bpaf_doc.specs.Manpage.Events.{places, is_start, last_is_start, is_section_mark, is_term_mark, captured_texts, font_of}
-use Rattle.bpaf_doc.specs.declared.buffer.Style.{Style}
-use Rattle.bpaf_doc.specs.declared.buffer.Style.TheVariants as style
-use Rattle.bpaf_doc.specs.declared.buffer.Block.{Block}
+use Rattle.bpaf_doc.specs.Words.{ℕ, Bool, List, [], ◌∷◌, ◌++◌, Option, Some, None, reverse, find, flat_map, if◌then◌else◌, str_to_ascii_uppercase, Block, Part, Text, Start, End, Piece, Script, control_pieces, linebreak_pieces, text_pieces, rendering, Handle, Escape}
+use Rattle.bpaf_doc.specs.Manpage.Events.{places, is_start, last_is_start, is_section_mark, is_term_mark, captured_texts, font_of, start_name, heading_name, end_name, style_name}
 use Rattle.bpaf_doc.specs.declared.buffer.Block.TheVariants as block
 
--- a control without arguments
-abbrev pub control : List ℕ → List (Piece Escape)
-control name = control_pieces name []
+-- a control without arguments, if there is one
+abbrev pub name_pieces : Option (List ℕ) → List (Piece Escape)
+name_pieces None = []
+name_pieces (Some name) = control_pieces name []
 
--- at the start of a block
-abbrev pub start_pieces : Block → List (Piece Escape)
-start_pieces block.ItemTerm = control (codes "TP")
-start_pieces block.Block = control (codes "PP")
-start_pieces block.Meta = control (codes "nf")
-start_pieces _ = []
+-- at the end of a block that has no heading: a term ends its line
+abbrev pub closing_pieces : Block → List (Piece Escape)
+closing_pieces block.ItemTerm = linebreak_pieces
+closing_pieces b = name_pieces (end_name b)
 
--- the captured texts since the last section end, joined and in ASCII capitals, as the one argument
-abbrev pub heading_pieces : List ℕ → List Part → List (Piece Escape)
-heading_pieces name before = control_pieces name (str_to_ascii_uppercase (captured_texts before) ∷ [])
-
--- at the end of a block
-abbrev pub end_pieces : List Part → Block → List (Piece Escape)
-end_pieces before block.Header = heading_pieces (codes "SH") before
-end_pieces before block.Section2 = heading_pieces (codes "SS") before
-end_pieces before block.Section3 = heading_pieces (codes "SS") before
-end_pieces before block.Section4 = heading_pieces (codes "SS") before
-end_pieces before block.ItemTerm = linebreak_pieces
-end_pieces before block.ItemBody = control (codes "PP")
-end_pieces before block.Meta = control (codes "fi")
-end_pieces before _ = []
-
--- before an Emphasis text
-abbrev pub style_pieces : Style → List (Piece Escape)
-style_pieces style.Emphasis = control (codes "SS")
-style_pieces _ = []
+-- at the end of a block, by the control of its heading: the captured texts since the last section end, joined and in
+-- ASCII capitals, are its one argument
+abbrev pub end_pieces : List Part → Block → Option (List ℕ) → List (Piece Escape)
+end_pieces before b (Some name) = control_pieces name (str_to_ascii_uppercase (captured_texts before) ∷ [])
+end_pieces before b None = closing_pieces b
 
 -- what the last mark says, or what the page says where there was none
 abbrev pub start_or : Bool → Option Part → Bool
@@ -56,17 +32,14 @@ start_or by_page (Some mark) = is_start (Some mark)
 abbrev pub strips_newlines : Bool → List Part → Bool
 strips_newlines by_page before = start_or by_page (find is_term_mark (reverse before))
 
--- a text is captured where the last section mark before it is a start, otherwise written in the font of its style
-abbrev pub text_part_pieces : Bool → List Part → List ℕ → Style → List (Piece Escape)
-text_part_pieces by_page before bytes how =
-    if last_is_start is_section_mark before then []
-    else style_pieces how ++ text_pieces (strips_newlines by_page before) ((font_of how, bytes) ∷ [])
-
--- the pieces that a part adds, by the parts before it
+-- The pieces that a part adds, by the parts before it. A text is captured where the last section mark before it is a
+-- start, otherwise written in the font of its style.
 abbrev pub part_pieces : Bool → List Part × Part → List (Piece Escape)
-part_pieces by_page (before, Text bytes how) = text_part_pieces by_page before bytes how
-part_pieces by_page (before, Start b) = start_pieces b
-part_pieces by_page (before, End b) = end_pieces before b
+part_pieces by_page (before, Text bytes how) =
+    if last_is_start is_section_mark before then []
+    else name_pieces (style_name how) ++ text_pieces (strips_newlines by_page before) ((font_of how, bytes) ∷ [])
+part_pieces by_page (before, Start b) = name_pieces (start_name b)
+part_pieces by_page (before, End b) = end_pieces before b (heading_name b)
 
 -- the pieces of a document on a page that strips newlines or keeps them
 abbrev pub document_pieces : Bool → List Part → List (Piece Escape)

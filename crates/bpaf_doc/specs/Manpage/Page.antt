@@ -1,9 +1,5 @@
 -- What a rendered page is: a front, and a body that the reader reads, whole, as the page's events.
-use Rattle.std.specs.Prelude.{◌≡◌, ℕ, true, false, List, [], ◌∷◌, ◌++◌, Option, unwrap_or, codes, map}
-use Rattle.bpaf_roff.specs.Escaping.{is_line_start, escaped}
-use Rattle.bpaf_roff.specs.Roff.{Script, no_script, with_pieces, control_pieces, preamble, rendering}
-use Rattle.bpaf_roff.specs.declared.escape.Apostrophes.TheVariants.{Handle}
-use Rattle.bpaf_doc.specs.Buffer.Parts.{Part}
+use Rattle.bpaf_doc.specs.Words.{◌≡◌, ℕ, true, false, List, [], ◌∷◌, ◌++◌, Option, unwrap_or, codes, map, Part, is_line_start, escaped, Script, no_script, with_pieces, control_pieces, preamble, rendering, Handle}
 use Rattle.bpaf_doc.specs.Manpage.Reader.{Event, Control, Reads, AtLineStart}
 use Rattle.bpaf_doc.specs.Manpage.Events.{page_events, word_of}
 

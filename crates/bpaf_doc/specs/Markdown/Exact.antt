@@ -1,35 +1,21 @@
 -- A markdown text as one function of the document, by the rules of docs/html.md: what each fragment writes depends on
 -- the text and the fragments before it, and on the fragments after it. `render_markdown` returns exactly this text. The
 -- laws of `Markdown` are theorems about it (proofs/lemmas/Markdown/Exact, proofs/lemmas/Markdown/Meets).
-use Rattle.std.specs.Prelude.{ℕ, ◌==◌, Bool, false, ◌||◌, List, [], ◌∷◌, ◌++◌, reverse, filter, flat_map, if◌then◌else◌, codes, nat_eq}
-use Rattle.std.specs.List.{ends_with, list_any}
-use Rattle.bpaf_doc.specs.declared.buffer.Style.{Style}
-use Rattle.bpaf_doc.specs.declared.buffer.Style.TheVariants as styles
-use Rattle.bpaf_doc.specs.declared.buffer.Block.{Block}
+use Rattle.bpaf_doc.specs.Words.{ℕ, ◌==◌, Bool, false, ◌||◌, List, [], ◌∷◌, ◌++◌, reverse, filter, flat_map, if◌then◌else◌, codes, nat_eq, ends_with, list_any, Style, Block, Part, Chunk, Raw, Paragraph, LineBreak, code_weight, fence_weight, is_code_line, is_ordinary}
 use Rattle.bpaf_doc.specs.declared.buffer.Block.TheVariants as blocks
-use Rattle.bpaf_doc.specs.Buffer.Parts.{Part}
-use Rattle.bpaf_doc.specs.Splitter.Chunks.{Chunk, Raw, Paragraph, LineBreak, code_weight, fence_weight, is_code_line, is_ordinary}
 use Rattle.bpaf_doc.specs.Html.Fragments.{Fragment, TextStart, Shown, TextEnd, Hidden, Start, End, shows, shown_fragments}
-use Rattle.bpaf_doc.specs.Markdown.Page.{escaped_character, is_header_start, is_in_list, is_in_mono, is_after_empty_item, is_text_end, begins_with_term_end}
+use Rattle.bpaf_doc.specs.Markdown.Page.{mark_text, style_marks, escaped_character, is_header_start, is_in_list, is_in_mono, is_after_empty_item, is_text_end, begins_with_term_end}
 use Rattle.bpaf_doc.specs.Html.Exact.{is_empty}
 
 -- ---- styles
 
 -- before the chunks of a text of this style
 abbrev pub opening_marks : Style → List ℕ
-opening_marks styles.Text = []
-opening_marks styles.Emphasis = codes "**"
-opening_marks styles.Literal = codes "**`"
-opening_marks styles.Metavar = codes "_`"
-opening_marks styles.Invalid = codes "**"
+opening_marks style = flat_map mark_text (style_marks style)
 
 -- and after them
 abbrev pub closing_marks : Style → List ℕ
-closing_marks styles.Text = []
-closing_marks styles.Emphasis = codes "**"
-closing_marks styles.Literal = codes "`**"
-closing_marks styles.Metavar = codes "`_"
-closing_marks styles.Invalid = codes "**"
+closing_marks style = flat_map mark_text (reverse (style_marks style))
 
 -- ---- lines
 
@@ -71,26 +57,19 @@ is_in_code before = begins_with_code_line (filter decides_code (reverse before))
 abbrev pub opening_fence : List Fragment → List ℕ
 opening_fence before = if is_in_code before then [] else codes "\n\n  ```text\n"
 
--- an ordinary Raw closes an open one
-abbrev pub closing_fence : List Fragment → List ℕ
-closing_fence before = if is_in_code before then codes "\n  ```\n" else []
-
--- so does the end of a text
-abbrev pub last_fence : List Fragment → List ℕ
-last_fence before = if is_in_code before then codes "  ```\n" else []
+-- an ordinary Raw and the end of a text close an open one by this fence
+abbrev pub closing_fence : List Fragment → List ℕ → List ℕ
+closing_fence before fence = if is_in_code before then fence else []
 
 -- ---- chunks
 
--- an ordinary Raw, inside Mono with backslashes
-abbrev pub words_markdown : List Fragment → List ℕ → List ℕ
-words_markdown before bytes = if is_in_mono before then flat_map escaped_character bytes else bytes
-
--- a Raw, by its weight: a line of a fence, a code line, or an ordinary one
+-- a Raw, by its weight: a line of a fence, a code line, or an ordinary one, inside Mono with backslashes
 abbrev pub raw_markdown : List ℕ → List Fragment → List ℕ → ℕ → List ℕ
 raw_markdown text before bytes weight =
     if weight == fence_weight then new_line text ++ indented_line bytes
     else (if weight == code_weight then opening_fence before ++ indented_line bytes
-    else (closing_fence before ++ words_markdown before bytes))
+    else (closing_fence before (codes "\n  ```\n")
+    ++ (if is_in_mono before then flat_map escaped_character bytes else bytes)))
 
 -- what a chunk of a shown text writes; a Paragraph in a definition list is indented
 abbrev pub chunk_markdown : List ℕ → List Fragment → Chunk → List ℕ
@@ -99,10 +78,6 @@ chunk_markdown text before Paragraph = codes "\n\n" ++ (if is_in_list before the
 chunk_markdown text before LineBreak = codes "\n"
 
 -- ---- blocks
-
--- the first Header of a document has a greater heading than the others
-abbrev pub heading_mark : List Fragment → List ℕ
-heading_mark before = if list_any is_header_start before then codes "## " else codes "# "
 
 -- the dash of an item, or blanks where its term ends at once
 abbrev pub item_mark : List Fragment → List ℕ
@@ -113,9 +88,10 @@ abbrev pub body_mark : List Fragment → List ℕ
 body_mark before =
     if is_in_list before then (if is_after_empty_item before then codes " " else codes " &mdash; ") else []
 
--- what the start of a block writes
+-- what the start of a block writes: the first Header of a document has a greater heading than the others
 abbrev pub start_markdown : List ℕ → List Fragment → Block → List Fragment → List ℕ
-start_markdown text before blocks.Header after = blank_line text ++ heading_mark before
+start_markdown text before blocks.Header after =
+    blank_line text ++ (if list_any is_header_start before then codes "## " else codes "# ")
 start_markdown text before blocks.Section3 after = codes "### "
 start_markdown text before blocks.Section4 after = new_line text ++ item_mark after
 start_markdown text before blocks.ItemTerm after = new_line text ++ item_mark after
@@ -141,7 +117,7 @@ end_markdown before _ = []
 abbrev pub fragment_markdown : List ℕ → List Fragment → Fragment → List Fragment → List ℕ
 fragment_markdown text before (TextStart style) after = opening_marks style
 fragment_markdown text before (Shown style chunk) after = chunk_markdown text before chunk
-fragment_markdown text before (TextEnd style) after = last_fence before ++ closing_marks style
+fragment_markdown text before (TextEnd style) after = closing_fence before (codes "  ```\n") ++ closing_marks style
 fragment_markdown text before Hidden after = []
 fragment_markdown text before (Start b) after = start_markdown text before b after
 fragment_markdown text before (End b) after = end_markdown before b

@@ -1,12 +1,8 @@
 -- What a markdown answer promises: it can be cut into marks and the fragments of the document, in the document's order.
-use Rattle.std.specs.Prelude.{◌≡◌, ℕ, ◌<◌, ◌==◌, Bool, true, false, not, ◌&&◌, ◌||◌, List, [], ◌∷◌, ◌++◌, map, reverse, filter, flat_map, count_by, if◌then◌else◌, IsTrue, nat_lt, codes}
-use Rattle.std.specs.List.{list_any, AllPass, after_last}
+use Rattle.bpaf_doc.specs.Words.{◌≡◌, ℕ, ◌<◌, ◌==◌, Bool, true, false, not, ◌&&◌, ◌||◌, List, [], ◌∷◌, ◌++◌, map, reverse, filter, flat_map, count_by, if◌then◌else◌, IsTrue, nat_lt, codes, list_any, AllPass, after_last, Style, Part, Raw, starts, is_raw, is_ordinary, is_code_line, is_whole_line, is_paragraph, is_line_break}
 use Rattle.bpaf_roff.specs.Bytes as byte
-use Rattle.bpaf_doc.specs.declared.buffer.Style.{Style}
 use Rattle.bpaf_doc.specs.declared.buffer.Style.TheVariants.{Text, Emphasis, Literal, Metavar, Invalid}
 use Rattle.bpaf_doc.specs.declared.buffer.Block.TheVariants.{Header, Section3, Section4, ItemTerm, ItemBody, DefinitionList, Mono}
-use Rattle.bpaf_doc.specs.Splitter.Chunks.{Raw, starts, is_raw, is_ordinary, is_code_line, is_whole_line, is_paragraph, is_line_break}
-use Rattle.bpaf_doc.specs.Buffer.Parts.{Part}
 use Rattle.bpaf_doc.specs.Html.Fragments.{Fragment, Shown, TextEnd, Start, End, shows, shown_fragments}
 use Rattle.bpaf_doc.specs.Snippets.{Snippet, Put, Of, fragments_in, is_mark_or_fragment, styled_by, Touch}
 
@@ -161,13 +157,6 @@ abbrev pub is_fence : MarkdownSnippet → Bool
 is_fence (Put Fence) = true
 is_fence _ = false
 
--- how many fences with `text` were written, and how many without
-abbrev pub opened_fences : List MarkdownSnippet → ℕ
-opened_fences snippets = count_by is_text_fence snippets
-
-abbrev pub closed_fences : List MarkdownSnippet → ℕ
-closed_fences snippets = count_by is_fence snippets
-
 abbrev pub is_text_end : Fragment → Bool
 is_text_end (TextEnd style) = true
 is_text_end _ = false
@@ -191,12 +180,12 @@ pub record IsMarkdownOf (document : List Part) (full : Bool) (answer : List ℕ)
       (shown_fragments full document)
   -- exactly the marks of its style are around the chunks of each text
   pub styles : filter (is_mark_or_fragment is_style_mark) cut ≡ flat_map styled_snippets (shown_fragments full document)
-  -- at a code line more fences were opened than closed
+  -- at a code line more fences with `text` were written than without: more were opened than closed
   pub fenced : (before after : List MarkdownSnippet) (a : Fragment) → cut ≡ before ++ Of a ∷ after
-      → IsTrue (shows is_code_line a) → closed_fences before < opened_fences before
+      → IsTrue (shows is_code_line a) → count_by is_fence before < count_by is_text_fence before
   -- at an ordinary Raw chunk, and at the end of a text, as many were opened as closed
   pub unfenced : (before after : List MarkdownSnippet) (a : Fragment) → cut ≡ before ++ Of a ∷ after
-      → IsTrue (shows is_ordinary a || is_text_end a) → closed_fences before ≡ opened_fences before
+      → IsTrue (shows is_ordinary a || is_text_end a) → count_by is_fence before ≡ count_by is_text_fence before
   -- a code line and a line of a fence are alone on their line, after blanks
   pub lines : (before after : List MarkdownSnippet) (a : Fragment) → cut ≡ before ++ Of a ∷ after
       → IsTrue (shows is_whole_line a)
@@ -205,12 +194,10 @@ pub record IsMarkdownOf (document : List Part) (full : Bool) (answer : List ℕ)
   pub touching : Touch (shows is_ordinary) cut
   -- between Raw chunks with a Paragraph between them there are two newlines in a row
   pub paragraphs : (before between after : List MarkdownSnippet) (a b : Fragment)
-      → cut ≡ before ++ Of a ∷ (between ++ Of b ∷ after)
-      → IsTrue (shows is_raw a) → IsTrue (shows is_raw b)
+      → cut ≡ before ++ Of a ∷ (between ++ Of b ∷ after) → IsTrue (shows is_raw a) → IsTrue (shows is_raw b)
       → IsTrue (list_any (shows is_paragraph) (fragments_in between))
       → (front back : List MarkdownSnippet) × (between ≡ front ++ Put Newline ∷ Put Newline ∷ back)
   -- and with a LineBreak between them there is a newline
   pub line_breaks : (before between after : List MarkdownSnippet) (a b : Fragment)
-      → cut ≡ before ++ Of a ∷ (between ++ Of b ∷ after)
-      → IsTrue (shows is_raw a) → IsTrue (shows is_raw b)
+      → cut ≡ before ++ Of a ∷ (between ++ Of b ∷ after) → IsTrue (shows is_raw a) → IsTrue (shows is_raw b)
       → IsTrue (list_any (shows is_line_break) (fragments_in between)) → IsTrue (list_any is_newline between)

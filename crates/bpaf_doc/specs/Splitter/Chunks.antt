@@ -25,18 +25,12 @@ fence_weight = 1_000_001
 -- a Raw that is neither a code line nor a fence line, by its weight
 abbrev pub is_ordinary : Chunk → Bool
 is_ordinary (Raw bytes weight) = not (weight == code_weight) && not (weight == fence_weight)
-is_ordinary Paragraph = false
-is_ordinary LineBreak = false
-
--- the chunk is ordinary
-abbrev pub IsOrdinary : Chunk → Type 0
-IsOrdinary chunk = IsTrue (is_ordinary chunk)
+is_ordinary _ = false
 
 -- the characters of a chunk that are not White_Space
 abbrev pub chunk_ink : Chunk → List ℕ
 chunk_ink (Raw bytes weight) = ink bytes
-chunk_ink Paragraph = []
-chunk_ink LineBreak = []
+chunk_ink _ = []
 
 -- not empty
 abbrev pub has_some : List ℕ → Bool
@@ -47,39 +41,30 @@ has_some (x ∷ xs) = true
 abbrev pub is_inked : Chunk → Bool
 is_inked chunk = has_some (chunk_ink chunk)
 
--- the chunk has ink
-abbrev pub IsInked : Chunk → Type 0
-IsInked chunk = IsTrue (is_inked chunk)
-
 -- a slice of the text
 abbrev pub is_raw : Chunk → Bool
 is_raw (Raw bytes weight) = true
-is_raw Paragraph = false
-is_raw LineBreak = false
+is_raw _ = false
 
 -- a code line, by its weight
 abbrev pub is_code_line : Chunk → Bool
 is_code_line (Raw bytes weight) = weight == code_weight
-is_code_line Paragraph = false
-is_code_line LineBreak = false
+is_code_line _ = false
 
 -- a code line or a line of a fence, by its weight
 abbrev pub is_whole_line : Chunk → Bool
 is_whole_line (Raw bytes weight) = (weight == code_weight) || (weight == fence_weight)
-is_whole_line Paragraph = false
-is_whole_line LineBreak = false
+is_whole_line _ = false
 
 -- a line break
 abbrev pub is_line_break : Chunk → Bool
-is_line_break (Raw bytes weight) = false
-is_line_break Paragraph = false
 is_line_break LineBreak = true
+is_line_break _ = false
 
 -- a paragraph break
 abbrev pub is_paragraph : Chunk → Bool
-is_paragraph (Raw bytes weight) = false
 is_paragraph Paragraph = true
-is_paragraph LineBreak = false
+is_paragraph _ = false
 
 -- ---- lines and words
 
@@ -131,8 +116,7 @@ pub data Spells : Form → List Chunk → List ℕ → Type 0 where
   nothing : {form : Form} {chunks : List Chunk} {text : List ℕ} → chunks ≡ [] → text ≡ [] → Spells form chunks text
   -- a newline and four blanks, then a code line up to the next newline or the end
   code_line : {chunks : List Chunk} {text : List ℕ} (line rest : List ℕ) (others : List Chunk)
-      → chunks ≡ Raw line code_weight ∷ others
-      → text ≡ codes "\n    " ++ (line ++ rest) → IsLine line → IsLineEnd rest
+      → chunks ≡ Raw line code_weight ∷ others → text ≡ codes "\n    " ++ (line ++ rest) → IsLine line → IsLineEnd rest
       → Spells Plain others rest → Spells Plain chunks text
   -- two newlines with three backquotes after them: a fence opens
   fence : {chunks : List Chunk} {text : List ℕ} (rest : List ℕ) (others : List Chunk) → chunks ≡ Paragraph ∷ others
@@ -140,8 +124,7 @@ pub data Spells : Form → List Chunk → List ℕ → Type 0 where
       → Spells Opening others rest → Spells Plain chunks text
   -- a newline with a code line's newline and four blanks after it
   before_code : {chunks : List Chunk} {text : List ℕ} (rest : List ℕ) (others : List Chunk)
-      → chunks ≡ Paragraph ∷ others
-      → text ≡ codes "\n" ++ rest → IsTrue (starts rest (codes "\n    "))
+      → chunks ≡ Paragraph ∷ others → text ≡ codes "\n" ++ rest → IsTrue (starts rest (codes "\n    "))
       → Spells Plain others rest → Spells Plain chunks text
   -- two newlines with neither after them
   paragraph : {chunks : List Chunk} {text : List ℕ} (rest : List ℕ) (others : List Chunk) → chunks ≡ Paragraph ∷ others
@@ -157,12 +140,10 @@ pub data Spells : Form → List Chunk → List ℕ → Type 0 where
       → text ≡ codes "\n" ++ rest → ¬ IsTrue (starts rest (codes "\n")) → ¬ IsTrue (starts rest (codes " "))
       → Spells Plain others rest → Spells Plain chunks text
   blank : {chunks : List Chunk} {text : List ℕ} (rest : List ℕ) (others : List Chunk)
-      → chunks ≡ Raw (codes " ") 1 ∷ others
-      → text ≡ codes " " ++ rest
+      → chunks ≡ Raw (codes " ") 1 ∷ others → text ≡ codes " " ++ rest
       → Spells Plain others rest → Spells Plain chunks text
   word : {chunks : List Chunk} {text : List ℕ} (bytes rest : List ℕ) (others : List Chunk)
-      → chunks ≡ Raw bytes (columns bytes) ∷ others
-      → text ≡ bytes ++ rest → IsWord bytes → IsWordEnd rest
+      → chunks ≡ Raw bytes (columns bytes) ∷ others → text ≡ bytes ++ rest → IsWord bytes → IsWordEnd rest
       → Spells Plain others rest → Spells Plain chunks text
   -- the opening line of a fence, with its newline
   opening : {chunks : List Chunk} {text : List ℕ} (line rest next : List ℕ) (others : List Chunk)
@@ -178,8 +159,7 @@ pub data Spells : Form → List Chunk → List ℕ → Type 0 where
   closing : {chunks : List Chunk} {text : List ℕ} (line rest next : List ℕ) (others : List Chunk)
       → chunks ≡ Raw line fence_weight ∷ others
       → text ≡ line ++ rest → IsLine line → IsTrue (starts line (codes "```")) → ¬ IsTrue (starts rest (codes "\n\n"))
-      → IsPastNewline rest next
-      → Spells Plain others next → Spells Later chunks text
+      → IsPastNewline rest next → Spells Plain others next → Spells Later chunks text
   -- the same where two newlines follow, which both stay
   closing_paragraph : {chunks : List Chunk} {text : List ℕ} (line rest : List ℕ) (others : List Chunk)
       → chunks ≡ Raw line fence_weight ∷ others

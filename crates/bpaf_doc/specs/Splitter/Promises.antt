@@ -1,10 +1,5 @@
 -- What the chunks of a text promise.
-use Rattle.std.specs.Prelude.{◌≡◌, ℕ, ◌≤◌, Bool, ◌||◌, ◌==◌, IsTrue, ◌⊎◌, ⊤, List, [], ◌∷◌, codes, length, drop, slice_range}
-use Rattle.std.specs.List.{All, flat_map, list_all}
-use Rattle.std.specs.Str.{IsUtf8}
-use Rattle.bpaf_roff.specs.Bytes as byte
-use Rattle.bpaf_doc.specs.Splitter.Chunks.{Chunk, Raw, Paragraph, LineBreak, Plain, Spells, chunk_ink, chunks_of, IsLine}
-use Rattle.bpaf_doc.specs.Buffer.Parts.{ink}
+use Rattle.bpaf_doc.specs.Words.{◌≡◌, ℕ, ◌≤◌, Bool, ◌||◌, ◌==◌, IsTrue, ◌⊎◌, ⊤, List, [], ◌∷◌, codes, length, drop, slice_range, All, flat_map, list_all, IsUtf8, ink, Chunk, Raw, Paragraph, LineBreak, Plain, Spells, chunk_ink, chunks_of, IsLine, newline, blank}
 
 -- the text is spelled by its chunks, and by no other list
 pub record IsSpelledOnce (text : List ℕ) : Type 0 where
@@ -14,20 +9,18 @@ pub record IsSpelledOnce (text : List ℕ) : Type 0 where
 -- no newline in the chunk
 abbrev pub IsOneLine : Chunk → Type 0
 IsOneLine (Raw bytes weight) = IsLine bytes
-IsOneLine Paragraph = ⊤
-IsOneLine LineBreak = ⊤
+IsOneLine _ = ⊤
 
 -- the bytes of the chunk are UTF-8
 abbrev pub IsText : Chunk → Type 0
 IsText (Raw bytes weight) = IsUtf8 bytes
-IsText Paragraph = ⊤
-IsText LineBreak = ⊤
+IsText _ = ⊤
 
 -- ---- where the chunks stand in the text
 
 -- a newline or a blank
 abbrev pub is_gap_byte : ℕ → Bool
-is_gap_byte b = (b == byte.newline) || (b == byte.blank)
+is_gap_byte b = (b == newline) || (b == blank)
 
 -- only newlines and blanks
 abbrev pub IsGap : List ℕ → Type 0

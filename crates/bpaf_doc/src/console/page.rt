@@ -6,11 +6,12 @@ ghost use Rattle.std.specs.Int.{is_in_range};
 ghost use Rattle.std.specs.List.{list_all};
 ghost use Rattle.bpaf_doc.specs.Splitter.Chunks.{chunks_of, columns};
 ghost use Rattle.bpaf_doc.specs.Console.Exact.{backquoted, finished, indented, on_new_line, placed, request_at_end};
-ghost use Rattle.bpaf_doc.specs.Console.Exact.{request_at_start, request_met, with_blanks, wrapped};
-ghost use Rattle.bpaf_doc.specs.Console.Steps.Hiding.{hides};
+ghost use Rattle.bpaf_doc.specs.Console.Exact.{request_at_start, request_met, has_no_room, with_blanks, wrapped};
+ghost use Rattle.bpaf_doc.specs.Console.Exact.{lacks_newline, lacks_blank_line};
+ghost use Rattle.bpaf_doc.specs.Console.Steps.Text.{hides};
 ghost use Rattle.bpaf_doc.specs.Console.Steps.Page.{page_of, sheet_of, blank_sheet, on, text_put, opened, closed};
-ghost use Rattle.bpaf_doc.specs.Console.Steps.Page.{raw_put, wraps, has_no_room, room_made, lacks_newline};
-ghost use Rattle.bpaf_doc.specs.Console.Steps.Page.{lacks_blank_line, margin_pushed, margin_of};
+ghost use Rattle.bpaf_doc.specs.Console.Steps.Page.{raw_put, wraps, room_made};
+ghost use Rattle.bpaf_doc.specs.Console.Steps.Page.{margin_pushed, margin_of};
 ghost use Rattle.bpaf_doc.specs.Console.Steps.Page.{IsWithinLine, DropsBlanks, IsPastLine, code_put};
 ghost use Rattle.bpaf_doc.specs.Console.Steps.Page.{columns_of, indent_of, request_of};
 

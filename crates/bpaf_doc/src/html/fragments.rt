@@ -4,7 +4,7 @@ ghost use Rattle.bpaf_doc.specs.Html.Fragments.{Shown, shown_fragments};
 ghost use Rattle.bpaf_doc.specs.Splitter.Chunks.{Raw, code_weight, is_paragraph};
 ghost use Rattle.bpaf_doc.specs.Splitter.View.{chunk_of};
 ghost use Rattle.bpaf_doc.specs.Html.Steps.View.{fragment_of};
-ghost use Rattle.bpaf_doc.specs.Html.Steps.Walk.{is_inline};
+ghost use Rattle.bpaf_doc.specs.Shown.{is_inline};
 
 use crate::buffer::{Block, Doc, Part, Parts, Style};
 use crate::splitter::{Chunk, Splitter, split};
@@ -46,7 +46,7 @@ pub(super) struct Fragments<'a> {
 impl<'a> Model for Fragments<'a> {
     ghost use Rattle.std.specs.Prelude.{◌≡◌, ◌+◌, ◌<◌, ◌^◌, ◌++◌, List, length, true, if◌then◌else◌};
     ghost use Rattle.bpaf_doc.specs.Html.Fragments.{Fragment};
-    ghost use Rattle.bpaf_doc.specs.Html.Steps.Walk.{walk, text_rest, depth_after_text};
+    ghost use Rattle.bpaf_doc.specs.Html.Steps.View.{walk, text_rest, depth_after_text};
 
     ghost Value = { List Fragment };
 

@@ -4,12 +4,12 @@ ghost use Rattle.bpaf_doc.specs.Splitter.View.{chunk_of};
 ghost use Rattle.bpaf_doc.specs.Markdown.Page.{IsMarkdownOf};
 ghost use Rattle.bpaf_doc.specs.Markdown.Exact.{markdown_page};
 ghost use Rattle.bpaf_doc.specs.Html.Steps.View.{fragment_of, fragments_in, IsTaken};
-ghost use Rattle.bpaf_doc.specs.Markdown.Steps.Items.{is_pending, is_empty};
-ghost use Rattle.bpaf_doc.specs.Markdown.Steps.Page.{blank_text, put, with_new_line, with_blank_line, with_item};
-ghost use Rattle.bpaf_doc.specs.Markdown.Steps.Page.{opening_marks, closing_marks, with_line, open_code, close_code};
-ghost use Rattle.bpaf_doc.specs.Markdown.Steps.Page.{with_words, with_raw, with_chunk, text_ended, header_started};
-ghost use Rattle.bpaf_doc.specs.Markdown.Steps.Page.{body_started, started, ended, is_term_end, marked_after};
-ghost use Rattle.bpaf_doc.specs.Markdown.Steps.Page.{marked_after_all};
+ghost use Rattle.bpaf_doc.specs.Markdown.Steps.{is_pending, is_empty};
+ghost use Rattle.bpaf_doc.specs.Markdown.Steps.{blank_text, put, with_new_line, with_blank_line, with_item};
+ghost use Rattle.bpaf_doc.specs.Markdown.Steps.{opening_marks, closing_marks, with_line, open_code, close_code};
+ghost use Rattle.bpaf_doc.specs.Markdown.Steps.{with_words, with_raw, with_chunk, text_ended, header_started};
+ghost use Rattle.bpaf_doc.specs.Markdown.Steps.{body_started, started, ended, is_term_end, marked_after};
+ghost use Rattle.bpaf_doc.specs.Markdown.Steps.{marked_after_all};
 
 use super::fragments::{Fragment, Fragments, Taken, fragments_of};
 use super::{Language, Styles, push_spelled, when};
@@ -61,8 +61,8 @@ struct Markdown<B: Allocator> {
 
 impl<B: Allocator> Model for Markdown<B> {
     ghost use Rattle.std.specs.Prelude.{string_bytes};
-    ghost use Rattle.bpaf_doc.specs.Markdown.Steps.Page.{Marked};
-    ghost use Rattle.bpaf_doc.specs.Markdown.Steps.Items.{is_pending, is_empty};
+    ghost use Rattle.bpaf_doc.specs.Markdown.Steps.{Marked};
+    ghost use Rattle.bpaf_doc.specs.Markdown.Steps.{is_pending, is_empty};
 
     ghost Value = { Marked };
 

@@ -5,7 +5,7 @@ use Rattle.std.proofs.Math.Bool.{or-true}
 use Rattle.std.proofs.lemmas.List.Folds.{list_any-append}
 use Rattle.std.proofs.lemmas.List.Elements.{filter-append}
 use Rattle.std.proofs.lemmas.List.Sums.{length-filter}
-use Rattle.std.specs.Prelude.{◌==◌, ◌||◌, codes, filter, flat_map}
+use Rattle.std.specs.Prelude.{count_by, ◌==◌, ◌||◌, codes, filter, flat_map}
 use Rattle.std.specs.List.{list_any}
 use Rattle.std.specs.Str.{chars}
 use Rattle.unicode_width.specs.Width.{str_width, step, past_emoji}
@@ -14,7 +14,7 @@ use Rattle.bpaf_doc.specs.declared.buffer.Block.TheVariants.{Header, Section3, I
 use Rattle.bpaf_doc.specs.Buffer.Parts.{Part, Text as Words, Start as PartStart, End as PartEnd}
 use Rattle.bpaf_doc.specs.Splitter.Chunks.{Raw, Paragraph, is_paragraph, chunks_of, chunks_in, chunks_within}
 use Rattle.bpaf_doc.specs.Html.Fragments.{Fragment, TextStart, Shown, TextEnd, shows, shown_fragments}
-use Rattle.bpaf_doc.specs.Markdown.Page.{IsMarkdownOf, MarkdownSnippet, Mark, mark_text, TextFence, Newline, snippet_text, is_style_mark, styled_snippets, text_after, closed_fences, opened_fences, is_text_fence, is_newline}
+use Rattle.bpaf_doc.specs.Markdown.Page.{IsMarkdownOf, MarkdownSnippet, Mark, mark_text, TextFence, Newline, snippet_text, is_style_mark, styled_snippets, text_after, is_fence, is_text_fence, is_newline}
 use Rattle.bpaf_doc.specs.Snippets.{Put, Of, is_mark_or_fragment}
 use Rattle.rows.proofs.Doc.Snippets.{CutAt, cut_at}
 use Rattle.bpaf_doc.proofs.lemmas.Markdown.Meets.{markdown_meets}
@@ -122,7 +122,7 @@ no_fence_refused document shown h =
     let line : Fragment = Shown Text (Raw (codes "x") 1_000_000) in
     let found : CutAt h.cut (TextStart Text ∷ []) (TextEnd Text ∷ []) line
     = cut_at h.cut (TextStart Text ∷ []) (TextEnd Text ∷ []) line (h.fragments ∙ shown) in
-    let more : closed_fences found.0 < opened_fences found.0 = h.fenced found.0 found.1 line found.2 refl in
+    let more : count_by is_fence found.0 < count_by is_text_fence found.0 = h.fenced found.0 found.1 line found.2 refl in
     let whole : length (filter is_text_fence (found.0 ++ Of line ∷ found.1)) * 7 ≤ 4
     = subst (λ ts. length (filter is_text_fence ts) * 7 ≤ 4) found.2 (subst (λ x. length (filter is_text_fence h.cut) * 7 ≤ length x) (sym h.spelling) (fences-le [] h.cut)) in
     omega (arith, more, whole, length-filter is_text_fence found.0, ap (λ x. length x) (filter-append is_text_fence found.0 (Of line ∷ found.1)), length-append (filter is_text_fence found.0) (filter is_text_fence (Of line ∷ found.1)))

@@ -1,5 +1,4 @@
-use Rattle.std.proofs.Common.{◌≡◌, ◌+◌, ◌≤◌, ◌++◌, length, map, take, vec_len, vec_capacity}
-use Rattle.bpaf_doc.specs.Buffer.Steps.Ends.{moved}
+use Rattle.bpaf_doc.proofs.lemmas.Buffer.Words.{◌≡◌, ◌+◌, ◌≤◌, ◌++◌, length, map, take, vec_len, vec_capacity, moved}
 use Rattle.bpaf_doc.proofs.buffer.push_moved.Given as goal
 
 abbrev pub invariant-loop-part : goal.invariant-loop-part

@@ -1,5 +1,4 @@
-use Rattle.std.proofs.Common.{◌≡◌, take, not}
-use Rattle.std.specs.List.{list_all}
+use Rattle.bpaf_doc.proofs.lemmas.Html.Words.{◌≡◌, take, not, list_all}
 use Rattle.memchr.specs.Find.{is_byte2}
 use Rattle.bpaf_doc.proofs.html.has_neither.Given as goal
 

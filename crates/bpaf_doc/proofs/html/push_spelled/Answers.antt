@@ -1,8 +1,6 @@
 -- Each turn writes a run and a block.
-use Rattle.std.proofs.Common.{◌≡◌, ◌+◌, ◌++◌, ◌<◌, length, get_or, sym, ap, ap₂, subst, ◌∙◌, ◌-◌, take, arith, string_bytes, take-append-drop, get_or-drop}
+use Rattle.bpaf_doc.proofs.lemmas.Html.Words.{◌≡◌, ◌+◌, ◌++◌, ◌<◌, length, get_or, sym, ap, ap₂, subst, ◌∙◌, ◌-◌, take, arith, string_bytes, take-append-drop, get_or-drop, IsUtf8-drop, spelling_of}
 use Rattle.std.specs.Str.{IsUtf8}
-use Rattle.std.proofs.lemmas.Str.{IsUtf8-drop}
-use Rattle.bpaf_doc.specs.Html.Steps.View.{spelling_of}
 use Rattle.bpaf_doc.proofs.lemmas.Html.Spelled.{block_on, block_begins}
 use Rattle.bpaf_doc.proofs.html.push_spelled.Goals as goal
 

@@ -1,8 +1,6 @@
-use Rattle.std.proofs.Common.{◌≡◌, ◌++◌, length, string_bytes}
-use Rattle.std.specs.List.{flat_map}
+use Rattle.bpaf_doc.proofs.lemmas.Html.Words.{◌≡◌, ◌++◌, length, string_bytes, flat_map, spelling_of}
 use denote.Text.{Utf8}
 use denote.Shadow.{shadow}
-use Rattle.bpaf_doc.specs.Html.Steps.View.{spelling_of}
 use Rattle.bpaf_doc.proofs.html.push_spelled.Given as goal
 
 -- what is written and the rest in its spelling are the whole text in its spelling

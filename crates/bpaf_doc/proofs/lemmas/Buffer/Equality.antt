@@ -1,10 +1,9 @@
 -- Equal documents have the same parts.
-use Rattle.std.proofs.Common.{arith, ◌≡◌, Bool, true, List, ◌∷◌, subst}
+use Rattle.bpaf_doc.proofs.lemmas.Buffer.Words.{arith, ◌≡◌, Bool, true, List, ◌∷◌, subst, Part}
 use Rattle.std.specs.Cmp.Lexicographic.{pointwise}
 use Rattle.std.proofs.lemmas.Bool.{eqb-true, and_parts}
 use Rattle.bpaf_doc.specs.Buffer.Equality.{IsEqualityOfParts, same_document, same_part}
 use Rattle.bpaf_doc.specs.Buffer.Steps.Order.{documents_equiv}
-use Rattle.bpaf_doc.specs.Buffer.Parts.{Part}
 
 pointwise_is : {X : Type 0} (same : X → X → Bool) → ((x y : X) → same x y ≡ true → x ≡ y) → (xs ys : List X) → pointwise same xs ys ≡ true → xs ≡ ys
 pointwise_is same tells (x ∷ xs) (y ∷ ys) h = grind (arith, pointwise_is same tells xs ys, and_parts)

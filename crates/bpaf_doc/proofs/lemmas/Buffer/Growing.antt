@@ -1,9 +1,5 @@
 -- A document that grows by one write after another.
-use Rattle.std.proofs.Common.{arith, ◌≡◌, List, ◌++◌, sym, ap, ◌∙◌, Result, OnErr, OnOk}
-use Rattle.std.proofs.lemmas.List.Sums.{fold-append}
-use Rattle.bpaf_doc.specs.Buffer.Growth.{Grows, IsCheckpointOf, Reached, RollsBack}
-use Rattle.bpaf_doc.specs.Buffer.Parts.{Part, IsWellNested}
-use Rattle.bpaf_doc.specs.Buffer.Writes.{Write, with_write, with_writes}
+use Rattle.bpaf_doc.proofs.lemmas.Buffer.Words.{arith, ◌≡◌, List, ◌++◌, sym, ap, ◌∙◌, Result, OnErr, OnOk, fold-append, Grows, IsCheckpointOf, Reached, RollsBack, Part, IsWellNested, Write, with_write, with_writes}
 
 -- what holds anyway holds on an error
 pub on_err : {T E P : Type 0} (r : Result T E) → P → OnErr r P

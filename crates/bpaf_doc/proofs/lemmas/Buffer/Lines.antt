@@ -1,10 +1,6 @@
 -- The first newline of a text.
-use Rattle.std.proofs.Common.{◌≡◌, ℕ, ◌<◌, Bool, true, false, List, [], ◌∷◌, length, refl, arith, Option, Some, None, MatchOption}
-use Rattle.std.specs.Borrow.{Bor}
-use Rattle.std.specs.List.{list_any, position_or_len}
+use Rattle.bpaf_doc.proofs.lemmas.Buffer.Words.{◌≡◌, ℕ, ◌<◌, Bool, true, false, List, [], ◌∷◌, length, refl, arith, Option, Some, None, MatchOption, Bor, list_any, position_or_len, IsSplitLine, is_newline}
 use Rattle.std.proofs.lemmas.Str.Pattern.{IsSplitOnceResult, split_once_first}
-use Rattle.bpaf_doc.specs.Buffer.FirstLine.{IsSplitLine}
-use Rattle.bpaf_doc.specs.Buffer.Writes.{is_newline}
 
 module _ (p : ℕ → Bool) where
   -- none passes where the search ran to the end

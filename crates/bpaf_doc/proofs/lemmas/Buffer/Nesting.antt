@@ -1,17 +1,9 @@
 -- What is written into a well-nested document leaves it well nested.
-use Rattle.std.proofs.Common.{rules, arith, ◌≡◌, ℕ, Bool, true, false, List, [], ◌∷◌, ◌++◌, map, sym, refl, ap, ◌∙◌, append_assoc, append-nil, subst, if◌then◌else◌}
-use Rattle.std.specs.Borrow.{Bor}
-use Rattle.std.specs.List.{list_any, before_first, after_first}
-use Rattle.std.proofs.lemmas.List.Sums.{fold-append}
-use Rattle.bpaf_doc.specs.declared.buffer.Style.{Style}
+use Rattle.bpaf_doc.proofs.lemmas.Buffer.Words.{rules, arith, ◌≡◌, ℕ, Bool, true, false, List, [], ◌∷◌, ◌++◌, map, sym, refl, ap, ◌∙◌, append_assoc, append-nil, subst, if◌then◌else◌, Bor, list_any, before_first, after_first, fold-append, Style, leading_texts, Part, Text, Start, End, IsWellNested, nothing, text, enclosed, joined, Write, document_of, emphasis, inside, is_newline, pair_write, path_writes, plain, same_style, title_writes, titled, with_text, with_write, with_writes, IsUtf8-encode}
 use Rattle.bpaf_doc.specs.declared.buffer.Style.TheVariants as style
 use Rattle.bpaf_doc.specs.declared.buffer.Block.{Block}
 use Rattle.bpaf_doc.specs.declared.buffer.Block.TheVariants as block
-use Rattle.bpaf_doc.specs.Buffer.FirstLine.{leading_texts}
-use Rattle.bpaf_doc.specs.Buffer.Parts.{Part, Text, Start, End, IsWellNested, nothing, text, enclosed, joined}
 use Rattle.bpaf_doc.specs.Buffer.Writes as write
-use Rattle.bpaf_doc.specs.Buffer.Writes.{Write, document_of, emphasis, inside, is_newline, pair_write, path_writes, plain, same_style, title_writes, titled, with_text, with_write, with_writes}
-use Rattle.std.proofs.lemmas.Str.{IsUtf8-encode}
 use Rattle.bpaf_doc.proofs.lemmas.Buffer.Ends.{AreEnds-with_text_end, parts_from-with_text_end}
 use Rattle.bpaf_doc.proofs.lemmas.Buffer.Growing.{settled_nested}
 

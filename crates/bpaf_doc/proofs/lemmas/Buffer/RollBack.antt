@@ -1,15 +1,5 @@
 -- What was written is taken off again.
-use Rattle.std.proofs.Common.{◌≡◌, ℕ, ◌+◌, ◌-◌, ◌≤◌, List, [], ◌∷◌, ◌++◌, length, take, drop, sym, refl, ap, ◌∙◌, arith, length-append, length-drop, length-take, append_assoc, append-nil, subst}
-use Rattle.std.specs.Str.{IsUtf8}
-use Rattle.std.proofs.lemmas.List.{drop-take, drop_all, length-take-le, take-take, take_at}
-use Rattle.std.proofs.lemmas.List.Elements.{All-head, All-tail}
-use Rattle.bpaf_doc.specs.declared.buffer.Style.{Style}
-use Rattle.bpaf_doc.specs.declared.buffer.Kind.{Kind}
-use Rattle.bpaf_doc.specs.declared.buffer.PartEnd.{PartEnd}
-use Rattle.bpaf_doc.specs.Buffer.Steps.Ends.{AreEnds, IsEnd, MayTake, part_with, parts_from, with_last_end}
-use Rattle.bpaf_doc.specs.Buffer.Growth.{Grows, Reached, IsCheckpointOf}
-use Rattle.bpaf_doc.specs.Buffer.Parts.{Part, Text, Start, End, HasUtf8Texts, document_bytes, part_bytes}
-use Rattle.bpaf_doc.specs.Buffer.Writes.{Write, with_text, with_write, with_writes}
+use Rattle.bpaf_doc.proofs.lemmas.Buffer.Words.{◌≡◌, ℕ, ◌+◌, ◌-◌, ◌≤◌, List, [], ◌∷◌, ◌++◌, length, take, drop, sym, refl, ap, ◌∙◌, arith, length-append, length-drop, length-take, append_assoc, append-nil, subst, IsUtf8, drop-take, drop_all, length-take-le, take-take, take_at, All-head, All-tail, Style, Kind, PartEnd, AreEnds, IsEnd, MayTake, part_with, parts_from, with_last_end, Grows, Reached, IsCheckpointOf, Part, Text, Start, End, HasUtf8Texts, document_bytes, part_bytes, Write, with_text, with_write, with_writes}
 
 -- a part now is the part before, or a text that became longer
 IsLonger : Part → Part → Type 0

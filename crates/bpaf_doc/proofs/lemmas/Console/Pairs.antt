@@ -1,10 +1,27 @@
 -- What is remembered of empty Block pairs tells of each mark whether it is skipped.
-use Rattle.bpaf_doc.proofs.lemmas.Console.Words.{list_any, position_or_len, enumerate_from, slice_get_past, nat_tests, and_from, and_parts, false≢true, zero-add, add-zero, and-true, and-false, Block, Pairs, Part, Start, End, SkipsAt, HasMarkAt, KnowsPairs}
-use Rattle.std.proofs.Common.{sym, ◌∙◌, ap, subst, inl, inr, arith, drop-drop, ◌≡◌, ℕ, suc, ◌+◌, ◌-◌, ◌^◌, ◌<◌, ◌≤◌, min, Bool, true, false, ◌&&◌, ◌||◌, ◌==◌, ◌⊎◌, IsTrue, ◌↔◌, List, [], ◌∷◌, Some, length, refl, drop, slice_get, Option, nat_le, nat_lt}
+use Rattle.bpaf_doc.proofs.lemmas.Console.Words.{list_any, position_or_len, enumerate_from, slice_get_past, nat_tests, and_from, and_parts, false≢true, zero-add, add-zero, and-true, and-false, Block, Pairs, Part, Start, End, sym, ◌∙◌, ap, subst, inl, inr, arith, drop-drop, ◌≡◌, ℕ, suc, ◌+◌, ◌-◌, ◌^◌, ◌<◌, ◌≤◌, min, Bool, true, false, ◌&&◌, ◌||◌, ◌==◌, ◌⊎◌, IsTrue, ◌↔◌, List, [], ◌∷◌, Some, length, refl, drop, slice_get, Option, nat_le, nat_lt, is_section4_start, is_section4_end, has_empty_block, after_section4, skips_pair, is_skipped}
 use Rattle.bpaf_doc.specs.declared.buffer.Block.TheVariants as blocks
-use Rattle.bpaf_doc.specs.Console.Margin.{is_section4_start, is_section4_end, has_empty_block, after_section4, skips_pair, is_skipped}
 use Rattle.bpaf_doc.specs.Console.Steps.Text as whole
 use Rattle.bpaf_doc.proofs.lemmas.Console.Layout.Back.{by_test}
+
+-- a Section4 start at place i skips a pair
+abbrev pub SkipsAt : List Part → ℕ → Type 0
+SkipsAt document i = (slice_get document i ≡ Some (Start blocks.Section4)) × (skips_pair document i ≡ true)
+
+-- a start or an end of this block is at place i
+abbrev pub HasMarkAt : List Part → ℕ → Block → Type 0
+HasMarkAt document i block = (slice_get document i ≡ Some (Start block)) ⊎ (slice_get document i ≡ Some (End block))
+
+-- What is known before the part at this place is looked at: a pair that is remembered is one that a start skips; an end
+-- that is still ahead is the first one after some earlier place, and the pair after it is known; each earlier start
+-- that skips a pair skips the remembered one, or one that was passed.
+pub record KnowsPairs (document : List Part) (index : ℕ) (pairs : Pairs) : Type 0 where
+  pub found : pairs.has_pair ≡ true → (i : ℕ) × SkipsAt document i × (after_section4 document i ≡ pairs.end + 1)
+  pub ahead : index < pairs.end
+      → (i : ℕ) × (i < index) × (after_section4 document i ≡ pairs.end + 1) × (pairs.has_pair ≡ skips_pair document i)
+  pub earlier : (i : ℕ) → i < index → SkipsAt document i
+      → ((after_section4 document i ≡ pairs.end + 1) × (pairs.has_pair ≡ true)) ⊎
+      (after_section4 document i + 2 < index)
 
 -- ---- tests
 

@@ -1,9 +1,8 @@
 -- Words that are written at once are the same as one after another.
-use Rattle.std.specs.List.{All, list_all, list_any}
-use Rattle.std.specs.Str.{IsUtf8}
-use Rattle.bpaf_doc.proofs.lemmas.Console.Words.{sym, subst, ap, ap₂, arith, ◌∙◌, append_assoc, append-nil, le-ltb, ◌≡◌, ℕ, ◌+◌, ◌≤◌, ◌==◌, Bool, true, false, not, ◌&&◌, List, ◌∷◌, ◌++◌, refl, length, nat_lt, if◌then◌else◌, All-head, All-tail, list_all-append, and-false, Chunk, Raw, IsLine, chunks_of, columns, is_paragraph, IsText, hides, PageSoFar, NoBreak, saturated, sum_by-append}
-use Rattle.bpaf_doc.specs.Splitter.Steps.Runs.{IsLettered, is_lettered, letters, begins}
-use Rattle.bpaf_doc.specs.Console.Steps.Page.{Sheet, IsWithinLine, has_no_room, wraps, room_made, columns_of, raw_put, chunks_put, text_put}
+use Rattle.bpaf_doc.proofs.lemmas.Console.Words.{sym, subst, ap, ap₂, arith, ◌∙◌, append_assoc, append-nil, le-ltb, ◌≡◌, ℕ, ◌+◌, ◌≤◌, ◌==◌, Bool, true, false, not, ◌&&◌, List, ◌∷◌, ◌++◌, refl, length, nat_lt, if◌then◌else◌, All-head, All-tail, list_all-append, and-false, Chunk, Raw, IsLine, chunks_of, columns, is_paragraph, IsText, hides, PageSoFar, NoBreak, saturated, sum_by-append, All, list_all, list_any, IsUtf8}
+use Rattle.bpaf_doc.specs.Splitter.Steps.{IsLettered, is_lettered, letters, begins}
+use Rattle.bpaf_doc.specs.Console.Exact.{has_no_room}
+use Rattle.bpaf_doc.specs.Console.Steps.Page.{Sheet, IsWithinLine, wraps, room_made, columns_of, raw_put, chunks_put, text_put}
 use Rattle.bpaf_doc.proofs.lemmas.Splitter.Facts.{text_chunks}
 use Rattle.bpaf_doc.proofs.lemmas.Splitter.Letters.{lettered_columns}
 use Rattle.bpaf_doc.proofs.lemmas.Splitter.Runs.{AreWords, no_words, a_word, words_of_line}

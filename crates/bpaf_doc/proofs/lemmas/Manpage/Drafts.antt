@@ -1,27 +1,12 @@
 -- What the writer of a page keeps is what looking back over the marks gives, so the page that comes out is the page as a function of the document; and where the
 -- page takes a document, a reader reads the document's events.
-use Rattle.std.specs.Str.{str_to_ascii_uppercase}
-use Rattle.std.proofs.Common.{ap, ◌∙◌, sym, append_assoc, arith, ◌≡◌, ℕ, Bool, true, false, List, [], ◌∷◌, ◌++◌, Some, None, find, flat_map, if◌then◌else◌, refl}
-use Rattle.std.proofs.lemmas.List.{append-nil, reverse-append}
-use Rattle.std.proofs.lemmas.List.Concat.{flat_map-append}
-use Rattle.bpaf_roff.specs.Pieces.{Piece}
-use Rattle.bpaf_roff.specs.Roff.{Script, RoffText, text_of, with_written, text_pieces}
-use Rattle.bpaf_roff.specs.declared.escape.Apostrophes.TheVariants.{Handle}
-use Rattle.bpaf_roff.specs.declared.escape.Escape.{Escape}
+use Rattle.bpaf_doc.proofs.lemmas.Manpage.Words.{str_to_ascii_uppercase, ap, ◌∙◌, sym, append_assoc, arith, ◌≡◌, ℕ, Bool, true, false, List, [], ◌∷◌, ◌++◌, Some, None, find, flat_map, if◌then◌else◌, refl, append-nil, reverse-append, flat_map-append, Script, RoffText, text_of, with_written, text_pieces, Handle, Part, Text, Start, End, font_of, is_start, last_is_start, is_section, is_section_mark, is_term_mark, captured_texts, TakesDocument, IsPageOf, start_name, heading_name, style_name, Draft, draft_on, after_text, after_start, after_section, after_block, after_end, after_part, after_parts, Style, Block, Option, control_pieces, Piece, Escape}
 use Rattle.bpaf_roff.proofs.lemmas.Written.{written_on}
-use Rattle.bpaf_doc.specs.Buffer.Parts.{Part, Text, Start, End}
-use Rattle.bpaf_doc.specs.Manpage.Events.{font_of, is_start, last_is_start, is_section, is_section_mark, is_term_mark, captured_texts}
-use Rattle.bpaf_doc.specs.Manpage.Page.{TakesDocument, IsPageOf}
-use Rattle.bpaf_doc.specs.Manpage.Exact.{start_pieces, style_pieces, start_or, strips_newlines, part_pieces, document_pieces, roff_page}
-use Rattle.bpaf_doc.specs.Manpage.Steps.Draft.{ControlCall, TextCall, pieces_of, control_calls, start_name, heading_name, style_name, Draft, draft_on, after_text, after_start, after_section, after_block, after_end, after_part, after_parts}
-use Rattle.bpaf_doc.specs.declared.buffer.Style.{Style}
-use Rattle.bpaf_doc.specs.declared.buffer.Block.{Block}
+use Rattle.bpaf_doc.specs.Manpage.Exact.{name_pieces, closing_pieces, end_pieces, start_or, strips_newlines, part_pieces, document_pieces, roff_page}
 use Rattle.bpaf_doc.specs.declared.buffer.Block.TheVariants as block
 use Rattle.bpaf_doc.proofs.lemmas.Manpage.LookingBack.{captured_texts-append, places-append}
-use Rattle.bpaf_doc.proofs.lemmas.Manpage.PageRead.{end_calls, place_calls, page_read}
-
-start_same : (b : Block) → flat_map pieces_of (control_calls (start_name b)) ≡ start_pieces b
-start_same b = grind arith
+use Rattle.bpaf_doc.proofs.lemmas.Manpage.ReadBack.{pieces_of, control_calls}
+use Rattle.bpaf_doc.proofs.lemmas.Manpage.PageRead.{place_calls, page_read}
 
 -- ---- one part more
 
@@ -48,7 +33,7 @@ text_by false page by_page done so_far strips heading text how h =
     let written = sym h.captures in
     record {
       text =
-          one_more page so_far by_page done (Text text how) (flat_map pieces_of (control_calls (style_name how) ++ TextCall strips (font_of how) text ∷ [])) h.text (rw written ((grind arith) ∙ ap (λ strip. style_pieces how ++ text_pieces strip ((font_of how, text) ∷ [])) h.strips));
+          one_more page so_far by_page done (Text text how) (name_pieces (style_name how) ++ text_pieces strips ((font_of how, text) ∷ [])) h.text (rw written (ap (λ strip. name_pieces (style_name how) ++ text_pieces strip ((font_of how, text) ∷ [])) h.strips));
       strips = h.strips ∙ sym (ap (λ parts. start_or by_page (find is_term_mark parts)) (reverse-append done ((Text text how) ∷ [])) ∙ grind arith);
       captures = h.captures ∙ sym (ap (λ parts. is_start (find is_section_mark parts)) (reverse-append done ((Text text how) ∷ [])) ∙ (grind arith));
       heading =
@@ -57,7 +42,7 @@ text_by false page by_page done so_far strips heading text how h =
 
 start_holds : (page : List (Piece Escape)) (by_page : Bool) (done : List Part) (draft : Draft) (b : Block) → Holds page by_page done draft → Holds page by_page (done ++ Start b ∷ []) (after_start draft b)
 start_holds page by_page done draft b h = record {
-  text = one_more page draft.page by_page done (Start b) _ h.text (start_same b);
+  text = one_more page draft.page by_page done (Start b) (name_pieces (start_name b)) h.text refl;
   strips =
       (grind arith) ∙ ap (λ x. if is_term_mark (Start b) then true else x) h.strips ∙ sym (ap (λ parts. start_or by_page (find is_term_mark parts)) (reverse-append done ((Start b) ∷ [])) ∙ grind arith);
   captures =
@@ -69,9 +54,8 @@ start_holds page by_page done draft b h = record {
 section_holds : (page : List (Piece Escape)) (by_page : Bool) (done : List Part) (draft : Draft) (b : Block) (name : List ℕ) → heading_name b ≡ Some name → is_section b ≡ true → is_term_mark (End b) ≡ false
     → Holds page by_page done draft → Holds page by_page (done ++ End b ∷ []) (after_section draft name)
 section_holds page by_page done draft b name named section term h = record {
-  text = one_more page draft.page by_page done (End b) (flat_map pieces_of (ControlCall name (str_to_ascii_uppercase draft.heading ∷ []) ∷ [])) h.text
-      (ap (λ text. flat_map pieces_of (ControlCall name (str_to_ascii_uppercase text ∷ []) ∷ [])) h.heading
-      ∙ ap (λ found. flat_map pieces_of (end_calls done b found)) (sym named) ∙ (grind arith));
+  text = one_more page draft.page by_page done (End b) (control_pieces name (str_to_ascii_uppercase draft.heading ∷ [])) h.text
+      (ap (λ text. control_pieces name (str_to_ascii_uppercase text ∷ [])) h.heading ∙ ap (end_pieces done b) (sym named));
   strips =
       h.strips ∙ sym ((ap (λ parts. start_or by_page (find is_term_mark parts)) (reverse-append done ((End b) ∷ [])) ∙ grind arith) ∙ ap (λ x. if x then false else strips_newlines by_page done) term);
   captures =
@@ -83,9 +67,9 @@ section_holds page by_page done draft b name named section term h = record {
 block_holds : (page : List (Piece Escape)) (by_page : Bool) (done : List Part) (draft : Draft) (b : Block) → heading_name b ≡ None → is_section b ≡ false → Holds page by_page done draft
     → Holds page by_page (done ++ End b ∷ []) (after_block draft b)
 block_holds page by_page done draft b unnamed inner h =
-    grind (arith, one_more page draft.page by_page done (End b), start_or, find, is_term_mark, reverse-append, is_start, captured_texts-append done (End b), append-nil (captured_texts done))
+    grind (arith, one_more page draft.page by_page done (End b) (closing_pieces b) h.text (ap (end_pieces done b) (sym unnamed)), start_or, find, is_term_mark, reverse-append, is_start, captured_texts-append done (End b), append-nil (captured_texts done))
 
-end_holds : (page : List (Piece Escape)) (by_page : Bool) (done : List Part) (draft : Draft) (b : Block) → Holds page by_page done draft → Holds page by_page (done ++ End b ∷ []) (after_end draft b)
+end_holds : (page : List (Piece Escape)) (by_page : Bool) (done : List Part) (draft : Draft) (b : Block) → Holds page by_page done draft → Holds page by_page (done ++ End b ∷ []) (after_end draft b (heading_name b))
 end_holds page by_page done draft block.Header h = section_holds page by_page done draft block.Header _ refl refl refl h
 end_holds page by_page done draft block.Section2 h = section_holds page by_page done draft block.Section2 _ refl refl refl h
 end_holds page by_page done draft block.Section3 h = section_holds page by_page done draft block.Section3 _ refl refl refl h
@@ -114,9 +98,13 @@ exact_page page begun written document text begins on e = grind (arith, written_
 
 -- ---- a page that keeps newlines
 
+calls_kept : (name : Option (List ℕ)) → name_pieces name ≡ flat_map pieces_of (control_calls name)
+calls_kept None = refl
+calls_kept (Some name) = grind arith
+
 kept_parts : (ps : List (List Part × Part)) → flat_map (part_pieces false) ps ≡ flat_map pieces_of (flat_map place_calls ps)
 kept_parts [] = refl
-kept_parts (place ∷ ps) = grind (arith, kept_parts ps, start_same, flat_map-append)
+kept_parts (place ∷ ps) = grind (arith, kept_parts ps, calls_kept, flat_map-append)
 
 -- A page that takes a document is, with the document on it, read as the document's events.
 pub taken_page : (page : Script) (document : List Part) (text : List ℕ) → TakesDocument page → text ≡ roff_page page document → IsPageOf page document text

@@ -1,9 +1,5 @@
 -- What looking back from a place gives after one more part: what a loop over the parts keeps.
-use Rattle.std.proofs.Common.{append_assoc, arith, ◌≡◌, List, [], ◌∷◌, ◌++◌, if◌then◌else◌, refl}
-use Rattle.std.proofs.lemmas.List.{append-nil, reverse-append, drop-append-le, drop_all, length-append}
-use Rattle.std.proofs.lemmas.List.Concat.{flat_map-append}
-use Rattle.bpaf_doc.specs.Buffer.Parts.{Part}
-use Rattle.bpaf_doc.specs.Manpage.Events.{places, is_section_end, captured_text, captured_texts}
+use Rattle.bpaf_doc.proofs.lemmas.Manpage.Words.{append_assoc, arith, ◌≡◌, List, [], ◌∷◌, ◌++◌, if◌then◌else◌, refl, append-nil, reverse-append, drop-append-le, drop_all, length-append, flat_map-append, Part, places, is_section_end, captured_text, captured_texts}
 
 -- the places, after one more part
 pub places-append : (done before : List Part) (part : Part) → places done (before ++ part ∷ []) ≡ places done before ++ (done ++ before, part) ∷ []

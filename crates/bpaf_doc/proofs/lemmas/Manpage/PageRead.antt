@@ -1,25 +1,14 @@
 -- The calls of a roff that show a document are read as its events.
-use Rattle.std.specs.List.{AllByRecursion}
-use Rattle.std.specs.Str.{str_to_ascii_uppercase}
+use Rattle.bpaf_doc.proofs.lemmas.Manpage.Words.{AllByRecursion, str_to_ascii_uppercase, ap, ◌∙◌, sym, subst, append_assoc, arith, ◌≡◌, ℕ, true, List, [], ◌∷◌, ◌++◌, Option, Some, None, map, flat_map, codes, if◌then◌else◌, Result, IfOk, refl, is_line_start, signs, text_after, escaped, Script, control_pieces, preamble, rendering, Handle, Part, Text, Start, End, Control, IsName, Reads, AtLineStart, Step, places, place_steps, page_steps, page_events, events_of_steps, captured_texts, word_of, last_is_start, is_section_mark, is_term_mark, font_of, TakesDocument, IsPageOf, IsManualPageOf, title_page, Style, Block, start_name, end_name, heading_name, style_name, signs-append, text_after-append}
 use Rattle.std.proofs.lemmas.Result.{IfOk-weaker}
-use Rattle.std.proofs.Common.{ap, ◌∙◌, sym, subst, append_assoc, arith, ◌≡◌, ℕ, true, List, [], ◌∷◌, ◌++◌, Option, Some, None, map, flat_map, codes, if◌then◌else◌, Result, IfOk, refl}
-use Rattle.bpaf_roff.specs.Escaping.{is_line_start, signs, text_after, escaped}
-use Rattle.bpaf_roff.specs.Roff.{Script, control_pieces, preamble, rendering}
-use Rattle.bpaf_roff.specs.declared.escape.Apostrophes.TheVariants.{Handle}
-use Rattle.bpaf_doc.specs.Buffer.Parts.{Part, Text, Start, End}
-use Rattle.bpaf_doc.specs.Manpage.Reader.{Control, IsName, Reads, AtLineStart}
-use Rattle.bpaf_doc.specs.Manpage.Events.{Step, places, place_steps, page_steps, page_events, events_of_steps, captured_texts, word_of, last_is_start, is_section_mark, is_term_mark, font_of}
-use Rattle.bpaf_doc.specs.Manpage.Page.{TakesDocument, IsPageOf, IsManualPageOf, title_page}
-use Rattle.bpaf_doc.specs.declared.buffer.Style.{Style}
-use Rattle.bpaf_doc.specs.declared.buffer.Block.{Block}
-use Rattle.bpaf_doc.specs.Manpage.Steps.Draft.{Call, ControlCall, TextCall, pieces_of, control_calls, start_name, end_name, heading_name, style_name, break_calls}
-use Rattle.bpaf_doc.proofs.lemmas.Manpage.ReadBack.{IsCall, step_of, calls_read, control_written, control_read, control_ends}
-use Rattle.bpaf_roff.proofs.lemmas.EscapedText.{signs-append, text_after-append}
+use Rattle.bpaf_doc.specs.declared.buffer.Block.TheVariants as block
+use Rattle.bpaf_doc.proofs.lemmas.Manpage.ReadBack.{Call, ControlCall, TextCall, BreakCall, pieces_of, control_calls, IsCall, step_of, calls_read, control_written, control_read, control_ends}
 
 -- the calls that show the end of a block, with the heading of what stands before
 abbrev pub end_calls : List Part → Block → Option (List ℕ) → List Call
-end_calls before b None = break_calls b ++ control_calls (end_name b)
 end_calls before b (Some name) = ControlCall name (str_to_ascii_uppercase (captured_texts before) ∷ []) ∷ []
+end_calls before block.ItemTerm None = BreakCall ∷ []
+end_calls before b None = control_calls (end_name b)
 
 -- the calls that show a part
 abbrev pub place_calls : List Part × Part → List Call

@@ -1,9 +1,7 @@
 -- The reader of roff as a program, byte by byte.
 use Rattle.std.specs.Prelude.{ℕ, List, [], ◌∷◌, ◌++◌, ◌==◌, Option, Some, None, if◌then◌else◌}
-use Rattle.bpaf_roff.specs.Escaping.{newline, blank, apostrophe, dash, dot, backslash, is_control_sign}
-use Rattle.bpaf_roff.specs.declared.roff.Font.{Font}
+use Rattle.bpaf_doc.proofs.lemmas.Manpage.Words.{newline, blank, apostrophe, dash, dot, backslash, is_control_sign, Font, Event, Control, Span, LineEnd}
 use Rattle.bpaf_roff.specs.declared.roff.Font.TheVariants.{Roman, Bold, Italic}
-use Rattle.bpaf_doc.specs.Manpage.Reader.{Event, Control, Span, LineEnd}
 
 -- where the reader is, and what it has of the event that it is in
 pub data State : Type 0 where

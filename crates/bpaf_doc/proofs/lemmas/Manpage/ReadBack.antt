@@ -1,21 +1,28 @@
 -- What the calls of a roff write is read as their events.
-use Rattle.std.specs.List.{AllByRecursion, list_all}
+use Rattle.bpaf_doc.proofs.lemmas.Manpage.Words.{AllByRecursion, list_all, inl, inr, ap, ◌∙◌, sym, subst, append_assoc, arith, append-nil, ◌≡◌, ◌≢◌, ℕ, Bool, true, false, not, List, [], ◌∷◌, ◌++◌, ◌==◌, map, flat_map, codes, if◌then◌else◌, refl, signs-append, text_after-append, newline, blank, dot, newline_as_blank, is_line_start, spaces_text, byte_text, Break, Byte, signs, sign_text, text_after, font_escape, restore_font, argument_word, argument_pieces, control_pieces, linebreak_pieces, text_pieces, Handle, Font, word_of, Step, Gives, Stop, starts_line, events_of_steps, Event, Control, Span, LineEnd, IsName, IsArgument, AreArguments, StartsNoControl, IsSpanText, Place, AtLineStart, WithinLine, Reads, Option, None, Some, Piece, Escape}
 use Rattle.std.proofs.lemmas.List.Folds.{list_all-append}
-use Rattle.std.proofs.Common.{inl, inr, ap, ◌∙◌, sym, subst, append_assoc, arith, append-nil, ◌≡◌, ◌≢◌, ℕ, Bool, true, false, not, List, [], ◌∷◌, ◌++◌, ◌==◌, map, flat_map, codes, if◌then◌else◌, refl}
 use Rattle.std.proofs.lemmas.Bool.{ne_eqb, and_from, and_parts, not-true}
 use Rattle.std.proofs.lemmas.Bool.Decides.{eqb_tells, nat_tests}
-use Rattle.bpaf_roff.proofs.lemmas.EscapedText.{signs-append, text_after-append}
 use Rattle.bpaf_roff.proofs.lemmas.LineStarts.{is_line_start-last}
 use Rattle.bpaf_roff.proofs.lemmas.Texts as roff
-use Rattle.bpaf_roff.specs.Escaping.{newline, blank, dot, newline_as_blank, is_line_start, spaces_text, byte_text, Break, Byte, signs, sign_text, text_after}
-use Rattle.bpaf_roff.specs.Roff.{font_escape, restore_font, argument_word, argument_pieces, control_pieces, linebreak_pieces, text_pieces}
 use Rattle.bpaf_roff.specs.declared.escape.Apostrophes.{Apostrophes}
-use Rattle.bpaf_roff.specs.declared.escape.Apostrophes.TheVariants.{Handle}
 use Rattle.bpaf_roff.specs.declared.escape.Escape.TheVariants.{Spaces, Special, SpecialNoNewline, Unescaped}
-use Rattle.bpaf_roff.specs.declared.roff.Font.{Font}
-use Rattle.bpaf_doc.specs.Manpage.Events.{word_of, Step, Gives, Stop, starts_line, events_of_steps}
-use Rattle.bpaf_doc.specs.Manpage.Steps.Draft.{Call, ControlCall, TextCall, BreakCall, pieces_of}
-use Rattle.bpaf_doc.specs.Manpage.Reader.{Event, Control, Span, LineEnd, IsName, IsArgument, AreArguments, StartsNoControl, IsSpanText, Place, AtLineStart, WithinLine, Reads}
+
+-- a call of a roff: a control, a text of one item, or a line break
+pub data Call : Type 0 where
+  ControlCall : List ℕ → List (List ℕ) → Call
+  TextCall : Bool → Font → List ℕ → Call
+  BreakCall : Call
+
+abbrev pub pieces_of : Call → List (Piece Escape)
+pieces_of (ControlCall name arguments) = control_pieces name arguments
+pieces_of (TextCall strip font text) = text_pieces strip ((font, text) ∷ [])
+pieces_of BreakCall = linebreak_pieces
+
+-- a control without arguments, if there is one
+abbrev pub control_calls : Option (List ℕ) → List Call
+control_calls None = []
+control_calls (Some name) = ControlCall name [] ∷ []
 
 -- what kind of byte a byte is
 data Kind : ℕ → Type 0 where

@@ -1,9 +1,8 @@
 -- Fences open and close in turn, and code stands between them.
-use Rattle.bpaf_doc.proofs.lemmas.Markdown.Words.{common_steps, ◌≡◌, ℕ, ◌+◌, ◌<◌, Bool, true, false, List, [], ◌∷◌, ◌++◌, map, refl, ap, ◌∙◌, arith, not, ◌&&◌, ◌||◌, reverse, IsTrue, list_all, false≢true, eqb-true, and_parts, and_from, Raw, Paragraph, LineBreak, is_ordinary, is_code_line, code_weight, fence_weight, Fragment, TextStart, Shown, TextEnd, Hidden, Start, End, shows, TextFence, Fence, MarkdownSnippet, style_marks, is_fence, opened_fences, closed_fences, is_text_end, Put, Of, Marked, marked_after, and-false}
-use Rattle.bpaf_doc.specs.declared.buffer.Style.TheVariants as styles
+use Rattle.bpaf_doc.proofs.lemmas.Markdown.Words.{common_steps, ◌≡◌, ℕ, ◌+◌, ◌<◌, Bool, true, false, List, [], ◌∷◌, ◌++◌, refl, ap, ◌∙◌, arith, not, ◌&&◌, ◌||◌, IsTrue, list_all, false≢true, eqb-true, and_parts, and_from, Raw, is_ordinary, is_code_line, code_weight, fence_weight, Fragment, Shown, TextEnd, shows, TextFence, Fence, MarkdownSnippet, is_fence, is_text_end, Put, Of, Marked, marked_after, and-false, is_text_fence, count_by}
 use Rattle.bpaf_doc.proofs.lemmas.Lists.Counting.{one_if, count_by-cons}
 use Rattle.bpaf_doc.proofs.lemmas.Lists.Passing.{state_after, passes, passes_back, passes_both, passes_first}
-use Rattle.bpaf_doc.proofs.lemmas.Markdown.Cut.{by_weight, start_snippets, own_snippets, cut_from, item_snippets, end_code_snippets, code_next, step-code, item-code}
+use Rattle.bpaf_doc.proofs.lemmas.Markdown.Cut.{by_weight, own_snippets, cut_from, item_snippets, end_code_snippets, code_next, step-code, item-code}
 
 -- where a block is open: a fence with `text` opens one, another closes it
 abbrev may_stand : Bool → MarkdownSnippet → Bool
@@ -23,7 +22,7 @@ well_fenced = passes may_stand fence_next
 abbrev fence_after : Bool → List MarkdownSnippet → Bool
 fence_after = state_after may_stand fence_next
 
-fences_counted : (q : Bool) (ss : List MarkdownSnippet) → well_fenced q ss ≡ true → one_if q + opened_fences ss ≡ closed_fences ss + one_if (fence_after q ss)
+fences_counted : (q : Bool) (ss : List MarkdownSnippet) → well_fenced q ss ≡ true → one_if q + count_by is_text_fence ss ≡ count_by is_fence ss + one_if (fence_after q ss)
 fences_counted false (Put TextFence ∷ ss) h = omega (arith, count_by-cons, is_fence, fences_counted true ss h)
 fences_counted true (Put Fence ∷ ss) h = omega (arith, count_by-cons, is_fence, fences_counted false ss h)
 fences_counted q (s ∷ ss) h =
@@ -77,14 +76,14 @@ passes_front q [] ys h = refl
 passes_front q (x ∷ xs) ys h = grind (arith, passes_front (fence_next q x) xs ys, and_parts, and_from)
 
 counted_before : (p : Marked) (fs : List Fragment) (before after : List MarkdownSnippet) (a : Fragment) → p.in_code ≡ false → cut_from p fs ≡ before ++ Of a ∷ after
-    → (opened_fences before ≡ closed_fences before + one_if (fence_after false before)) × (may_stand (fence_after false before) (Of a) ≡ true)
+    → (count_by is_text_fence before ≡ count_by is_fence before + one_if (fence_after false before)) × (may_stand (fence_after false before) (Of a) ≡ true)
 counted_before p fs before after a none e = grind (arith, cut_fenced p fs, fences_counted false before, passes_front false before (Of a ∷ after), passes_first may_stand fence_next (fence_after false before) (Of a) after, passes_back may_stand fence_next false before (Of a ∷ after))
 
 -- at a code line more fences were opened than closed
-pub fenced_of : (p : Marked) (fs : List Fragment) → p.in_code ≡ false → (before after : List MarkdownSnippet) (a : Fragment) → cut_from p fs ≡ before ++ Of a ∷ after → IsTrue (shows is_code_line a) → closed_fences before < opened_fences before
+pub fenced_of : (p : Marked) (fs : List Fragment) → p.in_code ≡ false → (before after : List MarkdownSnippet) (a : Fragment) → cut_from p fs ≡ before ++ Of a ∷ after → IsTrue (shows is_code_line a) → count_by is_fence before < count_by is_text_fence before
 fenced_of p fs none before after a e code = grind (arith, counted_before p fs before after a none e)
 
 -- at an ordinary Raw, and at the end of a text, as many
 pub unfenced_of : (p : Marked) (fs : List Fragment) → p.in_code ≡ false → (before after : List MarkdownSnippet) (a : Fragment) → cut_from p fs ≡ before ++ Of a ∷ after → IsTrue (shows is_ordinary a || is_text_end a)
-    → closed_fences before ≡ opened_fences before
+    → count_by is_fence before ≡ count_by is_text_fence before
 unfenced_of p fs none before after a e other = grind (arith, counted_before p fs before after a none e)

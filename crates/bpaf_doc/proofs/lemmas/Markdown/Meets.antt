@@ -1,7 +1,7 @@
 -- The markdown texts that the code writes are what `IsMarkdownOf` promises.
-use Rattle.bpaf_doc.proofs.lemmas.Markdown.Words.{◌≡◌, ℕ, zero, suc, ◌^◌, ◌<◌, ◌≤◌, Bool, true, false, List, [], ◌∷◌, ◌++◌, length, map, refl, sym, ap, ◌∙◌, subst, arith, append_assoc, count_by, IsTrue, codes, Style, Chunk, chunks_of, starts, Fragment, TextStart, Shown, TextEnd, Hidden, shown_fragments, IsMarkdownOf, text_after, EndsInBlankLine, is_mono_start, is_mono_end, Of, blank_text, with_item, marked_after_all}
-use Rattle.bpaf_doc.specs.Buffer.Parts.{Part, Text, Start as PartStart, End as PartEnd}
-use Rattle.bpaf_doc.specs.Html.Steps.Walk.{visible, text_rest, part_walk, walk, depth_after}
+use Rattle.bpaf_doc.proofs.lemmas.Markdown.Words.{visible, ◌≡◌, ℕ, zero, suc, ◌^◌, ◌<◌, ◌≤◌, Bool, true, false, List, [], ◌∷◌, ◌++◌, length, map, refl, sym, ap, ◌∙◌, subst, arith, append_assoc, count_by, IsTrue, codes, Style, Chunk, chunks_of, starts, Fragment, TextStart, Shown, TextEnd, Hidden, shown_fragments, IsMarkdownOf, text_after, EndsInBlankLine, is_mono_start, is_mono_end, Of, blank_text, with_item, marked_after_all}
+use Rattle.bpaf_doc.specs.Buffer.Parts.{Part, Text}
+use Rattle.bpaf_doc.specs.Html.Steps.View.{text_rest, part_walk, walk, depth_after}
 use Rattle.bpaf_doc.proofs.lemmas.Lists.Counting.{one_if, count_by-cons, count_by-append}
 use Rattle.bpaf_doc.proofs.lemmas.Html.Fragments.Walking.{walked}
 use Rattle.bpaf_doc.proofs.lemmas.Markdown.Cut.{places-spelled, cut_from, flags}

@@ -1,5 +1,4 @@
-use Rattle.std.proofs.Common.{◌≡◌}
-use Rattle.bpaf_doc.specs.Manpage.Steps.Draft.{after_parts, draft_on}
+use Rattle.bpaf_doc.proofs.lemmas.Manpage.Words.{◌≡◌, after_parts, draft_on}
 use Rattle.bpaf_doc.proofs.manpage.written.Given as goal
 
 abbrev pub invariant-loop-part : goal.invariant-loop-part

@@ -1,5 +1,4 @@
-use Rattle.std.proofs.Common.{◌≡◌, ◌≤◌, take}
-use Rattle.bpaf_doc.specs.Splitter.Steps.Runs.{letters}
+use Rattle.bpaf_doc.proofs.lemmas.Splitter.Words.{◌≡◌, ◌≤◌, take, letters}
 use Rattle.bpaf_doc.proofs.splitter.count_letters.Given as goal
 
 abbrev pub invariant-loop-byte : goal.invariant-loop-byte

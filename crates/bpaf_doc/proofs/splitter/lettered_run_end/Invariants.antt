@@ -1,5 +1,4 @@
-use Rattle.std.proofs.Common.{◌≡◌, ◌≤◌, ◌<◌, ◌-◌, length, take}
-use Rattle.bpaf_doc.specs.Splitter.Steps.Runs.{IsRunEnd, IsLettered, letters}
+use Rattle.bpaf_doc.proofs.lemmas.Splitter.Words.{◌≡◌, ◌≤◌, ◌<◌, ◌-◌, length, take, IsRunEnd, IsLettered, letters}
 use Rattle.bpaf_doc.proofs.splitter.lettered_run_end.Given as goal
 
 abbrev pub invariant-lettered : goal.invariant-lettered

@@ -1,6 +1,4 @@
-use Rattle.std.proofs.Common.{sym, subst, lit<}
-use Rattle.std.proofs.lemmas.Str.Pattern.{strip_prefix_char}
-use Rattle.bpaf_doc.specs.Splitter.Chunks.{IsPastNewline}
+use Rattle.bpaf_doc.proofs.lemmas.Splitter.Words.{sym, subst, lit<, strip_prefix_char, IsPastNewline}
 use Rattle.bpaf_doc.proofs.lemmas.Splitter.Cuts.{past_newline_is}
 use Rattle.bpaf_doc.proofs.splitter.past_newline.Goals as goal
 

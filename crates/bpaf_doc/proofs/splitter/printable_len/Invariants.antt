@@ -1,6 +1,4 @@
-use Rattle.std.proofs.Common.{◌≡◌, ◌≤◌, ◌-◌, true, length, take}
-use Rattle.std.specs.Char.{is_ascii_graphic}
-use Rattle.std.specs.List.{list_all}
+use Rattle.bpaf_doc.proofs.lemmas.Splitter.Words.{◌≡◌, ◌≤◌, ◌-◌, true, length, take, is_ascii_graphic, list_all}
 use Rattle.bpaf_doc.proofs.splitter.printable_len.Given as goal
 
 abbrev pub invariant-printable : goal.invariant-printable

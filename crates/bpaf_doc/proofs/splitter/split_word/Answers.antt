@@ -1,6 +1,4 @@
-use Rattle.std.proofs.Common.{IsTrue, sym, subst, refl}
-use Rattle.std.specs.List.{list_all}
-use Rattle.bpaf_doc.specs.Splitter.Chunks.{is_word_byte, IsWordEnd}
+use Rattle.bpaf_doc.proofs.lemmas.Splitter.Words.{IsTrue, sym, subst, refl, list_all, is_word_byte, IsWordEnd}
 use Rattle.bpaf_doc.proofs.lemmas.Splitter.Cuts.{is_cut, word_from_no_cut, word_end_at}
 use Rattle.bpaf_doc.proofs.splitter.split_word.Goals as goal
 

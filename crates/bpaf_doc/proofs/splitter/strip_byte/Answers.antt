@@ -1,5 +1,4 @@
-use Rattle.std.proofs.Common.{◌≡◌, ◌<◌, ◌==◌, false, ℕ, List, length, get_or, subst, sym, ◌∙◌, ap, arith}
-use Rattle.std.proofs.lemmas.Str.{IsCharBoundary-after_ascii}
+use Rattle.bpaf_doc.proofs.lemmas.Splitter.Words.{◌≡◌, ◌<◌, ◌==◌, false, ℕ, List, length, get_or, subst, sym, ◌∙◌, ap, arith, IsCharBoundary-after_ascii}
 use Rattle.bpaf_doc.proofs.splitter.strip_byte.Goals as goal
 
 some : (bytes : List ℕ) → (length bytes == 0) ≡ false → 0 < length bytes

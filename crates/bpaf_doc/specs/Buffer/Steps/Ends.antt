@@ -1,11 +1,7 @@
 -- How the running ends cut the payload of a document into its parts.
-use Rattle.std.specs.Prelude.{◌≡◌, ℕ, zero, suc, ◌+◌, ◌-◌, ◌^◌, ◌<◌, ◌≤◌, Bool, false, if◌then◌else◌, List, [], ◌∷◌, length, take, drop}
-use Rattle.std.specs.Str.{IsUtf8}
-use Rattle.bpaf_doc.specs.declared.buffer.Style.{Style}
-use Rattle.bpaf_doc.specs.declared.buffer.Kind.{Kind}
+use Rattle.bpaf_doc.specs.Words.{◌≡◌, ℕ, zero, suc, ◌+◌, ◌-◌, ◌^◌, ◌<◌, ◌≤◌, Bool, false, if◌then◌else◌, List, [], ◌∷◌, length, take, drop, IsUtf8, Style, Part, Text, Start, End}
+use Rattle.bpaf_doc.specs.declared.buffer.{Kind.Kind, PartEnd.PartEnd}
 use Rattle.bpaf_doc.specs.declared.buffer.Kind.TheVariants as kind
-use Rattle.bpaf_doc.specs.declared.buffer.PartEnd.{PartEnd}
-use Rattle.bpaf_doc.specs.Buffer.Parts.{Part, Text, Start, End}
 use Rattle.bpaf_doc.specs.Buffer.Writes.{same_style}
 
 -- the part of this kind with these bytes; a mark has none
@@ -24,8 +20,7 @@ parts_from start (e ∷ es) rest =
 -- a text may have any number of bytes, and a mark has none
 abbrev pub MayTake : Kind → ℕ → Type 0
 MayTake (kind.Text style) bytes = Unit {0}
-MayTake (kind.Start b) bytes = bytes ≡ 0
-MayTake (kind.End b) bytes = bytes ≡ 0
+MayTake _ bytes = bytes ≡ 0
 
 -- a part's end is not below the previous end, and lies within the payload, between two characters
 pub record IsEnd (start : ℕ) (e : PartEnd) (rest : List ℕ) : Type 0 where
@@ -52,8 +47,7 @@ text_end style end = record { kind = kind.Text style; end = end }
 -- a text of this style
 abbrev pub is_text_of : Kind → Style → Bool
 is_text_of (kind.Text other) style = same_style other style
-is_text_of (kind.Start b) style = false
-is_text_of (kind.End b) style = false
+is_text_of _ style = false
 
 -- a last end, and after it a text that ends here: if the last end is that of a text of the same style, it is replaced
 abbrev pub end_then_text : PartEnd → Style → ℕ → List PartEnd

@@ -1,10 +1,9 @@
 -- The laws of the equality and the order of documents, which their implementations cite.
-use Rattle.std.specs.Prelude.{◌≡◌, ◌&&◌, ◌==◌, refl, List}
+use Rattle.bpaf_doc.specs.Words.{◌≡◌, ◌&&◌, ◌==◌, refl, List, Part, part_bytes}
 use Rattle.std.specs.Ordering.{nat_cmp, on, then_cmp, eq_by_cmp, as_partial_cmp}
 use Rattle.std.specs.Cmp.Lexicographic.{slice_cmp, lists_ties, texts_ties}
 use Rattle.std.specs.Cmp.{IsEquivalence, IsTotalOrder, IsPartialOrder, partial_order_from_agreeing_total, unsigned_ties, both_tied}
 use Rattle.std.proofs.lemmas.Cmp.{lists_equiv, and_equiv, on_equiv, nat_eq_equiv, nat_list_eq_equiv, lists_total, then_total, on_total, nat_cmp_total, nat_list_cmp_total}
-use Rattle.bpaf_doc.specs.Buffer.Parts.{Part, part_bytes}
 use Rattle.bpaf_doc.specs.Buffer.Equality.{kind_number, label_number, same_text, same_part, same_document, part_cmp, document_cmp}
 
 pub documents_equiv : IsEquivalence same_document

@@ -1,16 +1,10 @@
 -- A console page, step by step, as the private functions leave it: the page so far of the exact rules, and what the
 -- code carries beside it. This is internal.
-use Rattle.std.specs.Prelude.{◌≡◌, ℕ, ◌+◌, ◌-◌, ◌<◌, ◌≤◌, ◌==◌, Bool, false, not, ◌&&◌, List, [], ◌∷◌, ◌++◌, Option, Some, None, unwrap_or, length, take, nat_eq, nat_lt, string_bytes, if◌then◌else◌}
-use Rattle.std.specs.List.{slice_get, ends_with}
-use Rattle.std.specs.Str.{trim_end, bytes_eq}
-use Rattle.bpaf_roff.specs.Bytes as byte
+use Rattle.bpaf_doc.specs.Words.{◌≡◌, ℕ, ◌+◌, ◌-◌, ◌<◌, ◌≤◌, ◌==◌, Bool, false, not, ◌&&◌, List, [], ◌∷◌, ◌++◌, Option, Some, None, unwrap_or, length, take, nat_lt, string_bytes, if◌then◌else◌, slice_get, trim_end, bytes_eq, Block, Chunk, Raw, Paragraph, LineBreak, code_weight, columns, codes}
 use Rattle.bpaf_doc.specs.declared.buffer.Block.TheVariants as blocks
-use Rattle.bpaf_doc.specs.declared.buffer.Block.{Block}
 use Rattle.bpaf_doc.specs.declared.console.page.Asked.TheVariants as asked
-use Rattle.bpaf_doc.specs.declared.console.page.Asked.{Asked}
-use Rattle.bpaf_doc.specs.declared.console.page.Page.{Page}
-use Rattle.bpaf_doc.specs.Splitter.Chunks.{Chunk, Raw, Paragraph, LineBreak, code_weight, columns}
-use Rattle.bpaf_doc.specs.Console.Exact.{Request, NoBreak, NewLine, BlankLine, PageSoFar, saturated, empty_page, asks_line, asks_blank_line, on_new_line, with_blanks, request_met, wrapped, placed, start_put, end_put}
+use Rattle.bpaf_doc.specs.declared.console.page.{Asked.Asked, Page.Page}
+use Rattle.bpaf_doc.specs.Console.Exact.{Request, NoBreak, NewLine, BlankLine, PageSoFar, saturated, empty_page, has_no_room, on_new_line, with_blanks, request_met, wrapped, placed, start_put, end_put}
 
 abbrev pub request_of : Asked → Request
 request_of asked.Nothing = NoBreak
@@ -69,18 +63,6 @@ pub record DropsBlanks (s : Sheet) : Type 0 where
   pub small : s.width < 18446744073709551615
   pub bare : s.page.text ≡ trim_end s.page.text ++ 10 ∷ []
 
--- a line break is asked for, and the text does not end in one
-abbrev pub lacks_newline : PageSoFar → Bool
-lacks_newline page = asks_line page.request && not (ends_with nat_eq page.text (byte.newline ∷ []))
-
-abbrev pub lacks_blank_line : PageSoFar → Bool
-lacks_blank_line page =
-    asks_blank_line page.request && not (ends_with nat_eq page.text (byte.newline ∷ byte.newline ∷ []))
-
--- these columns do not fit the line
-abbrev pub has_no_room : ℕ → ℕ → PageSoFar → Bool
-has_no_room width more page = nat_lt width (saturated (page.column + more))
-
 abbrev pub wraps : ℕ → ℕ → PageSoFar → Bool
 wraps width more page = not (length page.text == 0) && has_no_room width more (request_met page)
 
@@ -103,7 +85,7 @@ columns_of raw weight = if nat_lt weight code_weight then weight else columns ra
 -- a Raw chunk; a blank that does not fit is left out
 unfoldable pub raw_put : ℕ → ℕ → List ℕ → ℕ → PageSoFar → PageSoFar
 raw_put width margin raw weight page =
-    if wraps width (columns_of raw weight) page && bytes_eq raw (byte.blank ∷ [])
+    if wraps width (columns_of raw weight) page && bytes_eq raw (codes " ")
     then room_made width (columns_of raw weight) page
     else placed margin raw weight (room_made width (columns_of raw weight) page)
 

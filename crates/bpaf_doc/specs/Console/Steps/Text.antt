@@ -1,21 +1,32 @@
 -- A console text, part by part, as the private functions leave it. This is internal: that such a text is the exact page
 -- is proved.
-use Rattle.std.specs.Prelude.{ℕ, ◌+◌, ◌-◌, ◌==◌, Bool, true, false, ◌&&◌, List, [], ◌∷◌, Option, Some, drop, max, nat_le, nat_lt, if◌then◌else◌}
-use Rattle.std.specs.List.{slice_get, position_or_len}
+use Rattle.bpaf_doc.specs.Words.{ℕ, ◌+◌, ◌-◌, ◌==◌, Bool, true, false, ◌&&◌, List, [], ◌∷◌, Option, Some, drop, max, nat_le, nat_lt, if◌then◌else◌, slice_get, position_or_len, Block, Part, Text, Start, End, columns, chunks_of, not, list_any, Chunk, is_paragraph, is_inline}
 use Rattle.bpaf_doc.specs.declared.buffer.Block.TheVariants as blocks
-use Rattle.bpaf_doc.specs.declared.buffer.Block.{Block}
 use Rattle.bpaf_doc.specs.declared.console.pairs.Pairs.{Pairs}
-use Rattle.bpaf_doc.specs.Buffer.Parts.{Part, Text, Start, End}
-use Rattle.bpaf_doc.specs.Splitter.Chunks.{columns, chunks_of}
-use Rattle.bpaf_doc.specs.Console.Steps.Hiding.{hidden_after}
+use Rattle.bpaf_doc.specs.Console.Margin.{is_section4_start, is_term_start, is_term_end}
 use Rattle.bpaf_doc.specs.Console.Exact.{saturated, finished}
 use Rattle.bpaf_doc.specs.Console.Steps.Page.{Sheet, blank_sheet, text_put, opened, closed}
 
--- ---- the tab stop
+-- ---- what brief hides, as a count that goes from part to part
 
-abbrev pub is_term : Block → Bool
-is_term blocks.ItemTerm = true
-is_term _ = false
+-- whether the chunks hide what follows them
+abbrev pub hides : Bool → List Chunk → Bool
+hides full chunks = not full && list_any is_paragraph chunks
+
+-- How many inline blocks have to end before texts are shown again, 0 where they are shown: the count after the start of
+-- a block, after an end, and after any part, from the count before it.
+abbrev pub hidden_from_start : ℕ → Block → ℕ
+hidden_from_start hidden b = if not (hidden == 0) && is_inline b then hidden + 1 else hidden
+
+abbrev pub hidden_from_end : ℕ → Block → ℕ
+hidden_from_end hidden b = if is_inline b then hidden - 1 else hidden
+
+abbrev pub hidden_after : Bool → ℕ → Part → ℕ
+hidden_after full hidden (Text bytes style) = if (hidden == 0) && hides full (chunks_of bytes) then 1 else hidden
+hidden_after full hidden (Start b) = hidden_from_start hidden b
+hidden_after full hidden (End b) = hidden_from_end hidden b
+
+-- ---- the tab stop
 
 -- the wider of two terms, where the second counts only up to 24 columns
 abbrev pub wider_term : ℕ → ℕ → ℕ
@@ -27,16 +38,12 @@ tab_stop_from widest in_term term [] = saturated (widest + 4)
 tab_stop_from widest in_term term (Text bytes style ∷ parts) =
     tab_stop_from widest in_term (if in_term then saturated (term + columns bytes) else term) parts
 tab_stop_from widest in_term term (Start b ∷ parts) =
-    if is_term b then tab_stop_from widest true 0 parts else tab_stop_from widest in_term term parts
+    if is_term_start (Start b) then tab_stop_from widest true 0 parts else tab_stop_from widest in_term term parts
 tab_stop_from widest in_term term (End b ∷ parts) =
-    if is_term b then tab_stop_from (wider_term widest term) false term parts
+    if is_term_end (End b) then tab_stop_from (wider_term widest term) false term parts
     else tab_stop_from widest in_term term parts
 
 -- ---- empty Block pairs after a Section4
-
-abbrev pub is_section4 : Block → Bool
-is_section4 blocks.Section4 = true
-is_section4 _ = false
 
 abbrev pub is_block : Block → Bool
 is_block blocks.Block = true
@@ -71,14 +78,14 @@ no_pairs = record { end = 0; has_pair = false }
 -- what is known of such a pair after the start of a block
 abbrev pub pairs_at : List Part → ℕ → Block → Pairs → Pairs
 pairs_at document index b p =
-    if is_section4 b && nat_le p.end index
+    if is_section4_start (Start b) && nat_le p.end index
     then record {
       end = section4_end document index;
       has_pair = has_empty_block document (section4_end document index);
     } else p
 
 abbrev pub is_adjacent : Block → Pairs → Bool
-is_adjacent b p = is_section4 b && p.has_pair
+is_adjacent b p = is_section4_start (Start b) && p.has_pair
 
 -- a mark that belongs to such a pair
 abbrev pub skips : Pairs → ℕ → Block → Bool
@@ -87,21 +94,15 @@ skips p index b = (p.has_pair && is_block b) && (nat_lt p.end index && nat_le (i
 -- ---- the parts
 
 abbrev pub pairs_after : List Part → ℕ → Pairs → Part → Pairs
-pairs_after document index p (Text bytes style) = p
 pairs_after document index p (Start b) = pairs_at document index b p
-pairs_after document index p (End b) = p
-
-abbrev pub start_put : Pairs → ℕ → Block → Sheet → Sheet
-start_put p index b s = if skips p index b then s else opened b (is_adjacent b p) s
-
-abbrev pub end_put : Pairs → ℕ → Block → Sheet → Sheet
-end_put p index b s = if skips p index b then s else closed b s
+pairs_after document index p _ = p
 
 abbrev pub part_put : Bool → List Part → ℕ → Pairs → ℕ → Part → Sheet → Sheet
 part_put full document index p hidden (Text bytes style) s =
     if hidden == 0 then text_put full (chunks_of bytes) s else s
-part_put full document index p hidden (Start b) s = start_put (pairs_at document index b p) index b s
-part_put full document index p hidden (End b) s = end_put p index b s
+part_put full document index p hidden (Start b) s =
+    if skips (pairs_at document index b p) index b then s else opened b (is_adjacent b (pairs_at document index b p)) s
+part_put full document index p hidden (End b) s = if skips p index b then s else closed b s
 
 abbrev pub parts_put : Bool → List Part → ℕ → Pairs → ℕ → List Part → Sheet → Sheet
 parts_put full document index p hidden [] s = s

@@ -1,8 +1,6 @@
 -- An HTML page as the code keeps it while it writes one fragment after another. This is internal: `Html/Exact` says
 -- what comes out, and that these pages are the same is proved (proofs/lemmas/Html/Exact).
-use Rattle.std.specs.Prelude.{ℕ, Bool, true, false, ◌&&◌, List, [], ◌∷◌, ◌++◌, flat_map, if◌then◌else◌, codes}
-use Rattle.bpaf_doc.specs.declared.buffer.Block.{Block}
-use Rattle.bpaf_doc.specs.Splitter.Chunks.{Chunk, Raw, Paragraph, LineBreak}
+use Rattle.bpaf_doc.specs.Words.{ℕ, Bool, true, false, ◌&&◌, List, [], ◌∷◌, ◌++◌, flat_map, if◌then◌else◌, codes, Block, Chunk, Raw, drop, fold}
 use Rattle.bpaf_doc.specs.Html.Fragments.{Fragment, TextStart, Shown, TextEnd, Hidden, Start, End}
 use Rattle.bpaf_doc.specs.Html.Page.{escaped_character, is_definition_list}
 pub use Rattle.bpaf_doc.specs.Html.Exact.{is_empty, is_header, start_tag, end_tag, opening_tags, closing_tags}
@@ -32,23 +30,18 @@ with_words p text = record p { bytes = p.bytes ++ flat_map escaped_character tex
 abbrev pub with_heading : Written → Block → Written
 with_heading p b = if is_header b then (if p.fresh then p else with_break p) else p
 
--- a block is opened or closed
-abbrev pub opened : Written → Block → Written
-opened p b = record p { in_list = is_definition_list b; outer = p.in_list ∷ p.outer }
-
+-- a block is closed
 abbrev pub first_or_false : List Bool → Bool
 first_or_false [] = false
 first_or_false (b ∷ bs) = b
 
-abbrev pub without_first : List Bool → List Bool
-without_first [] = []
-without_first (b ∷ bs) = bs
-
 abbrev pub closed : Written → Written
-closed p = record p { in_list = first_or_false p.outer; outer = without_first p.outer }
+closed p = record p { in_list = first_or_false p.outer; outer = drop 1 p.outer }
 
 abbrev pub started : Written → Block → Written
-started p b = opened (with_text (with_heading p b) (start_tag b p.in_list)) b
+started p b =
+    let q : Written = with_text (with_heading p b) (start_tag b p.in_list) in
+    record q { in_list = is_definition_list b; outer = q.in_list ∷ q.outer }
 
 abbrev pub ended : Written → Block → Written
 ended p b = with_text (with_heading (closed p) b) (end_tag b (first_or_false p.outer))
@@ -56,8 +49,7 @@ ended p b = with_text (with_heading (closed p) b) (end_tag b (first_or_false p.o
 -- the page after a chunk that is shown
 abbrev pub chunk_page : Written → Chunk → Written
 chunk_page p (Raw bytes weight) = with_words p bytes
-chunk_page p Paragraph = with_break p
-chunk_page p LineBreak = with_break p
+chunk_page p _ = with_break p
 
 -- the page after a fragment
 abbrev pub page_after : Written → Fragment → Written
@@ -70,5 +62,4 @@ page_after p (End b) = ended p b
 
 -- the page after some fragments
 abbrev pub page_after_all : Written → List Fragment → Written
-page_after_all p [] = p
-page_after_all p (f ∷ fs) = page_after_all (page_after p f) fs
+page_after_all = fold page_after

@@ -1,5 +1,4 @@
-use Rattle.std.proofs.Common.{[], refl, take}
-use Rattle.bpaf_doc.specs.Buffer.Parts.{nothing}
+use Rattle.bpaf_doc.proofs.lemmas.Buffer.Words.{[], refl, take, nothing}
 use Rattle.bpaf_doc.proofs.lemmas.Buffer.Nesting.{IsWellNested-pairs}
 use Rattle.bpaf_doc.proofs.buffer.Doc.from_pairs.Goals as goal
 

@@ -1,5 +1,4 @@
-use Rattle.std.proofs.Common.{◌≡◌, map, take}
-use Rattle.bpaf_doc.specs.Buffer.Writes.{document_of, pair_write}
+use Rattle.bpaf_doc.proofs.lemmas.Buffer.Words.{◌≡◌, map, take, document_of, pair_write}
 use Rattle.bpaf_doc.proofs.buffer.Doc.from_pairs.Given as goal
 
 abbrev pub invariant-loop-text : goal.invariant-loop-text

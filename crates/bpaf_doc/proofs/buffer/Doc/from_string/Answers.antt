@@ -1,5 +1,4 @@
-use Rattle.std.proofs.Common.{◌≡◌, ◌+◌, [], length, refl, string_bytes, arith}
-use Rattle.std.proofs.lemmas.Str.{IsUtf8-string_bytes}
+use Rattle.bpaf_doc.proofs.lemmas.Buffer.Words.{◌≡◌, ◌+◌, [], length, refl, string_bytes, arith, IsUtf8-string_bytes}
 use Rattle.bpaf_doc.specs.declared.buffer.Style.TheVariants as style
 use Rattle.bpaf_doc.proofs.lemmas.Buffer.Ends.{AreEnds-with_text_end}
 use Rattle.bpaf_doc.proofs.buffer.Doc.from_string.Goals as goal

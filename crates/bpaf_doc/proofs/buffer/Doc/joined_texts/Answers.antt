@@ -1,5 +1,4 @@
-use Rattle.std.proofs.Common.{rules, string_bytes, subst}
-use Rattle.bpaf_doc.specs.Buffer.Parts.{HasUtf8Texts}
+use Rattle.bpaf_doc.proofs.lemmas.Buffer.Words.{rules, string_bytes, subst, HasUtf8Texts}
 use Rattle.bpaf_doc.proofs.lemmas.Buffer.Ends.{HasUtf8Texts-parts_from, document_bytes-parts_from}
 use Rattle.bpaf_doc.proofs.buffer.Doc.joined_texts.Goals as goal
 

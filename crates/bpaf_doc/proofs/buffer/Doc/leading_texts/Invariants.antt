@@ -1,5 +1,4 @@
-use Rattle.std.proofs.Common.{◌≡◌, ◌++◌}
-use Rattle.bpaf_doc.specs.Buffer.FirstLine.{leading_texts}
+use Rattle.bpaf_doc.proofs.lemmas.Buffer.Words.{◌≡◌, ◌++◌, leading_texts}
 use Rattle.bpaf_doc.proofs.buffer.Doc.leading_texts.Given as goal
 
 abbrev pub invariant-loop-part : goal.invariant-loop-part

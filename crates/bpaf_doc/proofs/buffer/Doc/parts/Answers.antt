@@ -1,5 +1,4 @@
-use Rattle.std.proofs.Common.{arith, string_bytes, subst}
-use Rattle.bpaf_doc.specs.Buffer.Parts.{HasUtf8Texts}
+use Rattle.bpaf_doc.proofs.lemmas.Buffer.Words.{arith, string_bytes, subst, HasUtf8Texts}
 use Rattle.bpaf_doc.proofs.lemmas.Buffer.Ends.{HasUtf8Texts-parts_from, length-parts_from}
 use Rattle.bpaf_doc.proofs.buffer.Doc.parts.Goals as goal
 

@@ -1,7 +1,4 @@
-use Rattle.std.proofs.Common.{◌≡◌, ℕ, ◌-◌, ◌≤◌, List, length, string_bytes, arith}
-use Rattle.std.proofs.lemmas.Str.{IsCharBoundary-from_take}
-use Rattle.bpaf_doc.specs.declared.buffer.PartEnd.{PartEnd}
-use Rattle.bpaf_doc.specs.Buffer.Steps.Ends.{end_before, parts_from}
+use Rattle.bpaf_doc.proofs.lemmas.Buffer.Words.{◌≡◌, ℕ, ◌-◌, ◌≤◌, List, length, string_bytes, arith, IsCharBoundary-from_take, PartEnd, end_before, parts_from}
 use Rattle.bpaf_doc.proofs.lemmas.Buffer.Ends.{AreEnds-drop, IsUtf8-AreEnds, IsUtf8-before, end_before-bounds, length-parts_from, parts_from-drop}
 use Rattle.bpaf_doc.proofs.buffer.Doc.parts_after.Goals as goal
 

@@ -1,5 +1,4 @@
-use Rattle.std.proofs.Common.{◌≡◌, ◌+◌, ◌∷◌, [], ◌++◌, length, string_bytes, arith, ap, length-append, ◌∙◌}
-use Rattle.bpaf_doc.specs.Buffer.Steps.Ends.{parts_from, text_end}
+use Rattle.bpaf_doc.proofs.lemmas.Buffer.Words.{◌≡◌, ◌+◌, ◌∷◌, [], ◌++◌, length, string_bytes, arith, ap, length-append, ◌∙◌, parts_from, text_end}
 use Rattle.bpaf_doc.proofs.lemmas.Buffer.Ends.{AreEnds-append, alone_are, parts_from-append, text_alone}
 use Rattle.bpaf_doc.proofs.buffer.Doc.push_whole.Goals as goal
 

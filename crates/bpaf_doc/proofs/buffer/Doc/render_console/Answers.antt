@@ -1,5 +1,4 @@
-use Rattle.std.proofs.Common.{◌≡◌, refl}
-use Rattle.bpaf_doc.specs.Buffer.Parts.{ink}
+use Rattle.bpaf_doc.proofs.lemmas.Buffer.Words.{◌≡◌, refl, ink}
 use Rattle.bpaf_doc.specs.Shown.{console_ink}
 use Rattle.bpaf_doc.specs.Console.Exact.{console_page}
 use Rattle.bpaf_doc.specs.Console.Layout.{IsLayout}

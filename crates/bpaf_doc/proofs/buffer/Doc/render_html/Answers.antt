@@ -1,9 +1,7 @@
 -- The page after all fragments, with the style sheet after it, is the page as a function of the document, and so it has the laws.
-use Rattle.std.proofs.Common.{rules, ◌≡◌, [], ◌++◌, sym, ◌∙◌, ap, subst}
-use Rattle.bpaf_doc.specs.Html.Fragments.{shown_fragments}
+use Rattle.bpaf_doc.proofs.lemmas.Buffer.Words.{rules, ◌≡◌, [], ◌++◌, sym, ◌∙◌, ap, subst, shown_fragments, page_after_all}
 use Rattle.bpaf_doc.specs.Html.Page.{IsHtmlPageOf, IsHtmlTextPageOf}
 use Rattle.bpaf_doc.specs.Html.Exact.{html_after}
-use Rattle.bpaf_doc.specs.Html.Steps.Page.{page_after_all}
 use Rattle.bpaf_doc.proofs.lemmas.Html.Nests.{page-append}
 use Rattle.bpaf_doc.proofs.lemmas.Html.Exact.{page_exact, page_laws, page_words}
 use Rattle.bpaf_doc.proofs.buffer.Doc.render_html.Goals as goal

@@ -1,6 +1,4 @@
-use Rattle.std.proofs.Common.{◌≡◌}
-use Rattle.bpaf_doc.specs.Html.Fragments.{shown_fragments}
-use Rattle.bpaf_doc.specs.Html.Steps.Page.{blank_page, page_after_all}
+use Rattle.bpaf_doc.proofs.lemmas.Buffer.Words.{◌≡◌, shown_fragments, blank_page, page_after_all}
 use Rattle.bpaf_doc.proofs.buffer.Doc.render_html.Given as goal
 
 -- the page so far with what is left comes to the whole

@@ -1,6 +1,5 @@
-use Rattle.std.proofs.Common.{◌≡◌, length}
-use Rattle.bpaf_doc.specs.Html.Fragments.{shown_fragments}
-use Rattle.bpaf_doc.specs.Markdown.Steps.Page.{blank_text, marked_after_all}
+use Rattle.bpaf_doc.proofs.lemmas.Buffer.Words.{◌≡◌, length, shown_fragments}
+use Rattle.bpaf_doc.specs.Markdown.Steps.{blank_text, marked_after_all}
 use Rattle.bpaf_doc.proofs.buffer.Doc.render_markdown.Given as goal
 
 -- the text so far with what is left comes to the whole

@@ -1,7 +1,7 @@
 -- The page with the parts on it is the page as a function of the document, and so a reader reads it.
 use Rattle.std.proofs.Common.{◌≡◌, ◌∙◌, ap, string_bytes}
 use Rattle.bpaf_roff.specs.Roff.{Script}
-use Rattle.bpaf_doc.specs.Manpage.Steps.Draft.{after_parts, draft_on}
+use Rattle.bpaf_doc.specs.Manpage.Steps.{after_parts, draft_on}
 use Rattle.bpaf_doc.proofs.lemmas.Manpage.Drafts.{exact_page, taken_page}
 use Rattle.bpaf_doc.proofs.buffer.Doc.render_roff.Goals as goal
 

@@ -1,6 +1,4 @@
-use Rattle.std.proofs.Common.{◌≡◌, ◌-◌, sym, subst, arith, string_bytes}
-use Rattle.std.proofs.lemmas.Str.{IsCharBoundary-from_take}
-use Rattle.bpaf_doc.specs.Buffer.Growth.{Grows, IsCheckpointOf}
+use Rattle.bpaf_doc.proofs.lemmas.Buffer.Words.{◌≡◌, ◌-◌, sym, subst, arith, string_bytes, IsCharBoundary-from_take, Grows, IsCheckpointOf}
 use Rattle.bpaf_doc.proofs.lemmas.Buffer.Ends.{IsUtf8-AreEnds}
 use Rattle.bpaf_doc.proofs.lemmas.Buffer.RollBack.{is_cut}
 use Rattle.bpaf_doc.proofs.buffer.Doc.roll_back.Goals as goal

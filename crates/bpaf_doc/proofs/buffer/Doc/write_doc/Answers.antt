@@ -1,8 +1,4 @@
-use Rattle.std.proofs.Common.{[], ◌∷◌, ◌++◌, ap, ◌∙◌}
-use Rattle.std.proofs.lemmas.Result.{on_err_weaker}
-use Rattle.bpaf_doc.specs.declared.buffer.Block.TheVariants.{InlineBlock}
-use Rattle.bpaf_doc.specs.Buffer.Writes.{start, parts}
-use Rattle.bpaf_doc.specs.Buffer.Parts.{Start}
+use Rattle.bpaf_doc.proofs.lemmas.Buffer.Words.{[], ◌∷◌, ◌++◌, ap, ◌∙◌, on_err_weaker, InlineBlock, start, parts, Start}
 use Rattle.bpaf_doc.proofs.lemmas.Buffer.Growing.{on_err}
 use Rattle.bpaf_doc.proofs.buffer.Doc.write_doc.Goals as goal
 

@@ -1,8 +1,5 @@
-use Rattle.std.proofs.Common.{[], ◌∷◌}
-use Rattle.std.proofs.lemmas.Result.{on_err_weaker}
-use Rattle.bpaf_doc.specs.declared.buffer.Block.TheVariants.{InlineBlock}
+use Rattle.bpaf_doc.proofs.lemmas.Buffer.Words.{[], ◌∷◌, on_err_weaker, InlineBlock, titled}
 use Rattle.bpaf_doc.specs.Buffer.Writes as write
-use Rattle.bpaf_doc.specs.Buffer.Writes.{titled}
 use Rattle.bpaf_doc.proofs.lemmas.Buffer.Growing.{Grows-more, Grows-grown, on_err}
 use Rattle.bpaf_doc.proofs.buffer.Doc.write_em_doc.Goals as goal
 

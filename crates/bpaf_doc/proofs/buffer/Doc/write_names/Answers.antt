@@ -1,5 +1,4 @@
-use Rattle.std.proofs.Common.{[], ◌∷◌, map, take, ◌∙◌, string_bytes}
-use Rattle.bpaf_doc.specs.Buffer.Writes.{literal, path_writes}
+use Rattle.bpaf_doc.proofs.lemmas.Buffer.Words.{[], ◌∷◌, map, take, ◌∙◌, string_bytes, literal, path_writes}
 use Rattle.bpaf_doc.proofs.lemmas.Buffer.Growing.{Grows-more, on_err}
 use Rattle.bpaf_doc.proofs.buffer.Doc.write_names.Goals as goal
 

@@ -1,5 +1,4 @@
-use Rattle.std.proofs.Common.{◌≡◌, map, take, string_bytes}
-use Rattle.bpaf_doc.specs.Buffer.Writes.{path_writes, with_writes}
+use Rattle.bpaf_doc.proofs.lemmas.Buffer.Words.{◌≡◌, map, take, string_bytes, path_writes, with_writes}
 use Rattle.bpaf_doc.proofs.buffer.Doc.write_names.Given as goal
 
 abbrev pub invariant-loop-name : goal.invariant-loop-name

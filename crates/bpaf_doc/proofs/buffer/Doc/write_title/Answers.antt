@@ -1,9 +1,5 @@
-use Rattle.std.proofs.Common.{[], ◌∷◌, ◌∙◌}
-use Rattle.std.proofs.lemmas.Result.{on_err_weaker}
-use Rattle.bpaf_doc.specs.declared.buffer.Block.TheVariants.{Section3}
-use Rattle.bpaf_doc.specs.Buffer.Growth.{Grows}
+use Rattle.bpaf_doc.proofs.lemmas.Buffer.Words.{[], ◌∷◌, ◌∙◌, on_err_weaker, Section3, Grows, emphasis, plain}
 use Rattle.bpaf_doc.specs.Buffer.Writes as write
-use Rattle.bpaf_doc.specs.Buffer.Writes.{emphasis, plain}
 use Rattle.bpaf_doc.proofs.lemmas.Buffer.Growing.{Grows-more, on_err}
 use Rattle.bpaf_doc.proofs.buffer.Doc.write_title.Goals as goal
 

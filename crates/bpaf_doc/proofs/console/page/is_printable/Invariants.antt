@@ -1,6 +1,5 @@
-use Rattle.std.proofs.Common.{◌≡◌, take}
+use Rattle.bpaf_doc.proofs.lemmas.Console.Words.{◌≡◌, take, list_all}
 use Rattle.std.specs.Int.{is_in_range}
-use Rattle.std.specs.List.{list_all}
 use Rattle.bpaf_doc.proofs.console.page.is_printable.Given as goal
 
 abbrev pub invariant-loop-byte : goal.invariant-loop-byte

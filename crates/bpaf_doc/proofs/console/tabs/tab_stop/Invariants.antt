@@ -1,5 +1,4 @@
-use Rattle.std.proofs.Common.{◌≡◌, false}
-use Rattle.bpaf_doc.specs.Console.Steps.Text.{tab_stop_from}
+use Rattle.bpaf_doc.proofs.lemmas.Console.Words.{◌≡◌, false, tab_stop_from}
 use Rattle.bpaf_doc.proofs.console.tabs.tab_stop.Given as goal
 
 abbrev pub invariant-loop-part : goal.invariant-loop-part

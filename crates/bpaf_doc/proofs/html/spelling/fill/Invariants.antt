@@ -1,5 +1,4 @@
-use Rattle.std.proofs.Common.{◌≡◌, ◌≤◌, ◌*◌, take, flat_map}
-use Rattle.bpaf_doc.specs.Html.Steps.View.{spelling_of}
+use Rattle.bpaf_doc.proofs.lemmas.Html.Words.{◌≡◌, ◌≤◌, ◌*◌, take, flat_map, spelling_of}
 use Rattle.bpaf_doc.proofs.html.spelling.fill.Given as goal
 
 abbrev pub invariant-loop-byte : goal.invariant-loop-byte

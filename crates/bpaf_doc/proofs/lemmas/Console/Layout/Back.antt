@@ -1,6 +1,6 @@
 -- Facts that hold of each place of a page, and what keeps them; the column and the text of a page as it grows.
-use Rattle.std.specs.Prelude.{◌≡◌, ℕ, zero, suc, ◌+◌, ◌<◌, ◌≤◌, ⊤, Bool, true, false, List, [], ◌∷◌, ◌++◌, codes, refl, if◌then◌else◌, not, ◌&&◌, ◌||◌, ◌==◌, length, filter, chars, ◌⊎◌}
-use Rattle.bpaf_doc.proofs.lemmas.Console.Words.{arith, sym, subst, ◌∙◌, ◌⊎◌, rules, inl, inr, Chunk, Paragraph, LineBreak, columns, is_inked, has_some, Raw, IsOrdinary, code_weight, fence_weight, Block, Event, Shows, Opens, Closes, is_inline_block, Stretch, Gap, Placed, Passed, Place, chunk_at, event_bytes, stretch_columns, is_newline, is_inked_event, is_inked_stretch, is_placed, is_written, is_not_whitespace, cases_lt, length-le-encodes, nat_tests, ink, list_any}
+use Rattle.std.specs.Prelude.{IsTrue, ◌≡◌, ℕ, zero, suc, ◌+◌, ◌<◌, ◌≤◌, ⊤, Bool, true, false, List, [], ◌∷◌, ◌++◌, codes, refl, if◌then◌else◌, not, ◌&&◌, ◌||◌, ◌==◌, length, filter, chars, ◌⊎◌}
+use Rattle.bpaf_doc.proofs.lemmas.Console.Words.{arith, sym, subst, ◌∙◌, ◌⊎◌, rules, inl, inr, Chunk, Paragraph, LineBreak, columns, is_inked, has_some, Raw, is_ordinary, code_weight, fence_weight, Block, Event, Shows, Opens, Closes, is_inline_block, Stretch, Gap, Placed, Passed, Place, chunk_at, event_bytes, stretch_columns, is_newline, is_inked_event, is_inked_stretch, is_placed, is_written, is_not_whitespace, cases_lt, length-le-encodes, nat_tests, ink, list_any}
 use Rattle.bpaf_doc.proofs.lemmas.Console.Layout.State.{State, Piece, Lines, Pads, Begins, places, drops, Next, raw, break, mark, Grows, placing, breaking, passing, padded, trimmed, cut, Fits, Suits, on_new_line, sat, put, dropped, wrapped, broken, passed, has_text, ends_line, IsClear}
 use Rattle.std.specs.Str.{trim_end, drop_trailing_whitespace, chars}
 use Rattle.unicode_width.specs.Width.{str_width}
@@ -182,7 +182,7 @@ heavy weight o = grind (arith, nat_tests)
 pub sat_agrees : (a b : ℕ) → a ≡ b → (sat a ≡ b) ⊎ (1_000_000 ≤ sat a)
 sat_agrees a b e = elim (cases_lt a 18446744073709551616) [ inl l ↦ inl (omega arith) | inr l ↦ inr (omega arith) ]
 
-pub agrees_put : (n : ℕ) (p : Piece) (base : State) → (IsOrdinary (Raw p.bytes p.weight) → p.weight ≡ columns p.bytes) → Agrees base → Agrees (put n p.part p.bytes p.weight base)
+pub agrees_put : (n : ℕ) (p : Piece) (base : State) → (IsTrue (is_ordinary (Raw p.bytes p.weight)) → p.weight ≡ columns p.bytes) → Agrees base → Agrees (put n p.part p.bytes p.weight base)
 agrees_put n p base weighed h = grind (arith, sat_agrees, column_padded, heavy)
 
 pub agrees_grows : {width : ℕ} {margin_of : ℕ → ℕ} {st after : State} {next : Next} → Suits margin_of st next → EachPlace Fills st.back

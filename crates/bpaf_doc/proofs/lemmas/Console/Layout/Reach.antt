@@ -1,5 +1,5 @@
 -- How much of a line is taken since a chunk, reckoned by some rule; and that the line is broken only where the next chunk has no room.
-use Rattle.bpaf_doc.proofs.lemmas.Console.Words.{list_all, sym, subst, ap, arith, ◌∙◌, ◌≡◌, ℕ, ◌+◌, ◌<◌, ◌≤◌, Bool, true, false, List, [], ◌∷◌, length, refl, ◌⊎◌, and_parts, Block, Request, NoBreak, Chunk, Raw, Paragraph, LineBreak, columns, IsOrdinary, Event, Shows, Opens, Closes, Stretch, Gap, Placed, Passed, Place, chunk_at, event_bytes, is_inline_block}
+use Rattle.bpaf_doc.proofs.lemmas.Console.Words.{IsTrue, list_all, sym, subst, ap, arith, ◌∙◌, ◌≡◌, ℕ, ◌+◌, ◌<◌, ◌≤◌, Bool, true, false, List, [], ◌∷◌, length, refl, ◌⊎◌, and_parts, Block, Request, NoBreak, Chunk, Raw, Paragraph, LineBreak, columns, is_ordinary, Event, Shows, Opens, Closes, Stretch, Gap, Placed, Passed, Place, chunk_at, event_bytes, is_inline_block}
 use Rattle.bpaf_doc.proofs.lemmas.Console.Layout.State.{State, Piece, Lines, Pads, Begins, first, stays, wraps, Next, raw, break, mark, Grows, padded, trimmed, sat, wrapped, put, passed, dropped, broken, asked_after, pending_after, Suits, IsShallow}
 use Rattle.bpaf_doc.proofs.lemmas.Console.Layout.Back.{EachPlace, each_grows, place_of, fits_of, same_padded, by_mark, by_grows, Fills, column_back, column_padded, Agrees, IsStarting, agrees_lines, no_text_column}
 use Rattle.bpaf_doc.proofs.lemmas.Console.Layout.Alone.{place_in}
@@ -26,7 +26,7 @@ shown p = Shows p.part (Raw p.bytes p.weight)
 
 -- an ordinary chunk weighs its columns
 abbrev pub IsWeighed : Piece → Type 0
-IsWeighed p = IsOrdinary (Raw p.bytes p.weight) → p.weight ≡ columns p.bytes
+IsWeighed p = IsTrue (is_ordinary (Raw p.bytes p.weight)) → p.weight ≡ columns p.bytes
 
 -- what a mark does that may follow, where the margin goes from this level to the next
 pub record IsQuiet (rule : Rule) (level next : ℕ) (event : Event) : Type 0 where

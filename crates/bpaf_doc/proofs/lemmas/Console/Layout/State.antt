@@ -1,7 +1,6 @@
 -- A console page as it grows. The rules of the console as a relation between what stands before a document event and after it.
 -- Internal: `IsLayout` is what is promised, and it is proved of each page that grows so.
-use Rattle.std.specs.Prelude.{IsUtf8, ◌⊎◌, ◌≡◌, ◌≢◌, ℕ, zero, suc, ◌+◌, ◌-◌, ◌<◌, ◌≤◌, min, ⊤, Bool, true, false, ◌&&◌, ◌||◌, List, [], ◌∷◌, ◌++◌, length, codes, if◌then◌else◌}
-use Rattle.bpaf_doc.proofs.lemmas.Console.Words.{trim_end, IsLine, Chunk, Raw, Paragraph, LineBreak, columns, is_inked, has_some, IsOrdinary, Event, Shows, Opens, Closes, Stretch, Gap, Placed, Passed, Place, chunk_at, event_bytes, stretch_bytes, is_newline, asks_newline, asks_blank_line, opens_body, is_inline_block, is_empty_code, Request, NoBreak, NewLine, BlankLine, at_least_new_line, Block}
+use Rattle.bpaf_doc.proofs.lemmas.Console.Words.{trim_end, IsLine, Chunk, Raw, Paragraph, LineBreak, columns, is_inked, has_some, is_ordinary, Event, Shows, Opens, Closes, Stretch, Gap, Placed, Passed, Place, chunk_at, event_bytes, stretch_bytes, is_newline, asks_newline, asks_blank_line, opens_body, is_inline_block, is_empty_code, Request, NoBreak, NewLine, BlankLine, at_least_new_line, Block, IsTrue, IsUtf8, ◌⊎◌, ◌≡◌, ◌≢◌, ℕ, zero, suc, ◌+◌, ◌-◌, ◌<◌, ◌≤◌, min, ⊤, Bool, true, false, ◌&&◌, ◌||◌, List, [], ◌∷◌, ◌++◌, length, codes, if◌then◌else◌}
 use Rattle.bpaf_doc.specs.declared.buffer.Block.TheVariants as blocks
 
 -- The page so far. The stretches stand newest first; `latest` is the part of the last chunk, `marked` says that a mark came since,
@@ -169,8 +168,8 @@ pub record Fits (margin_of : ℕ → ℕ) (st : State) (p : Piece) : Type 0 wher
   pub margin_is : st.margin ≡ margin_of p.part
   pub order : st.latest ≤ p.part
   pub moved : st.marked ≡ true → st.latest < p.part
-  pub weighed : IsOrdinary (Raw p.bytes p.weight) → p.weight ≡ columns p.bytes
-  pub filled : IsOrdinary (Raw p.bytes p.weight) → has_some p.bytes ≡ true
+  pub weighed : IsTrue (is_ordinary (Raw p.bytes p.weight)) → p.weight ≡ columns p.bytes
+  pub filled : IsTrue (is_ordinary (Raw p.bytes p.weight)) → has_some p.bytes ≡ true
 
 -- no mark that pushes no margin raises it
 pub data Suits (margin_of : ℕ → ℕ) (st : State) : Next → Type 0 where

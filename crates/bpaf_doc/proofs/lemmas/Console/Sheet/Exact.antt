@@ -1,11 +1,10 @@
 -- The page that the code writes is the page as a function of the document: the walk over its marks, and the whole.
-use Rattle.std.proofs.Common.{sym, ap, arith, inl, inr, ◌∙◌, ◌≡◌, ℕ, zero, suc, ◌+◌, ◌-◌, ◌^◌, ◌<◌, ◌≤◌, Bool, true, false, not, ◌&&◌, ◌==◌, List, [], ◌∷◌, ◌++◌, length, take, drop, reverse, refl, if◌then◌else◌, slice_get, Some, IfOk, Result, String, string_bytes}
-use Rattle.bpaf_doc.proofs.lemmas.Console.Words.{common_steps, length-drop, length-reverse, take_at, nat_tests, Pairs, Block, Style, Part, Text, Start, End, Chunk, Raw, Paragraph, LineBreak, columns, chunks_of, has_some, is_hidden, shown_chunks, through_paragraph, margin, is_skipped, skips_pair, is_section4_start, tab_stop, Shift, Indent, Level, part_shift, saturated, PageSoFar, console_page, hidden_after, Sheet, blank_sheet, KnowsPairs, enumerate_from, console_text}
+use Rattle.bpaf_doc.proofs.lemmas.Console.Words.{common_steps, length-drop, length-reverse, take_at, nat_tests, Pairs, Block, Style, Part, Text, Start, End, Chunk, Raw, Paragraph, LineBreak, columns, chunks_of, has_some, is_hidden, shown_chunks, through_paragraph, margin, is_skipped, skips_pair, is_section4_start, tab_stop, Shift, Indent, Level, part_shift, saturated, PageSoFar, console_page, hidden_after, Sheet, blank_sheet, enumerate_from, console_text, sym, ap, arith, inl, inr, ◌∙◌, ◌≡◌, ℕ, zero, suc, ◌+◌, ◌-◌, ◌^◌, ◌<◌, ◌≤◌, Bool, true, false, not, ◌&&◌, ◌==◌, List, [], ◌∷◌, ◌++◌, length, take, drop, reverse, refl, if◌then◌else◌, slice_get, Some, IfOk, Result, String, string_bytes}
 use Rattle.bpaf_doc.proofs.lemmas.Console.Hiding.{Counts, Counts-more, is_hidden-Counts}
 use Rattle.bpaf_doc.proofs.lemmas.Console.Layout.Back.{by_test, by_cases}
 use Rattle.bpaf_doc.proofs.lemmas.Console.Layout.Turned.{reverse_cons}
 use Rattle.bpaf_doc.proofs.lemmas.Console.Margins.{top, stack_at, stack_at-more, shifted, shift_at, shift_at-shown, margin-le, margin-indent, margin-level, tab_stop-le}
-use Rattle.bpaf_doc.proofs.lemmas.Console.Pairs.{KnowsPairs-more, knows_start, skips_is}
+use Rattle.bpaf_doc.proofs.lemmas.Console.Pairs.{KnowsPairs-more, knows_start, skips_is, KnowsPairs}
 use Rattle.bpaf_doc.proofs.lemmas.Splitter.Pieces.{IsGood}
 use Rattle.bpaf_doc.proofs.lemmas.Console.Sheet.Whole.{get_from_drop, drop_next, Each, text_good}
 use Rattle.bpaf_doc.proofs.lemmas.Console.Tabs.{widest_from, walk}
@@ -148,7 +147,7 @@ module _ (full : Bool) (document : List Part) (few : length document < 2 ^ 59) w
         walk_on index (Start b) rest pairs hidden s w next (page.opened b (whole.is_adjacent b next) s) start_known.0 (opened_keeps b (whole.is_adjacent b next) s).0
         (opened_margins index b (whole.is_adjacent b next) s (stack_at document index) w.margins w.tab start_known.1 within ∙ ap (λ (x : Shift). reverse (shifted x (stack_at document index))) (sym shift))
 
-    walk_any_start : Walk (index + 1) rest next (hidden_after full hidden (Start b)) (whole.start_put next index b s)
+    walk_any_start : Walk (index + 1) rest next (hidden_after full hidden (Start b)) (if whole.skips next index b then s else page.opened b (whole.is_adjacent b next) s)
     walk_any_start =
         by_test (Walk (index + 1) rest next (hidden_after full hidden (Start b))) (whole.skips next index b) s (page.opened b (whole.is_adjacent b next) s)
         (λ e. walk_still index (Start b) rest pairs hidden s w next s start_known.0 refl refl (rw (sym start_skips ∙ e) refl)) (λ e. walk_start (sym start_skips ∙ e))
@@ -165,7 +164,7 @@ module _ (full : Bool) (document : List Part) (few : length document < 2 ^ 59) w
     walk_end e =
         grind (arith, walk_on index (End b) rest pairs hidden s w pairs (page.closed b s), end_knows, closed_keeps b s, length_turned, reverse_cons, take_at, shift_at-shown document index (End b) e)
 
-    walk_any_end : Walk (index + 1) rest pairs (hidden_after full hidden (End b)) (whole.end_put pairs index b s)
+    walk_any_end : Walk (index + 1) rest pairs (hidden_after full hidden (End b)) (if whole.skips pairs index b then s else page.closed b s)
     walk_any_end =
         by_test (Walk (index + 1) rest pairs (hidden_after full hidden (End b))) (whole.skips pairs index b) s (page.closed b s)
         (λ e. walk_still index (End b) rest pairs hidden s w pairs s end_knows refl refl (rw (sym end_skips ∙ e) refl)) (λ e. walk_end (sym end_skips ∙ e))

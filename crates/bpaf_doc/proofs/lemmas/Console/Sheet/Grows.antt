@@ -1,6 +1,5 @@
 -- Each step of the exact page is a step of the console's rules.
-use Rattle.bpaf_doc.proofs.lemmas.Console.Words.{ends_with, bytes_eq, append-nil, same_from_push, replicate_next, common_steps, cases_lt, and_parts, not-true, not-false, nat_tests, Decides-eqb, IsLine, columns, has_some, Stretch, Gap, Placed, PageSoFar, Request, NoBreak, NewLine, BlankLine}
-use Rattle.std.proofs.Common.{sym, subst, ap, arith, inl, inr, ◌∙◌, append_assoc, ◌≡◌, ℕ, zero, suc, ◌+◌, ◌-◌, ◌<◌, ◌≤◌, true, false, not, ◌&&◌, List, [], ◌∷◌, ◌++◌, length, take, replicate, refl, ◌⊎◌, IsUtf8, nat_eq, nat_le}
+use Rattle.bpaf_doc.proofs.lemmas.Console.Words.{ends_with, bytes_eq, append-nil, same_from_push, replicate_next, common_steps, cases_lt, and_parts, not-true, not-false, nat_tests, Decides-eqb, IsLine, columns, has_some, Stretch, Gap, Placed, PageSoFar, Request, NoBreak, NewLine, BlankLine, sym, subst, ap, arith, inl, inr, ◌∙◌, append_assoc, ◌≡◌, ℕ, zero, suc, ◌+◌, ◌-◌, ◌<◌, ◌≤◌, true, false, not, ◌&&◌, List, [], ◌∷◌, ◌++◌, length, take, replicate, refl, ◌⊎◌, IsUtf8, nat_eq, nat_le}
 use Rattle.std.proofs.lemmas.Slice.Eq.{ends_is, bytes_eq-Decides}
 use Rattle.bpaf_doc.specs.Console.Exact as page
 use Rattle.bpaf_doc.proofs.lemmas.Console.Layout.State.{State, Piece, Lines, none_asked, line_there, line_put, blank_there, second_put, both_put, Begins, first, stays, wraps, Places, places, drops, Pads, to_margin, IsPut, sat, padded, put, wrapped, dropped, spaced, on_new_line, has_text, ends_line, ends_blank, IsLegible}
@@ -135,7 +134,7 @@ module _ (level : ℕ) where
   pub raw_placed : (width : ℕ) (p : Piece) (s : PageSoFar) (st : State) → IsUtf8 p.bytes → IsLine p.bytes → Draws s st → RawTo width p st (page.raw_put width level p.bytes p.weight s)
   raw_placed width p s st u l d =
       by_test (RawTo width p st) (has_some s.text) _ _
-      (λ h. by_test (RawTo width p st) (page.is_too_wide width p.bytes (page.request_met s)) _ _
+      (λ h. by_test (RawTo width p st) (page.has_no_room width (columns p.bytes) (page.request_met s)) _ _
       (λ k. by_test (RawTo width p st) (bytes_eq p.bytes (32 ∷ [])) _ _
       (λ b. (dropped p.part p.bytes p.weight (wrapped lines.0), drops (some h) lines.0 lines.1 (over k) ((bytes_eq-Decides p.bytes (32 ∷ [])).0 b) refl, draws_dropped p (page.wrapped (page.request_met s)) (wrapped lines.0) turned))
       (λ b. from (page.wrapped (page.request_met s)) (wrapped lines.0) turned (wraps (some h) lines.0 lines.1 (over k) (λ e. let no : true ≡ false = sym ((bytes_eq-Decides p.bytes (32 ∷ [])).1 e) ∙ b in cc) refl)))
@@ -147,7 +146,7 @@ module _ (level : ℕ) where
         lines : LinesTo st (page.request_met s)
         lines = lines_put s st d
 
-        over : page.is_too_wide width p.bytes (page.request_met s) ≡ true → width < sat (lines.0.column + columns p.bytes)
+        over : page.has_no_room width (columns p.bytes) (page.request_met s) ≡ true → width < sat (lines.0.column + columns p.bytes)
         over k = grind (arith, nat_tests)
 
         turned : Draws (page.wrapped (page.request_met s)) (wrapped lines.0)

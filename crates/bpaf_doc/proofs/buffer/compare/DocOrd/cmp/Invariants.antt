@@ -1,5 +1,4 @@
-use Rattle.std.proofs.Common.{◌≡◌}
-use Rattle.bpaf_doc.specs.Buffer.Equality.{document_cmp}
+use Rattle.bpaf_doc.proofs.lemmas.Buffer.Words.{◌≡◌, document_cmp}
 use Rattle.bpaf_doc.proofs.buffer.compare.DocOrd.cmp.Given as goal
 
 abbrev pub invariant-loop-part : goal.invariant-loop-part

@@ -1,5 +1,4 @@
-use Rattle.std.proofs.Common.{◌≡◌}
-use Rattle.bpaf_doc.specs.Buffer.Equality.{same_document}
+use Rattle.bpaf_doc.proofs.lemmas.Buffer.Words.{◌≡◌, same_document}
 use Rattle.bpaf_doc.proofs.buffer.compare.DocPartialEq.eq.Given as goal
 
 abbrev pub invariant-loop-part : goal.invariant-loop-part

@@ -1,6 +1,4 @@
-use Rattle.std.proofs.Common.{arith}
-use Rattle.std.proofs.lemmas.Str.{IsUtf8-string_bytes}
-use Rattle.bpaf_doc.specs.Console.Steps.Page.{sheet_of}
+use Rattle.bpaf_doc.proofs.lemmas.Console.Words.{arith, IsUtf8-string_bytes, sheet_of}
 use Rattle.bpaf_doc.proofs.lemmas.Console.Blanks.{blanks_pass}
 use Rattle.bpaf_doc.proofs.console.page.Page.pass_blanks.Goals as goal
 

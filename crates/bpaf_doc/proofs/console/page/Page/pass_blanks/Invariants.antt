@@ -1,6 +1,4 @@
-use Rattle.std.proofs.Common.{◌≡◌, ◌≤◌, Bool, length}
-use Rattle.bpaf_doc.specs.Console.Steps.Hiding.{hides}
-use Rattle.bpaf_doc.specs.Console.Steps.Page.{sheet_of, text_put}
+use Rattle.bpaf_doc.proofs.lemmas.Console.Words.{◌≡◌, ◌≤◌, Bool, length, hides, sheet_of, text_put}
 use Rattle.bpaf_doc.proofs.console.page.Page.pass_blanks.Given as goal
 
 abbrev pub invariant-blanks : goal.invariant-blanks

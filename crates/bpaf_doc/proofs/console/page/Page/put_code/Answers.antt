@@ -1,8 +1,4 @@
-use Rattle.std.proofs.Common.{◌≡◌, ◌∷◌, [], false, length, sym, ap, subst, ◌∙◌, arith}
-use Rattle.std.specs.Str.{bytes_eq}
-use Rattle.bpaf_doc.specs.Splitter.Chunks.{Raw}
-use Rattle.bpaf_doc.specs.Console.Steps.Hiding.{hides}
-use Rattle.bpaf_doc.specs.Console.Steps.Page.{IsPastLine, code_put, margin_of, on, sheet_of, text_put}
+use Rattle.bpaf_doc.proofs.lemmas.Console.Words.{◌≡◌, ◌∷◌, [], false, length, sym, ap, subst, ◌∙◌, arith, bytes_eq, Raw, hides, IsPastLine, code_put, margin_of, on, sheet_of, text_put}
 use Rattle.bpaf_doc.proofs.lemmas.Console.Code.{code_put_is, past_again}
 use Rattle.bpaf_doc.proofs.console.page.Page.put_code.Goals as goal
 

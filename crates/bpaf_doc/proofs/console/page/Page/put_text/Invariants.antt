@@ -1,7 +1,4 @@
-use Rattle.std.proofs.Common.{◌≡◌, length}
-use Rattle.bpaf_doc.specs.Splitter.Chunks.{chunks_of}
-use Rattle.bpaf_doc.specs.Console.Steps.Hiding.{hides}
-use Rattle.bpaf_doc.specs.Console.Steps.Page.{sheet_of, text_put}
+use Rattle.bpaf_doc.proofs.lemmas.Console.Words.{◌≡◌, length, chunks_of, hides, sheet_of, text_put}
 use Rattle.bpaf_doc.proofs.console.page.Page.put_text.Given as goal
 
 abbrev pub invariant-loop-chunk : goal.invariant-loop-chunk

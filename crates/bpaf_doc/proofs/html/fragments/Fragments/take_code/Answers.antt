@@ -1,7 +1,6 @@
 -- A code line is the first chunk of what is left of its text.
-use Rattle.std.proofs.Common.{inr, refl}
+use Rattle.bpaf_doc.proofs.lemmas.Html.Words.{inr, refl, Raw, code_weight}
 use Rattle.std.proofs.lemmas.Option.{IfSome_then}
-use Rattle.bpaf_doc.specs.Splitter.Chunks.{Raw, code_weight}
 use Rattle.bpaf_doc.proofs.lemmas.Html.Fragments.Walking.{left_more}
 use Rattle.bpaf_doc.proofs.html.fragments.Fragments.take_code.Goals as goal
 

@@ -1,6 +1,5 @@
 -- A run stands for the first chunks of what is left of its text, and a code line is the first one.
-use Rattle.std.proofs.Common.{rules, refl, sym, inr, ◌∙◌}
-use Rattle.bpaf_doc.specs.Splitter.Chunks.{Raw, code_weight}
+use Rattle.bpaf_doc.proofs.lemmas.Html.Words.{rules, refl, sym, inr, ◌∙◌, Raw, code_weight}
 use Rattle.bpaf_doc.proofs.lemmas.Html.Fragments.Walking.{left_of, left_more, left_run, fewer_left}
 use Rattle.bpaf_doc.proofs.html.fragments.FragmentsIterator.next.Goals as goal
 

@@ -1,5 +1,5 @@
 use Rattle.std.proofs.Common.{◌≡◌, ◌≤◌, true, false, length}
-use Rattle.bpaf_doc.specs.Markdown.Steps.Page.{marked_after_all}
+use Rattle.bpaf_doc.specs.Markdown.Steps.{marked_after_all}
 use Rattle.bpaf_doc.proofs.html.markdown.Markdown.code_lines.Given as goal
 
 -- a code block is open, and the text so far with what is left comes to the same as before
