@@ -533,8 +533,9 @@ impl<A: Allocator> Doc<A> {
     pub fn parts(&self) -> Parts<'_>
         ensures parts { result ≡ self.now }
         ensures utf8 { HasUtf8Texts self.now }
-        ensures bound { length self.now < 2 ^ 64 }
+        ensures bound { length self.now < 2 ^ 59 }
     {
+        self.bound_parts();
         Parts {
             text: self.payload.as_str(),
             start: 0,

@@ -49,15 +49,15 @@ pub fn one_reading()
     ensures { IsReadInOneWay }
 {}
 
-/// A page that holds a title line takes a document, and is then a manual page with that title.
+/// A page that holds only a title line takes a document, and is then a manual page with that title.
 #[tactic(auto, using(crate::proofs::lemmas::Manpage::PageRead::title_page_takes_document, crate::proofs::lemmas::Manpage::PageRead::titled_page_is_manual_page))]
 pub fn titled_page()
     ensures takes { TitlePageTakesDocument }
     ensures manual { TitledPageIsManualPage }
 {}
 
-/// The console page as a function of the document has the document's ink and is a layout of it, for each document of
-/// UTF-8 texts and fewer than 2^59 parts.
+/// The console page as a function of the document has the ink of what is shown, with its backquotes, and is a layout of
+/// the document, for each of UTF-8 texts and fewer than 2^59 parts, as each `Doc` is.
 pub fn laws_of_exact_page()
     ensures { IsExactPageLayout }
 {}

@@ -6,13 +6,13 @@ use Rattle.bpaf_doc.specs.Console.Margin.{is_skipped, margin, greatest, greatest
 
 -- ---- what is shown, in order
 
--- a chunk of the shown text at a place of the document, or a start or an end of a block outside the skipped pairs
+-- a chunk of the shown text at an index of the document, or a start or an end of a block outside the skipped pairs
 pub data Event : Type 0 where
   Shows : ℕ → Chunk → Event
   Opens : Block → Event
   Closes : Block → Event
 
--- the events of the part at place k
+-- the events of the part at index k
 abbrev pub part_events : Bool → List Part → ℕ → Part → List Event
 part_events full document k (Text bytes style) =
     map (λ chunk. Shows k chunk) (shown_chunks full (take k document) bytes)
@@ -27,7 +27,7 @@ shown_events full document = flat_map (λ (k, part). part_events full document k
 
 -- ---- placings
 
--- where a Raw chunk stands: its text's place in the document, the chunk's bytes and weight, and what the console text
+-- where a Raw chunk stands: its text's index in the document, the chunk's bytes and weight, and what the console text
 -- has of it
 pub record Place : Type 0 where
   pub part : ℕ
@@ -227,7 +227,7 @@ pub record FollowsBlank (before : List Stretch) (f : Place) : Type 0 where
   pub one_blank : events_of between ≡ Shows f.part (Raw (codes " ") 1) ∷ []
 
 -- An inked chunk's column is at least its margin. It is the margin for the first inked chunk of a line if since the
--- last ink there was no blank chunk and no TermRef mark, or only one blank of the same text.
+-- last ink there was no Raw chunk and no TermRef mark, or of the document only one blank of the same text.
 pub record KeepsMargin (document : List Part) (stretches : List Stretch) : Type 0 where
   pub at_least : (before after : List Stretch) (f : Place) → stretches ≡ before ++ Placed f ∷ after
       → IsTrue (is_inked (chunk_at f)) → margin document f.part ≤ column before
@@ -236,19 +236,19 @@ pub record KeepsMargin (document : List Part) (stretches : List Stretch) : Type 
       → (IsTrue (not (list_any is_raw_or_ref (events_since_ink before))) ⊎ FollowsBlank before f)
       → column before ≡ margin document f.part
 
--- the blocks whose marks ask for nothing and push no margin
-abbrev pub is_inline_block : Block → Bool
-is_inline_block blocks.InlineBlock = true
-is_inline_block blocks.Mono = true
-is_inline_block blocks.Meta = true
-is_inline_block blocks.DefinitionList = true
-is_inline_block _ = false
+-- the blocks whose marks ask for nothing, write nothing and push no margin
+abbrev pub is_silent_block : Block → Bool
+is_silent_block blocks.InlineBlock = true
+is_silent_block blocks.Mono = true
+is_silent_block blocks.Meta = true
+is_silent_block blocks.DefinitionList = true
+is_silent_block _ = false
 
 -- an ordinary chunk without ink, or a mark of InlineBlock, Mono, Meta or DefinitionList
 abbrev pub is_light : Event → Bool
 is_light (Shows k chunk) = is_ordinary chunk && not (is_inked chunk)
-is_light (Opens b) = is_inline_block b
-is_light (Closes b) = is_inline_block b
+is_light (Opens b) = is_silent_block b
+is_light (Closes b) = is_silent_block b
 
 -- such a mark, an ItemTerm end or an ItemBody start
 abbrev pub is_light_mark : Event → Bool
@@ -318,7 +318,7 @@ leads_to_place (Gap b ∷ after) = (b == byte.blank) && leads_to_place after
 leads_to_place _ = false
 
 -- Blanks are added only up to the margin, or two of them after an ItemBody start; and only before a place, so that no
--- line ends in added blanks.
+-- line ends in added blanks, unless an empty code line or a chunk cut to nothing is there.
 pub record PadsToMargin (document : List Part) (stretches : List Stretch) : Type 0 where
   pub up_to_margin : (before after : List Stretch) (f : Place) → stretches ≡ before ++ Placed f ∷ after
       → 0 < padding before → (column before ≡ margin document f.part)

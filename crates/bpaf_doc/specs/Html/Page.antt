@@ -89,14 +89,14 @@ fragment_text _ = []
 abbrev pub html_text : List Part → Bool → List ℕ
 html_text document full = flat_map fragment_text (shown_fragments full document)
 
--- what is put around the texts
-pub data HtmlMark : Type 0 where
-  Open : Element → HtmlMark
-  Close : Element → HtmlMark
-  Break : HtmlMark
-  Newline : HtmlMark
+-- what is put around the texts: a tag, `<br>` or a newline
+pub data HtmlTag : Type 0 where
+  Open : Element → HtmlTag
+  Close : Element → HtmlTag
+  Break : HtmlTag
+  Newline : HtmlTag
 
-abbrev pub mark_text : HtmlMark → List ℕ
+abbrev pub mark_text : HtmlTag → List ℕ
 mark_text (Open e) = opening_tag e
 mark_text (Close e) = closing_tag e
 mark_text Break = codes "<br>"
@@ -104,7 +104,7 @@ mark_text Newline = codes "\n"
 
 -- what an answer is cut into: a tag, `<br>`, a newline, or a fragment of the document
 abbrev pub HtmlSnippet : Type 0
-HtmlSnippet = Snippet HtmlMark
+HtmlSnippet = Snippet HtmlTag
 
 abbrev pub snippet_text : HtmlSnippet → List ℕ
 snippet_text (Put mark) = mark_text mark
@@ -152,12 +152,12 @@ is_style_element I = true
 is_style_element _ = false
 
 -- a tag of tt, b or i, and one of another element
-abbrev pub is_style_tag : HtmlMark → Bool
+abbrev pub is_style_tag : HtmlTag → Bool
 is_style_tag (Open e) = is_style_element e
 is_style_tag (Close e) = is_style_element e
 is_style_tag _ = false
 
-abbrev pub is_block_tag : HtmlMark → Bool
+abbrev pub is_block_tag : HtmlTag → Bool
 is_block_tag (Open e) = not (is_style_element e)
 is_block_tag (Close e) = not (is_style_element e)
 is_block_tag _ = false

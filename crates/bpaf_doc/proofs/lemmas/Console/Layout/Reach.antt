@@ -1,5 +1,5 @@
 -- How much of a line is taken since a chunk, reckoned by some rule; and that the line is broken only where the next chunk has no room.
-use Rattle.bpaf_doc.proofs.lemmas.Console.Words.{IsTrue, list_all, sym, subst, ap, arith, ◌∙◌, ◌≡◌, ℕ, ◌+◌, ◌<◌, ◌≤◌, Bool, true, false, List, [], ◌∷◌, length, refl, ◌⊎◌, and_parts, Block, Request, NoBreak, Chunk, Raw, Paragraph, LineBreak, columns, is_ordinary, Event, Shows, Opens, Closes, Stretch, Gap, Placed, Passed, Place, chunk_at, event_bytes, is_inline_block}
+use Rattle.bpaf_doc.proofs.lemmas.Console.Words.{IsTrue, list_all, sym, subst, ap, arith, ◌∙◌, ◌≡◌, ℕ, ◌+◌, ◌<◌, ◌≤◌, Bool, true, false, List, [], ◌∷◌, length, refl, ◌⊎◌, and_parts, Block, Request, NoBreak, Chunk, Raw, Paragraph, LineBreak, columns, is_ordinary, Event, Shows, Opens, Closes, Stretch, Gap, Placed, Passed, Place, chunk_at, event_bytes, is_silent_block}
 use Rattle.bpaf_doc.proofs.lemmas.Console.Layout.State.{State, Piece, Lines, Pads, Begins, first, stays, wraps, Next, raw, break, mark, Grows, padded, trimmed, sat, wrapped, put, passed, dropped, broken, asked_after, pending_after, Suits, IsShallow}
 use Rattle.bpaf_doc.proofs.lemmas.Console.Layout.Back.{EachPlace, each_grows, place_of, fits_of, same_padded, by_mark, by_grows, Fills, column_back, column_padded, Agrees, IsStarting, agrees_lines, no_text_column}
 use Rattle.bpaf_doc.proofs.lemmas.Console.Layout.Alone.{place_in}
@@ -41,7 +41,7 @@ pub record IsSound (width deepest : ℕ) (rule : Rule) : Type 0 where
   pub weighs : (p : Piece) → IsWeighed p → rule.begins (Raw p.bytes p.weight) ≡ true → p.weight ≤ rule.takes (shown p)
   pub chunk : (p : Piece) → IsWeighed p → rule.follows (shown p) ≡ true
       → (rule.has_chunks ≡ true) × (p.weight ≤ rule.takes (shown p)) × ((columns p.bytes ≤ rule.takes (shown p)) ⊎ (width < rule.takes (shown p)))
-  pub opens : (b : Block) (level margin : ℕ) → rule.follows (Opens b) ≡ true → (is_inline_block b ≡ true → margin ≤ level) → margin ≤ deepest
+  pub opens : (b : Block) (level margin : ℕ) → rule.follows (Opens b) ≡ true → (is_silent_block b ≡ true → margin ≤ level) → margin ≤ deepest
       → IsQuiet rule level margin (Opens b)
   pub closes : (b : Block) (level margin : ℕ) → rule.follows (Closes b) ≡ true → margin ≤ level → IsQuiet rule level margin (Closes b)
   pub paragraph : (k : ℕ) → rule.follows (Shows k Paragraph) ≡ false

@@ -1,6 +1,6 @@
 -- A console page as it grows. The rules of the console as a relation between what stands before a document event and after it.
 -- Internal: `IsLayout` is what is promised, and it is proved of each page that grows so.
-use Rattle.bpaf_doc.proofs.lemmas.Console.Words.{trim_end, IsLine, Chunk, Raw, Paragraph, LineBreak, columns, is_inked, has_some, is_ordinary, Event, Shows, Opens, Closes, Stretch, Gap, Placed, Passed, Place, chunk_at, event_bytes, stretch_bytes, is_newline, asks_newline, asks_blank_line, opens_body, is_inline_block, is_empty_code, Request, NoBreak, NewLine, BlankLine, at_least_new_line, Block, IsTrue, IsUtf8, ◌⊎◌, ◌≡◌, ◌≢◌, ℕ, zero, suc, ◌+◌, ◌-◌, ◌<◌, ◌≤◌, min, ⊤, Bool, true, false, ◌&&◌, ◌||◌, List, [], ◌∷◌, ◌++◌, length, codes, if◌then◌else◌}
+use Rattle.bpaf_doc.proofs.lemmas.Console.Words.{trim_end, IsLine, Chunk, Raw, Paragraph, LineBreak, columns, is_inked, has_some, is_ordinary, Event, Shows, Opens, Closes, Stretch, Gap, Placed, Passed, Place, chunk_at, event_bytes, stretch_bytes, is_newline, asks_newline, asks_blank_line, opens_body, is_silent_block, is_empty_code, Request, NoBreak, NewLine, BlankLine, at_least_new_line, Block, IsTrue, IsUtf8, ◌⊎◌, ◌≡◌, ◌≢◌, ℕ, zero, suc, ◌+◌, ◌-◌, ◌<◌, ◌≤◌, min, ⊤, Bool, true, false, ◌&&◌, ◌||◌, List, [], ◌∷◌, ◌++◌, length, codes, if◌then◌else◌}
 use Rattle.bpaf_doc.specs.declared.buffer.Block.TheVariants as blocks
 
 -- The page so far. The stretches stand newest first; `latest` is the part of the last chunk, `marked` says that a mark came since,
@@ -176,7 +176,7 @@ pub data Suits (margin_of : ℕ → ℕ) (st : State) : Next → Type 0 where
   raw_suits : {next : Next} (p : Piece) → next ≡ raw p → Fits margin_of st p → Suits margin_of st next
   paragraph_suits : {next : Next} (k : ℕ) → next ≡ break k Paragraph → st.latest ≤ k → (st.marked ≡ true → st.latest < k) → Suits margin_of st next
   line_break_suits : {next : Next} (k : ℕ) → next ≡ break k LineBreak → st.latest ≤ k → (st.marked ≡ true → st.latest < k) → Suits margin_of st next
-  open_suits : {next : Next} (b : Block) (margin : ℕ) → next ≡ mark (Opens b) margin → (is_inline_block b ≡ true → margin ≤ st.margin) → margin ≤ 18446744073709551615 → Suits margin_of st next
+  open_suits : {next : Next} (b : Block) (margin : ℕ) → next ≡ mark (Opens b) margin → (is_silent_block b ≡ true → margin ≤ st.margin) → margin ≤ 18446744073709551615 → Suits margin_of st next
   close_suits : {next : Next} (b : Block) (margin : ℕ) → next ≡ mark (Closes b) margin → margin ≤ st.margin → margin ≤ 18446744073709551615 → Suits margin_of st next
 
 -- an empty line of code comes only after some text
