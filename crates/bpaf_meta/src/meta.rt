@@ -174,6 +174,7 @@ impl<A: Allocator + Copy> Meta<A> {
     /// Not counting commands' own trees, it has no `Adjacent`, `Subsection` or `Suffix`, one name for each flag and
     /// argument, and `Skip` only as the whole or directly in a `Strict` or a `CustomUsage`. From a tree without
     /// `Strict`, `Skip` as the result says that nothing is shown. An `AllocError` says that an allocation failed.
+    #[tactic(auto, using(crate::proofs::lemmas::Normal::Shaped::normalized_shape, crate::proofs::lemmas::Normal::Keeps::normalized_shows, crate::proofs::lemmas::Normal::Marks::normalized_strict))]
     pub fn normalized(&self, for_usage: bool) -> Result<Meta<A>, AllocError>
         ensures form { IfOk result (λ m. tree_of m ≡ normalized for_usage (tree_of self.now)) }
         ensures shape { IfOk result (λ m. HasUsageShape for_usage (tree_of m)) }
