@@ -171,8 +171,10 @@ fn clone_parts<A: Allocator + Copy>(parts: &Vec<Meta<A>, A>) -> Result<Vec<Meta<
 impl<A: Allocator + Copy> Meta<A> {
     /// The normal form of the tree, for a usage line or for other places. It is a new tree; this one does not change.
     ///
-    /// It has no `Adjacent`, `Subsection` or `Suffix`, and one name for each item. What no usage line shows is left
-    /// out: `Skip` as the result says that nothing is shown. An `AllocError` says that an allocation failed.
+    /// Not counting commands' own trees, it has no `Adjacent`, `Subsection` or `Suffix`, one name for each flag and
+    /// argument, and `Skip` only as the whole or directly in a `Strict` or a `CustomUsage`. From a tree without
+    /// `Strict`, `Skip` as the result says that nothing is shown. An `AllocError` says that an allocation failed.
+    #[tactic(auto, using(crate::proofs::lemmas::Normal::Shaped::normalized_shape, crate::proofs::lemmas::Normal::Keeps::normalized_shows, crate::proofs::lemmas::Normal::Marks::normalized_strict))]
     pub fn normalized(&self, for_usage: bool) -> Result<Meta<A>, AllocError>
         ensures form { IfOk result (λ m. tree_of m ≡ normalized for_usage (tree_of self.now)) }
         ensures shape { IfOk result (λ m. HasUsageShape for_usage (tree_of m)) }

@@ -64,6 +64,7 @@ pub fn write_item<A: Allocator, B: Allocator>(
 
 /// Writes the normal form of a tree, between the marks of a `Mono` block (`docs/tree.md`). The form takes its memory
 /// from the allocator of the tree. After `AllocError` the document is as it was.
+#[tactic(auto, using(crate::proofs::lemmas::Usage::Nested::normalized_nested))]
 pub fn write_meta<A: Allocator, B: Allocator + Copy>(
     doc: &mut Doc<A>,
     meta: &Meta<B>,

@@ -57,6 +57,7 @@ pub fn sums_join<T>()
 
 /// Two monoids are equal where they have the same setting and as many pieces, each with a label equal to the one in its
 /// place and the same text.
+#[tactic(auto, using(crate::proofs::lemmas::Equality::labelled_eq_tells))]
 pub fn equality_is_of_pieces<T: PartialEq>()
     ensures { (left right : Labelled T) → IsTrue (labelled_eq T.eq left right)
         ↔ ((left.squash ≡ right.squash) × AllZip (IsSamePiece T.eq) left.pieces right.pieces) }

@@ -58,6 +58,7 @@ impl<T, A: Allocator + Copy> FreeMonoid<T, A> {
 
 impl<T, A: Allocator> FreeMonoid<T, A> {
     /// How many bytes all texts have together.
+    #[tactic(auto, using(crate::proofs::lemmas::Labels::labels_lemmas))]
     pub fn payload_size(&self) -> usize
         ensures { result ≡ payload_len self.now.pieces }
     {
@@ -84,6 +85,7 @@ fn joins<T: PartialEq>(squash: bool, last: &T, label: &T) -> bool
 }
 
 // The label of an appended text, for which there is room.
+#[tactic(auto, using(crate::proofs::lemmas::Labels::labels_lemmas))]
 fn push_label<T: PartialEq + Drop, A: Allocator>(
     labels: &mut Vec<Label<T>, A>,
     squash: bool,
@@ -108,6 +110,7 @@ fn push_label<T: PartialEq + Drop, A: Allocator>(
 }
 
 // The first `count` labels, the last of which ends at `end`.
+#[tactic(auto, using(crate::proofs::lemmas::Labels::labels_lemmas))]
 fn cut_back<T: Drop, A: Allocator>(labels: &mut Vec<Label<T>, A>, count: usize, end: usize)
     ensures { labels.new.items ≡ ending_at end (take count labels.old.items) }
 {
@@ -118,6 +121,7 @@ fn cut_back<T: Drop, A: Allocator>(labels: &mut Vec<Label<T>, A>, count: usize, 
     }
 }
 
+#[tactic(auto, using(crate::proofs::lemmas::Labels::labels_lemmas))]
 fn end_of_last<T>(labels: &[Label<T>]) -> usize
     ensures { result ≡ end_of 0 labels.now }
 {
@@ -128,6 +132,7 @@ fn end_of_last<T>(labels: &[Label<T>]) -> usize
 }
 
 impl<T: Drop, A: Allocator> FreeMonoid<T, A> {
+    #[tactic(auto, using(crate::proofs::lemmas::Labels::labels_lemmas))]
     pub(crate) fn len(&self) -> usize
         ensures { result ≡ length self.now.pieces }
     {
@@ -135,6 +140,7 @@ impl<T: Drop, A: Allocator> FreeMonoid<T, A> {
     }
 
     // Leaves only the first pieces.
+    #[tactic(auto, using(crate::proofs::lemmas::Labels::cut_at))]
     pub(crate) fn truncate(&mut self, count: usize)
         ensures { self.new ≡ record self.old { pieces = take count self.old.pieces } }
     {
@@ -151,6 +157,7 @@ impl<T: Drop, A: Allocator> FreeMonoid<T, A> {
 impl<T: PartialEq + Drop, A: Allocator> FreeMonoid<T, A> {
     /// Appends a text: to the last piece if `squash` is on and its label equal, else as a piece of its own. An error
     /// comes where an allocation failed; then nothing changed.
+    #[tactic(auto, using(crate::proofs::lemmas::Labels::append_lemmas))]
     pub fn append_str(&mut self, label: T, text: &str) -> Result<(), AllocError>
         ensures ok { OnOk result (self.new ≡ with_text T.eq self.old label text.now) }
         ensures err { OnErr result (self.new ≡ self.old) }
@@ -162,6 +169,7 @@ impl<T: PartialEq + Drop, A: Allocator> FreeMonoid<T, A> {
     }
 
     /// Appends a character, as `append_str` appends a text.
+    #[tactic(auto, using(crate::proofs::lemmas::Labels::append_lemmas))]
     pub fn append_char(&mut self, label: T, text: char) -> Result<(), AllocError>
         ensures ok { OnOk result (self.new ≡ with_text T.eq self.old label (encode_utf8 text)) }
         ensures err { OnErr result (self.new ≡ self.old) }
@@ -219,6 +227,7 @@ impl<T: PartialEq + Drop, A: Allocator> FreeMonoid<T, A> {
 }
 
 // Appends the labels of another payload, which stands `shift` bytes further on, or none of them.
+#[tactic(auto, using(crate::proofs::lemmas::Clones::clone_lemmas))]
 fn append_labels<T: Clone, A: Allocator>(
     labels: &mut Vec<Label<T>, A>,
     more: &[Label<T>],
@@ -249,6 +258,7 @@ impl<T: Clone, A: Allocator> FreeMonoid<T, A> {
     /// Appends copies of the pieces of another, each with a clone of its label. Nothing is joined where the two meet,
     /// and `squash` stays. An error comes where an allocation failed or a label could not be cloned; then nothing
     /// changed.
+    #[tactic(auto, using(crate::proofs::lemmas::Clones::sum_cut))]
     pub fn add_assign<B: Allocator>(&mut self, other: &FreeMonoid<T, B>) -> Result<(), AllocError>
         ensures ok { OnOk result (IsSumOf T.is_clone self.old other.now self.new) }
         ensures exact { ClonesAreSame T.is_clone → OnOk result (self.new ≡ sum_of self.old other.now) }
@@ -319,6 +329,7 @@ impl<'a, T> Iterator for AnnotatedSlicesIter<'a, T> {
 
     ghost remaining = { item_count (λ left. left) };
 
+    #[tactic(auto, using(crate::proofs::lemmas::Labels::first_cut))]
     fn next(&mut self) -> Option<(&'a T, &'a str)> {
         let (first, others) = self.labels.split_first()?;
         let (text, rest) = self.text.split_at(first.end - self.at);

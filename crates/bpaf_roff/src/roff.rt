@@ -130,6 +130,7 @@ impl<A: Allocator> Roff<A> {
         self.put(Escape::Spaces, word)
     }
 
+    #[tactic(auto, using(crate::proofs::lemmas::Scripts::script_lemmas))]
     fn write_arguments(&mut self, args: &[&str]) -> Result<(), AllocError>
         ensures ok { OnOk result (self.new
             ≡ with_pieces self.old (flat_map argument_pieces (map text_at args.now))) }
@@ -141,6 +142,7 @@ impl<A: Allocator> Roff<A> {
         Ok(())
     }
 
+    #[tactic(auto, using(crate::proofs::lemmas::Scripts::script_lemmas))]
     fn write_control(&mut self, name: &str, args: &[&str]) -> Result<(), AllocError>
         ensures ok { OnOk result (self.new
             ≡ with_pieces self.old (control_pieces name.now (map text_at args.now))) }

@@ -32,6 +32,7 @@ impl<A: Allocator> Model for RoffWriter<A> {
     ghost invariant = { λ w. (w.at_line_start ≡ is_line_start w.text.items) × IsUtf8 w.text.items };
 }
 
+#[tactic(auto, using(crate::proofs::lemmas::LineStarts::line_start_lemmas))]
 fn ends_line(bytes: &[u8]) -> bool
     ensures { result ≡ is_line_start bytes.now }
 {

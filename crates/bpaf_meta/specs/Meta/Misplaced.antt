@@ -3,17 +3,16 @@
 use Rattle.std.specs.Prelude.{◌≡◌, ℕ, ◌+◌, ◌≤◌, Bool, true, false, not, if◌then◌else◌, List, [], ◌∷◌, ◌++◌, length, map, flat_map, filter, All, Contains, Option, Some, None}
 use Rattle.std.specs.Option.{option_map_or}
 use Rattle.std.specs.List.{after_first}
-use Rattle.bpaf_meta.specs.Content.{Tree, and_of, or_of, optional, required, adjacent, item, many, subsection, suffix, skip, custom_usage, strict, Trees, no_trees, tree, Leaf, any, positional, command, flag, argument}
+use Rattle.bpaf_meta.specs.Content.{Tree, and_of, or_of, optional, required, adjacent, item, many, subsection, suffix, skip, custom_usage, strict, Trees, no_trees, tree, Leaf, any, positional, command, flag}
 
 -- whether an item is taken by its place, and not by a name
 abbrev pub is_positional : Leaf → Bool
 is_positional (any m a h) = not a
 is_positional (positional m h) = true
 is_positional (command n c h t i) = true
-is_positional (flag n s e h) = false
-is_positional (argument n s m e h) = false
+is_positional l = false
 
--- an item itself; for an And that of its first part; none for an Or; else that of the inner tree
+-- an item itself; for an And that of its first part; none for an Or and for Skip; else that of the inner tree
 abbrev mutual
   pub first_item : Tree → Option Leaf
   first_item (and_of ts) = first_item_of_parts ts
@@ -61,11 +60,8 @@ abbrev mutual
   items_of_parts (tree t ts) = items_of t ++ items_of_parts ts
 
   pub items_within : Leaf → List Leaf
-  items_within (any m a h) = []
-  items_within (positional m h) = []
   items_within (command n c h t i) = items_of t
-  items_within (flag n s e h) = []
-  items_within (argument n s m e h) = []
+  items_within l = []
 
 -- the number that comes after a tree whose items are numbered from n on
 abbrev pub number_after : ℕ → Tree → ℕ
@@ -141,11 +137,8 @@ abbrev mutual
   scopes_within_parts n (tree t ts) = scopes_within n t ++ scopes_within_parts (number_after n t) ts
 
   pub command_scopes : ℕ → Leaf → List Scope
-  command_scopes n (any m a h) = []
-  command_scopes n (positional m h) = []
   command_scopes n (command name c h t i) = (n, t) ∷ scopes_within n t
-  command_scopes n (flag name s e h) = []
-  command_scopes n (argument name s m e h) = []
+  command_scopes n l = []
 
 -- the tree itself, and the scopes inside it
 abbrev pub scopes_of : Tree → List Scope

@@ -25,7 +25,7 @@ symbol_of u (argument n s m e h) = the_argument (name_form u n) m
 abbrev pub Language : Type 1
 Language = List Symbol → Type 0
 
--- no sequence; the one sequence w; the empty sequence or one of P; one of P or of Q
+-- no sequence; the sequence v alone; the empty sequence or one of P; one of P or of Q
 abbrev pub NoSequence : Language
 NoSequence w = ⊥
 

@@ -1,7 +1,7 @@
 -- The short names of a tree that a user can write together, as `-abc`.
 use Rattle.std.specs.Prelude.{◌≡◌, ℕ, List, [], ◌∷◌, ◌++◌}
 use Rattle.std.specs.List.{flat_map}
-use Rattle.bpaf_meta.specs.Content.{Tree, and_of, or_of, optional, required, adjacent, item, many, subsection, suffix, skip, custom_usage, strict, Trees, no_trees, tree, Leaf, any, positional, command, flag, argument}
+use Rattle.bpaf_meta.specs.Content.{Tree, and_of, or_of, optional, required, adjacent, item, many, subsection, suffix, skip, custom_usage, strict, Trees, no_trees, tree, Leaf, command, flag, argument}
 
 -- the items in tree order, those of a command's own tree in the place of the command; nothing inside Strict
 abbrev mutual
@@ -24,25 +24,16 @@ abbrev mutual
   open_items_of_parts (tree t ts) = open_items t ++ open_items_of_parts ts
 
   pub open_items_within : Leaf → List Leaf
-  open_items_within (any m a h) = []
-  open_items_within (positional m h) = []
   open_items_within (command n c h t i) = open_items t
-  open_items_within (flag n s e h) = []
-  open_items_within (argument n s m e h) = []
+  open_items_within l = []
 
 abbrev pub shorts_of_flag : Leaf → List ℕ
-shorts_of_flag (any m a h) = []
-shorts_of_flag (positional m h) = []
-shorts_of_flag (command n c h t i) = []
 shorts_of_flag (flag n s e h) = s
-shorts_of_flag (argument n s m e h) = []
+shorts_of_flag l = []
 
 abbrev pub shorts_of_argument : Leaf → List ℕ
-shorts_of_argument (any m a h) = []
-shorts_of_argument (positional m h) = []
-shorts_of_argument (command n c h t i) = []
-shorts_of_argument (flag n s e h) = []
 shorts_of_argument (argument n s m e h) = s
+shorts_of_argument l = []
 
 -- the short names of the flags, and of the arguments, in tree order
 abbrev pub flag_shorts : Tree → List ℕ

@@ -1,15 +1,12 @@
 -- What holds of the documents that an item or a tree writes, for example that they are well nested.
 use Rattle.std.specs.Prelude.{⊤, List}
 use Rattle.bpaf_doc.specs.Buffer.Parts.{Part, IsWellNested}
-use Rattle.bpaf_meta.specs.Content.{Tree, and_of, or_of, optional, required, adjacent, item, many, subsection, suffix, skip, custom_usage, strict, Trees, no_trees, tree, Leaf, any, positional, command, flag, argument}
+use Rattle.bpaf_meta.specs.Content.{Tree, and_of, or_of, optional, required, adjacent, item, many, subsection, suffix, skip, custom_usage, strict, Trees, no_trees, tree, Leaf, any}
 
 -- the metavar of an Any
 abbrev pub HoldsDoc : (D : List Part → Type 0) → Leaf → Type 0
 HoldsDoc D (any m a h) = D m
-HoldsDoc D (positional m h) = ⊤
-HoldsDoc D (command n c h t i) = ⊤
-HoldsDoc D (flag n s e h) = ⊤
-HoldsDoc D (argument n s m e h) = ⊤
+HoldsDoc D l = ⊤
 
 -- the metavar of each Any and the document of each CustomUsage, not counting commands' own trees
 abbrev mutual

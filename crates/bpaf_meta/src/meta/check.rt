@@ -16,6 +16,7 @@ impl<A: Allocator> Meta<A> {
     /// not, in tree order, where the items of a command's own tree come right after the command. An `Adjacent` that
     /// begins with a named item is checked alone, and so is the own tree of each command that is reached. The inside of
     /// an `Adjacent` without a first item is not checked (`docs/tree.md`). The check takes no memory.
+    #[tactic(auto, using(crate::proofs::lemmas::Misplaced::Lines::first_misplaced))]
     pub fn positional_invariant_check(&self) -> Result<(), &Item<A>>
         ensures ok { OnOk result (IsWellPlaced (tree_of self.now)) }
         ensures err { IfErr result (λ i. IsFirstMisplaced (tree_of self.now) (leaf_of i.now)) }

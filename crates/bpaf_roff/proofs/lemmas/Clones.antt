@@ -62,3 +62,5 @@ module _ {T : Type 0} (clones : T → T → Type 0) where
 pub equal_copies : {T : Type 0} (clones : T → T → Type 0) (eq : T → T → Bool) → ((x y : T) → clones x y → IsTrue (eq x y)) → (ps qs : List (Piece T)) → AreCopies clones ps qs → AllZip (IsSamePiece eq) ps qs
 equal_copies clones eq equal [] qs all = grind arith
 equal_copies clones eq equal (p ∷ ps) qs all = grind (arith, equal, equal_copies clones eq equal ps)
+
+pub ruleset clone_lemmas = (EndsInClones-next)

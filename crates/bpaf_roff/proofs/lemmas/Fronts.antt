@@ -18,3 +18,5 @@ KeepsFront-more old now more h = take-append-le (length old) now more (omega (ar
 -- one call after another
 pub KeepsFront-trans : {X : Type 0} (old now new : List X) → KeepsFront old now → KeepsFront now new → KeepsFront old new
 KeepsFront-trans old now new h k = grind (arith, common_steps, take-append-drop (length old) now, KeepsFront-later old)
+
+pub ruleset front_lemmas = (KeepsFront-later, KeepsFront-trans, KeepsFront-more)

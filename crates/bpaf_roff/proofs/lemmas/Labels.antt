@@ -1,6 +1,6 @@
 -- What an appended text, a sum and a cut do to the labels, and to the pieces that they show.
 use Rattle.std.proofs.lemmas.Grind.{common_steps}
-use Rattle.std.proofs.Common.{◌≡◌, ℕ, zero, suc, ◌+◌, ◌-◌, ◌<◌, ◌≤◌, Bool, true, false, List, [], ◌∷◌, ◌++◌, length, take, drop, refl, ap, ◌∙◌, subst, arith, length-append, length-drop, take_all, take-append-drop}
+use Rattle.std.proofs.Common.{◌≡◌, ℕ, suc, ◌+◌, ◌-◌, ◌<◌, ◌≤◌, Bool, true, false, List, [], ◌∷◌, ◌++◌, length, take, drop, refl, ap, ◌∙◌, subst, arith, length-append, length-drop, take_all, take-append-drop}
 use Rattle.std.proofs.lemmas.List.{take-append-le, drop-append-le, drop_all, length-take-le, drop-take}
 use Rattle.std.proofs.Math.Seq.{take-add}
 use Rattle.std.proofs.lemmas.List.Sums.{sum_by-cons}
@@ -101,9 +101,8 @@ module _ {T : Type 0} where
   pieces_of-take x y at p c = grind arith
 
   pub Cuts-take : (k : ℕ) (ls : List (Label T)) (at : ℕ) (p : List ℕ) → Cuts ls at p → Cuts (take k ls) at (take (end_of at (take k ls) - at) p)
-  Cuts-take zero ls at p c = let e : at - at ≡ 0 = omega arith in rw e refl
-  Cuts-take (suc k) [] at p c = let e : at - at ≡ 0 = omega arith in rw e refl
   Cuts-take (suc k) (l ∷ ls) at p c = grind (arith, Cuts-take k ls l.end, end_of-take k ls l.end, reach k l ls at p c, take_front, drop-take, length-take-le, length-drop)
+  Cuts-take x y at p c = grind arith
 
   -- they end between characters
   pub cut_at : (k : ℕ) (ls : List (Label T)) (p : List ℕ) → Cuts ls 0 p → IsCharBoundary p (end_of 0 (take k ls))
@@ -117,9 +116,6 @@ module _ {T : Type 0} (eq : T → T → Bool) (squash : Bool) (t : T) where
   -- the last label was removed, and what follows it is appended
   pub with_label-popped : (ls others : List (Label T)) (o : Option (Label T)) (l : Label T) (e : ℕ) → ls ≡ others ++ option_to_list o → o ≡ Some l → with_label eq squash ls t e ≡ others ++ followed_by eq squash l t e
   with_label-popped ls others o l e was is = rw (was, is) (with_label-push others l e)
-
-  pub followed_by-same : (l : Label T) (e : ℕ) → (squash && eq l.label t) ≡ true → followed_by eq squash l t e ≡ record l { end = e } ∷ []
-  followed_by-same l e same = ap (λ b. if b then record l { end = e } ∷ [] else l ∷ record { end = e; label = t } ∷ []) same
 
   pub followed_by-other : (l : Label T) (e : ℕ) → (squash && eq l.label t) ≡ false → followed_by eq squash l t e ≡ l ∷ record { end = e; label = t } ∷ []
   followed_by-other l e other = ap (λ b. if b then record l { end = e } ∷ [] else l ∷ record { end = e; label = t } ∷ []) other
@@ -173,3 +169,7 @@ module _ {T : Type 0} (eq : T → T → Bool) (squash : Bool) (t : T) (end e : �
 pub with_texts-push : {T : Type 0} (eq : T → T → Bool) (m : Labelled T) (xs : List (T × List ℕ)) (x : T × List ℕ) → with_texts eq m (xs ++ x ∷ []) ≡ with_text eq (with_texts eq m xs) x.0 x.1
 with_texts-push eq m [] x = refl
 with_texts-push eq m (y ∷ xs) x = with_texts-push eq (with_text eq m y.0 y.1) xs x
+
+pub ruleset labels_lemmas = (end_of-push, ending_at-push, with_label-push, length-pieces_of, payload_len-pieces_of)
+
+pub ruleset append_lemmas = (labelled-with_label, Cuts-with_label)

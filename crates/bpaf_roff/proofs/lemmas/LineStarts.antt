@@ -83,3 +83,5 @@ signs-push (p ∷ ps) r = rw (signs-push ps r, append_assoc (signs_of p)) refl
 -- one more sign
 pub text_after-push : (q : Apostrophes) (before : List ℕ) (xs : List Sign) (s : Sign) → text_after q before (xs ++ s ∷ []) ≡ text_after q before xs ++ sign_text q (before ++ text_after q before xs) s
 text_after-push q before xs s = text_after-append q before xs (s ∷ []) ∙ ap (λ t. text_after q before xs ++ t) (append-nil (sign_text q (before ++ text_after q before xs) s))
+
+pub ruleset line_start_lemmas = (is_line_start-last, newline_ends, nothing_ends)

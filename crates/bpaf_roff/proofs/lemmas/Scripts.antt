@@ -36,3 +36,5 @@ scripts_sum-push s (other ∷ others) more = scripts_sum-push (script_sum s othe
 -- the pieces that an iterator over them gives
 pub drained : (ps : List (Piece Escape)) (xs : List (Bor Escape × Bor (List ℕ))) → Drains (YieldsFirstBy piece_at (λ left. left)) ps xs → map piece_at xs ≡ ps
 drained ps xs run = items_from_drains xs (run.1.0, run.1.1, λ _. (run.0, run.1.2)) (YieldsList-from_first piece_at (λ left. left) ps refl)
+
+pub ruleset script_lemmas = (with_pieces-with_pieces, only_adds_later)

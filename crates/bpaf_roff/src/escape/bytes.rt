@@ -25,6 +25,7 @@ fn write_spaces<A: Allocator>(out: &mut Vec<u8, A>, byte: u8) -> Result<(), Allo
     Ok(())
 }
 
+#[tactic(auto, using(crate::proofs::lemmas::Fronts::front_lemmas))]
 fn write_argument<A: Allocator>(out: &mut Vec<u8, A>, bytes: &[u8]) -> Result<(), AllocError>
     ensures ok { OnOk result (out.new.items ≡ out.old.items ++ flat_map spaces_text bytes.now) }
     ensures kept { KeepsFront out.old.items out.new.items }
@@ -135,6 +136,7 @@ fn write_block<A: Allocator>(
 /// Returns whether a line starts after the piece. What blocks become goes through `room`, which is passed in since to
 /// clear it for each piece would take time.
 #[inline(always)]
+#[tactic(auto, using(crate::proofs::lemmas::Fronts::front_lemmas))]
 pub(crate) fn write_piece<A: Allocator>(
     out: &mut Vec<u8, A>,
     room: &mut [u8; ROOM],

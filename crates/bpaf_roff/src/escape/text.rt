@@ -27,6 +27,7 @@ pub struct Context {
 }
 
 // Whether the output is at a line start after a byte, whatever was written before.
+#[tactic(auto, using(crate::proofs::lemmas::LineStarts::line_start_lemmas))]
 fn ends_line(label: Escape, byte: u8) -> bool
     ensures { (apostrophes : Apostrophes) (before : List ℕ)
         → result ≡ is_line_start (before ++ byte_text apostrophes before label byte) }
@@ -197,6 +198,7 @@ fn put_sign(
 
 // Puts what the byte at an index becomes, whatever it is.
 #[inline(always)]
+#[tactic(auto, using(crate::proofs::lemmas::Texts::sign_is))]
 fn put_byte(room: &mut [u8; ROOM], at: usize, context: Context, bytes: &[u8], index: usize) -> usize
     requires text { IsText context.label }
     requires within { index < length bytes.now }

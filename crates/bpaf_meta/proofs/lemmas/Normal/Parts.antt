@@ -71,18 +71,15 @@ or_turn seen ts t us = trees_then_then ts (after_commands seen (with_shown t)) (
 
 -- a list of several
 pub and_several : {A : Type 0} (fs : List (Form A)) → 1 < length fs → and_form (forms_of fs) ≡ and_of (forms_of fs)
-and_several [] h = absurd (omega arith)
-and_several (f ∷ []) h = absurd (omega arith)
 and_several (f ∷ (g ∷ fs)) h = refl
+and_several fs h = absurd (omega arith)
 
 pub or_several : {A : Type 0} (fs : List (Form A)) → 1 < length fs → or_form (forms_of fs) ≡ required (or_of (forms_of fs))
-or_several [] h = absurd (omega arith)
-or_several (f ∷ []) h = absurd (omega arith)
 or_several (f ∷ (g ∷ fs)) h = refl
+or_several fs h = absurd (omega arith)
 
 pub choice_several : {A : Type 0} (ms : List (Meta A)) → 1 < length ms → choice_form (trees_of ms) ≡ or_of (trees_of ms)
-choice_several [] h = absurd (omega arith)
-choice_several (m ∷ []) h = absurd (omega arith)
 choice_several (m ∷ (n ∷ ms)) h = refl
+choice_several ms h = absurd (omega arith)
 
 pub ruleset parts_lemmas = (trees_then_none, forms_of_push, with_shown_skip, with_shown_other, after_repeated, after_kept)

@@ -4,7 +4,7 @@ use Rattle.std.specs.Prelude.{OnOk, OnErr, flat_map, if◌then◌else◌}
 use Rattle.std.proofs.lemmas.List.Sums.{fold-append}
 use Rattle.bpaf_doc.specs.declared.buffer.Style.{Style}
 use Rattle.bpaf_doc.specs.Buffer.Growth.{Grows}
-use Rattle.bpaf_doc.specs.Buffer.Parts.{Part, Text, Start, End}
+use Rattle.bpaf_doc.specs.Buffer.Parts.{Part, Text}
 use Rattle.bpaf_doc.specs.Buffer.Writes.{Write, same_style, part_then_text, plain, with_text, with_write, with_writes}
 use Rattle.bpaf_meta.specs.Usage.Writes.{separated}
 
@@ -37,8 +37,7 @@ alone_twice a b s = rw (same_as_itself s) refl
 
 part_twice : (p : Part) (a b : List ℕ) (s : Style) → with_text (part_then_text p a s) b s ≡ part_then_text p (a ++ b) s
 part_twice (Text c k) a b s = grind (arith, same_as_itself, append_assoc, alone_twice)
-part_twice (Start m) a b s = ap (λ ps. Start m ∷ ps) (alone_twice a b s)
-part_twice (End m) a b s = ap (λ ps. End m ∷ ps) (alone_twice a b s)
+part_twice p a b s = ap (λ ps. p ∷ ps) (alone_twice a b s)
 
 filled : (q : Part) (qs : List Part) (b : List ℕ) (s : Style) → IsFilled (with_text (q ∷ qs) b s)
 filled q qs b s = grind arith

@@ -1,7 +1,7 @@
 -- The positional check as it goes through a tree. These definitions only lead from the code to `Misplaced`.
 use Rattle.std.specs.Prelude.{◌≡◌, Bool, false, ◌&&◌, ◌||◌, not, if◌then◌else◌, Option, Some, None, Result, Ok, Err, IfSome}
 use Rattle.std.specs.Borrow.{Bor}
-use Rattle.bpaf_meta.specs.Content.{Tree, and_of, or_of, optional, required, adjacent, item, many, subsection, suffix, skip, custom_usage, strict, Trees, no_trees, tree, Leaf, any, positional, command, flag, argument}
+use Rattle.bpaf_meta.specs.Content.{Tree, and_of, or_of, optional, required, adjacent, item, many, subsection, suffix, skip, custom_usage, strict, Trees, no_trees, tree, Leaf, positional, command}
 use Rattle.bpaf_meta.specs.View.{leaf_of}
 use Rattle.bpaf_meta.specs.declared.item.Item.{Item}
 use Rattle.bpaf_meta.specs.Meta.Misplaced.{is_positional, first_item}
@@ -38,11 +38,8 @@ abbrev mutual
 
   -- a command's own tree
   pub walked_within : Leaf → Check
-  walked_within (any m w h) = fine false
-  walked_within (positional m h) = fine false
   walked_within (command n s h t i) = walked t false
-  walked_within (flag n s e h) = fine false
-  walked_within (argument n s m e h) = fine false
+  walked_within l = fine false
 
   pub walked_parts : Trees → Bool → Check
   walked_parts no_trees a = fine a

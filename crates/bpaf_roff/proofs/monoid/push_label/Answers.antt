@@ -1,14 +1,6 @@
 use Rattle.std.proofs.Common.{◌∷◌, [], ◌++◌, ◌∙◌, ap, sym, append_assoc}
-use Rattle.bpaf_roff.proofs.lemmas.Labels.{with_label-popped, followed_by-same, followed_by-other}
+use Rattle.bpaf_roff.proofs.lemmas.Labels.{with_label-popped, followed_by-other}
 use Rattle.bpaf_roff.proofs.monoid.push_label.Goals as goal
-
-pub returns-then-joins : goal.returns-then-joins
-returns-then-joins g c =
-    let a = c.args in
-    let others = c.pop.new.self.items in
-    c.push_reserved-then-joins.ensures.items
-    ∙ sym (with_label-popped g.T.PartialEq.eq a.squash a.label a.labels.now.items others c.pop.result c.in-Some.last a.end c.pop.ensures.items c.in-Some.is
-    ∙ ap (λ x. others ++ x) (followed_by-same g.T.PartialEq.eq a.squash a.label c.in-Some.last a.end (sym c.joins.ensures ∙ c.if-joins.true)))
 
 pub returns-else-joins : goal.returns-else-joins
 returns-else-joins g c =

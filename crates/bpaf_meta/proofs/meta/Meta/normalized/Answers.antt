@@ -4,33 +4,15 @@ use Rattle.bpaf_meta.specs.Content.{Tree, skip}
 use Rattle.bpaf_meta.specs.View.{tree_of}
 use Rattle.bpaf_meta.specs.declared.meta.Meta.{Meta}
 use Rattle.bpaf_meta.specs.Meta.Normal.{normalized}
-use Rattle.bpaf_meta.specs.Meta.Sequences.{is_hidden, ShowsSame}
-use Rattle.bpaf_meta.specs.Meta.Shape.{HasStrict, HasUsageShape, KeepsStrict}
-use Rattle.bpaf_meta.proofs.lemmas.Normal.Keeps.{normalized_shows}
-use Rattle.bpaf_meta.proofs.lemmas.Normal.Shaped.{normalized_shape}
+use Rattle.bpaf_meta.specs.Meta.Sequences.{is_hidden}
+use Rattle.bpaf_meta.specs.Meta.Shape.{HasStrict}
 use Rattle.bpaf_meta.proofs.lemmas.Normal.Plain.{normalized_skip}
 use Rattle.bpaf_meta.proofs.lemmas.Normal.Twice.{normalized_twice}
-use Rattle.bpaf_meta.proofs.lemmas.Normal.Marks.{normalized_strict}
 use Rattle.bpaf_meta.proofs.meta.Meta.normalized.Goals as goal
 
 -- what holds of the tree of the table holds of the answer
 of_table : {A : Type 0} (u : Bool) (t : Tree) (r : Result (Meta A) AllocError) (P : Tree → Type 0) → P (normalized u t) → IfOk r (λ m. tree_of m ≡ normalized u t) → IfOk r (λ m. P (tree_of m))
 of_table u t r P h4 h5 = grind arith
-
-pub returns-clause-shape : goal.returns-clause-shape
-returns-clause-shape g c = of_table c.args.for_usage (tree_of c.args.self.now) c.form_of_table.result (HasUsageShape c.args.for_usage) (normalized_shape c.args.for_usage (tree_of c.args.self.now)) c.form_of_table.ensures
-
-pub returns-clause-shows : goal.returns-clause-shows
-returns-clause-shows g c =
-    let u = c.args.for_usage in
-    let t = tree_of c.args.self.now in
-    of_table u t c.form_of_table.result (λ n. ShowsSame u n t) (normalized_shows u t) c.form_of_table.ensures
-
-pub returns-clause-strict : goal.returns-clause-strict
-returns-clause-strict g c =
-    let u = c.args.for_usage in
-    let t = tree_of c.args.self.now in
-    of_table u t c.form_of_table.result (KeepsStrict u t) (normalized_strict u t) c.form_of_table.ensures
 
 pub returns-clause-twice : goal.returns-clause-twice
 returns-clause-twice g c =

@@ -42,12 +42,3 @@ loop-rest-preserved g c =
           ∙ ap (λ xs. is_line_start (before ++ text_after q before xs)) split ∙ inv.line_start;
       kept = KeepsFront-trans a.out.now.items c.loop-rest.out.items c.write_block.new.out.items inv.kept c.write_block.ensures.kept;
     }
-
-pub returns-clause-ok : goal.returns-clause-ok
-returns-clause-ok g c = c.in_ok-after.ensures.ok ∙ c.loop-rest.invariant.items
-
-pub returns-clause-line_start : goal.returns-clause-line_start
-returns-clause-line_start g c = c.in_ok-after.ensures.line_start ∙ c.loop-rest.invariant.line_start
-
-pub returns-clause-kept : goal.returns-clause-kept
-returns-clause-kept g c = KeepsFront-trans c.args.out.now.items c.loop-rest.out.items c.write_block-2.new.out.items c.loop-rest.invariant.kept c.write_block-2.ensures.kept

@@ -1,14 +1,7 @@
-use Rattle.std.proofs.Common.{◌≡◌, ◌-◌, ◌∙◌, take, string_bytes, ap, arith}
+use Rattle.std.proofs.Common.{◌≡◌, ◌-◌, take, string_bytes, ap, arith}
 use Rattle.bpaf_roff.specs.Steps.Labels.{end_of}
-use Rattle.bpaf_roff.proofs.lemmas.Labels.{labelled, pieces_of-take, Cuts-take, cut_at}
+use Rattle.bpaf_roff.proofs.lemmas.Labels.{labelled, pieces_of-take, Cuts-take}
 use Rattle.bpaf_roff.proofs.monoid.FreeMonoid.truncate.Goals as goal
-
-pub truncate-requires-2 : goal.truncate-requires-2
-truncate-requires-2 g c =
-    let m = c.self.inside in
-    let end : c.end_of_last-end.result ≡ end_of 0 (take c.args.count m.labels.items) = c.end_of_last-end.ensures ∙ ap (end_of 0) (c.as_slice.ensures.value ∙ c.truncate.ensures.items) in
-    let cut = cut_at c.args.count m.labels.items (string_bytes m.payload) c.self.invariant in
-    rw end (λ _. (cut.0, λ _. cut.1))
 
 pub invariant_of-self : goal.invariant_of-self
 invariant_of-self g c =
