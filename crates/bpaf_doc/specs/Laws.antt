@@ -1,5 +1,6 @@
 -- Theorems about the pages as functions.
-use Rattle.bpaf_doc.specs.Words.{ℕ, ◌^◌, ◌<◌, Bool, List, length, Part, HasUtf8Texts, IsWellNested}
+use Rattle.std.specs.Prelude.{◌<◌, ◌^◌}
+use Rattle.bpaf_doc.specs.Words.{ℕ, Bool, List, length, Part, HasUtf8Texts, IsWellNested}
 use Rattle.bpaf_doc.specs.Console.Layout.{IsLayout}
 use Rattle.bpaf_doc.specs.Console.Exact.{console_page}
 use Rattle.bpaf_doc.specs.Html.Page.{IsHtmlPageOf, IsHtmlTextPageOf}

@@ -1,6 +1,7 @@
 -- What an answer in HTML or markdown is cut into: the marks that are put around the texts, and the fragments of the
 -- document.
-use Rattle.bpaf_doc.specs.Words.{◌≡◌, Bool, true, List, [], ◌∷◌, ◌++◌, map, IsTrue, Style}
+use Rattle.std.specs.Prelude.{◌++◌, ◌∷◌, ◌≡◌}
+use Rattle.bpaf_doc.specs.Words.{Bool, true, List, [], map, IsTrue, Style}
 use Rattle.bpaf_doc.specs.Html.Fragments.{Fragment, TextStart, TextEnd}
 
 pub data Snippet (M : Type 0) : Type 0 where

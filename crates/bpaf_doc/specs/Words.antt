@@ -1,6 +1,6 @@
 -- What most of these definitions are written with: lists, numbers and tests of the standard library, the words of roff,
 -- the styles and blocks, and parts and chunks. Other files take these names from here.
-pub use Rattle.std.specs.Prelude.{All, Bool, IsTrue, List, MatchOption, None, Option, Some, [], codes, count_by, drop, false, filter, find, flat_map, fold, if◌then◌else◌, length, map, max, min, nat_eq, nat_le, nat_lt, not, refl, replicate, reverse, slice_get, slice_index, slice_range, string_bytes, suc, sum_by, take, true, unwrap_or, zero, ℕ, ⊤, ◌&&◌, ◌++◌, ◌+◌, ◌-◌, ◌<◌, ◌==◌, ◌^◌, ◌||◌, ◌↔◌, ◌∷◌, ◌≡◌, ◌≢◌, ◌≤◌, ◌⊎◌}
+pub use Rattle.std.specs.Prelude.{All, Bool, IsTrue, List, MatchOption, None, Option, Some, [], codes, count_by, drop, false, filter, find, flat_map, fold, length, map, max, min, nat_eq, nat_le, nat_lt, not, refl, replicate, reverse, slice_get, slice_index, slice_range, string_bytes, suc, sum_by, take, true, unwrap_or, zero, ℕ, ⊤}
 pub use Rattle.std.specs.List.{AllByRecursion, AllPass, after_first, after_last, before_first, ends_with, list_all, list_any, position_or_len, slice_split}
 pub use Rattle.std.specs.Str.{IsUtf8, bytes_eq, str_to_ascii_uppercase, trim_end}
 pub use Rattle.std.specs.Int.{is_in_range}

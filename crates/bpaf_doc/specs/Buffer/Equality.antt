@@ -1,6 +1,7 @@
 -- Which documents are equal, and which comes first. Parts are compared in order: by kind, then by text, then by style
 -- or block.
-use Rattle.bpaf_doc.specs.Words.{◌≡◌, ℕ, ◌↔◌, IsTrue, Bool, List, nat_eq, Part, Text, Start, End, part_bytes}
+use Rattle.std.specs.Prelude.{◌↔◌, ◌≡◌}
+use Rattle.bpaf_doc.specs.Words.{ℕ, IsTrue, Bool, List, nat_eq, Part, Text, Start, End, part_bytes}
 use Rattle.std.specs.Ordering.{nat_cmp, on, then_cmp, eq_of_both}
 use Rattle.std.specs.Cmp.Lexicographic.{slice_cmp, pointwise}
 use Rattle.std.specs.declared.cmp.Ordering.{Ordering}

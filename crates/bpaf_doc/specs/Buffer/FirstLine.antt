@@ -1,5 +1,6 @@
 -- The first line of a document.
-use Rattle.bpaf_doc.specs.Words.{◌≡◌, ℕ, true, if◌then◌else◌, List, [], ◌∷◌, Option, None, Some, list_any, before_first, after_first, Part, Text}
+use Rattle.std.specs.Prelude.{if◌then◌else◌, ◌∷◌, ◌≡◌}
+use Rattle.bpaf_doc.specs.Words.{ℕ, true, List, [], Option, None, Some, list_any, before_first, after_first, Part, Text}
 use Rattle.bpaf_doc.specs.Buffer.Writes.{is_newline}
 
 -- the leading texts up to the first newline or mark, without either

@@ -1,5 +1,6 @@
 -- How a document grows, and how far it is at a checkpoint.
-use Rattle.bpaf_doc.specs.Words.{◌≡◌, ℕ, List, length, Part, HasUtf8Texts, document_bytes}
+use Rattle.std.specs.Prelude.{◌≡◌}
+use Rattle.bpaf_doc.specs.Words.{ℕ, List, length, Part, HasUtf8Texts, document_bytes}
 use Rattle.bpaf_doc.specs.Buffer.Writes.{Write, with_writes}
 
 -- some writes lead from the first list of parts to the second

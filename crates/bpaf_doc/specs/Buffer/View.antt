@@ -2,7 +2,8 @@
 use Rattle.bpaf_doc.specs.declared.buffer.Part.TheVariants as handed
 use Rattle.bpaf_doc.specs.declared.buffer.{Part.Part as Handed, Token.Token}
 use Rattle.bpaf_doc.specs.declared.buffer.Token.TheVariants as token
-use Rattle.bpaf_doc.specs.Words.{List, [], ◌∷◌, ⊤, Part, Text, Start, End}
+use Rattle.std.specs.Prelude.{◌∷◌}
+use Rattle.bpaf_doc.specs.Words.{List, [], ⊤, Part, Text, Start, End}
 
 -- the part that was returned
 abbrev pub part_of : Handed → Part

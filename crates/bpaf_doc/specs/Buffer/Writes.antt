@@ -1,5 +1,6 @@
 -- What is written into a document, and the parts that it leaves there.
-use Rattle.bpaf_doc.specs.Words.{ℕ, Bool, if◌then◌else◌, List, [], ◌∷◌, ◌++◌, ◌==◌, fold, flat_map, codes, list_any, before_first, after_first, Style, Block, Part, Text, Start, End}
+use Rattle.std.specs.Prelude.{if◌then◌else◌, ◌++◌, ◌==◌, ◌∷◌}
+use Rattle.bpaf_doc.specs.Words.{ℕ, Bool, List, [], fold, flat_map, codes, list_any, before_first, after_first, Style, Block, Part, Text, Start, End}
 use Rattle.std.specs.Borrow.{Bor}
 use Rattle.bpaf_roff.specs.Bytes as byte
 use Rattle.bpaf_doc.specs.declared.buffer.Style.TheVariants as style

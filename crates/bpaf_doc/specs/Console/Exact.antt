@@ -2,7 +2,8 @@
 -- another. What depends on the place in the document, such as margins and what brief hides, comes from the counting
 -- definitions of `Margin` and `Shown`. The ink and the laws of `IsLayout` are theorems about this function
 -- (`specs/Laws`): whoever relies on them need not read it.
-use Rattle.bpaf_doc.specs.Words.{ℕ, ◌+◌, ◌-◌, Bool, true, false, not, ◌&&◌, ◌||◌, List, [], ◌∷◌, ◌++◌, codes, take, replicate, min, nat_eq, nat_lt, nat_le, if◌then◌else◌, ends_with, trim_end, bytes_eq, Block, Part, Text, Start, End, Chunk, Raw, columns, has_some, numbered, shown_chunks, is_term_ref, blank}
+use Rattle.std.specs.Prelude.{if◌then◌else◌, ◌&&◌, ◌++◌, ◌+◌, ◌-◌, ◌||◌, ◌∷◌}
+use Rattle.bpaf_doc.specs.Words.{ℕ, Bool, true, false, not, List, [], codes, take, replicate, min, nat_eq, nat_lt, nat_le, ends_with, trim_end, bytes_eq, Block, Part, Text, Start, End, Chunk, Raw, columns, has_some, numbered, shown_chunks, is_term_ref, blank}
 use Rattle.bpaf_doc.specs.declared.buffer.Block.TheVariants as blocks
 use Rattle.bpaf_doc.specs.Console.Margin.{margin, is_skipped}
 

@@ -1,5 +1,6 @@
 -- The ink of a console page in full: that of the document's texts.
-use Rattle.bpaf_doc.specs.Words.{◌≡◌, ℕ, Bool, true, false, not, List, flat_map, IsTrue, list_any, Part, Text, Start, End, ink, document_ink, HasUtf8Texts, console_ink, is_term_ref, mark_bytes}
+use Rattle.std.specs.Prelude.{◌≡◌}
+use Rattle.bpaf_doc.specs.Words.{ℕ, Bool, true, false, not, List, flat_map, IsTrue, list_any, Part, Text, Start, End, ink, document_ink, HasUtf8Texts, console_ink, is_term_ref, mark_bytes}
 
 -- the ink of a text, or the backquote of a TermRef mark
 abbrev pub backquoted_part_ink : Part → List ℕ

@@ -1,5 +1,6 @@
 -- What a console text may look like: a layout of a document at a width.
-use Rattle.bpaf_doc.specs.Words.{◌≡◌, ◌≢◌, ℕ, ◌+◌, ◌<◌, ◌≤◌, max, Bool, true, false, not, ◌&&◌, ◌==◌, IsTrue, ◌⊎◌, List, [], ◌∷◌, ◌++◌, map, length, take, sum_by, count_by, flat_map, All, codes, if◌then◌else◌, list_any, list_all, before_first, after_last, slice_split, trim_end, Block, Part, Text, Start, End, ink, Chunk, Raw, Paragraph, LineBreak, code_weight, columns, is_ordinary, is_inked, is_raw, is_whole_line, has_some, starts, numbered, shown_chunks, console_ink, is_term_ref, mark_bytes}
+use Rattle.std.specs.Prelude.{if◌then◌else◌, ◌&&◌, ◌++◌, ◌+◌, ◌<◌, ◌==◌, ◌∷◌, ◌≡◌, ◌≢◌, ◌≤◌, ◌⊎◌}
+use Rattle.bpaf_doc.specs.Words.{ℕ, max, Bool, true, false, not, IsTrue, List, [], map, length, take, sum_by, count_by, flat_map, All, codes, list_any, list_all, before_first, after_last, slice_split, trim_end, Block, Part, Text, Start, End, ink, Chunk, Raw, Paragraph, LineBreak, code_weight, columns, is_ordinary, is_inked, is_raw, is_whole_line, has_some, starts, numbered, shown_chunks, console_ink, is_term_ref, mark_bytes}
 use Rattle.bpaf_roff.specs.Bytes as byte
 use Rattle.bpaf_doc.specs.declared.buffer.Block.TheVariants as blocks
 use Rattle.bpaf_doc.specs.Console.Margin.{is_skipped, margin, greatest, greatest_margin}

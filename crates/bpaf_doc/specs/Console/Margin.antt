@@ -1,5 +1,6 @@
 -- The margin at each place of a document, by counting its marks.
-use Rattle.bpaf_doc.specs.Words.{ℕ, ◌+◌, Bool, true, false, ◌&&◌, ◌||◌, ◌==◌, List, [], ◌∷◌, map, filter, take, drop, max, fold, sum_by, nat_le, if◌then◌else◌, list_any, position_or_len, before_first, after_last, Part, Text, Start, End, columns, numbered, stays_open}
+use Rattle.std.specs.Prelude.{if◌then◌else◌, ◌&&◌, ◌+◌, ◌==◌, ◌||◌, ◌∷◌}
+use Rattle.bpaf_doc.specs.Words.{ℕ, Bool, true, false, List, [], map, filter, take, drop, max, fold, sum_by, nat_le, list_any, position_or_len, before_first, after_last, Part, Text, Start, End, columns, numbered, stays_open}
 use Rattle.bpaf_doc.specs.declared.buffer.Block.TheVariants as blocks
 
 -- the greatest of some numbers, or 0

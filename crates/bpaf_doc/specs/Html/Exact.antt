@@ -1,7 +1,8 @@
 -- An HTML page as one function of the document, by the rules of docs/html.md: what each fragment writes depends on the
 -- text and the fragments before it. `render_html` returns exactly this text. The laws of `Html` are theorems about it
 -- (proofs/lemmas/Html/Exact, proofs/lemmas/Html/Meets).
-use Rattle.bpaf_doc.specs.Words.{ℕ, zero, suc, Bool, true, false, ◌||◌, List, [], ◌∷◌, ◌++◌, Option, Some, None, reverse, flat_map, if◌then◌else◌, codes, nat_eq, ends_with, Style, Block, Part, Raw}
+use Rattle.std.specs.Prelude.{if◌then◌else◌, ◌++◌, ◌||◌, ◌∷◌}
+use Rattle.bpaf_doc.specs.Words.{ℕ, zero, suc, Bool, true, false, List, [], Option, Some, None, reverse, flat_map, codes, nat_eq, ends_with, Style, Block, Part, Raw}
 use Rattle.bpaf_doc.specs.declared.buffer.Block.TheVariants as blocks
 use Rattle.bpaf_doc.specs.Html.Fragments.{Fragment, TextStart, Shown, TextEnd, Hidden, Start, End, shown_fragments}
 use Rattle.bpaf_doc.specs.Html.Page.{opening_tag, closing_tag, style_elements, block_elements, escaped_character, is_definition_list, style_sheet}

@@ -1,7 +1,8 @@
 -- What HTML and markdown show of a document, in order: each shown text with its chunks, each hidden text, and each
 -- mark. In brief the last chunk of a console text may be the Paragraph that hides what follows; HTML and markdown leave
 -- that Paragraph out.
-use Rattle.bpaf_doc.specs.Words.{Bool, not, ◌&&◌, List, [], ◌∷◌, ◌++◌, map, take, false, flat_map, if◌then◌else◌, before_first, Style, Block, Part, Text, Start as PartStart, End as PartEnd, Chunk, is_paragraph, numbered, is_hidden, shown_chunks}
+use Rattle.std.specs.Prelude.{if◌then◌else◌, ◌&&◌, ◌++◌, ◌∷◌}
+use Rattle.bpaf_doc.specs.Words.{Bool, not, List, [], map, take, false, flat_map, before_first, Style, Block, Part, Text, Start as PartStart, End as PartEnd, Chunk, is_paragraph, numbered, is_hidden, shown_chunks}
 
 -- the start of a shown text, a chunk of it, its end, a hidden text, or a mark
 pub data Fragment : Type 0 where

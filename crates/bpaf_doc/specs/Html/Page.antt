@@ -1,6 +1,7 @@
 -- What an HTML answer promises: it can be cut into tags, newlines and the fragments of the document, in the document's
 -- order.
-use Rattle.bpaf_doc.specs.Words.{◌≡◌, ℕ, ◌==◌, Bool, true, false, not, ◌&&◌, ◌||◌, List, [], ◌∷◌, ◌++◌, map, reverse, filter, flat_map, if◌then◌else◌, IsTrue, codes, list_any, AllPass, Style, Block, Part, Raw, Paragraph, LineBreak, is_inked, is_raw, is_line_byte}
+use Rattle.std.specs.Prelude.{if◌then◌else◌, ◌&&◌, ◌++◌, ◌==◌, ◌||◌, ◌∷◌, ◌≡◌}
+use Rattle.bpaf_doc.specs.Words.{ℕ, Bool, true, false, not, List, [], map, reverse, filter, flat_map, IsTrue, codes, list_any, AllPass, Style, Block, Part, Raw, Paragraph, LineBreak, is_inked, is_raw, is_line_byte}
 use Rattle.bpaf_roff.specs.Bytes as byte
 use Rattle.bpaf_doc.specs.declared.buffer.Style.TheVariants.{Text, Emphasis, Literal, Metavar, Invalid}
 use Rattle.bpaf_doc.specs.declared.buffer.Block.TheVariants.{Header, Section2, Section3, Section4, ItemTerm, ItemBody, DefinitionList, Block as Plain}

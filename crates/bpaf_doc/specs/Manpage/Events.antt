@@ -1,5 +1,6 @@
 -- The events of a document as a manual page. What a part gives depends on the marks before it.
-use Rattle.bpaf_doc.specs.Words.{ℕ, Bool, true, false, List, [], ◌∷◌, ◌++◌, Option, Some, map, reverse, find, flat_map, codes, if◌then◌else◌, after_last, str_to_ascii_uppercase, Style, Block, Part, Text, Start, End, newline_as_blank, argument_word, Font, None, Roman, Bold, Italic}
+use Rattle.std.specs.Prelude.{if◌then◌else◌, ◌++◌, ◌∷◌}
+use Rattle.bpaf_doc.specs.Words.{ℕ, Bool, true, false, List, [], Option, Some, map, reverse, find, flat_map, codes, after_last, str_to_ascii_uppercase, Style, Block, Part, Text, Start, End, newline_as_blank, argument_word, Font, None, Roman, Bold, Italic}
 use Rattle.bpaf_doc.specs.Manpage.Reader.{Event, Control, Span, LineEnd}
 use Rattle.bpaf_doc.specs.declared.buffer.Style.TheVariants as style
 use Rattle.bpaf_doc.specs.declared.buffer.Block.TheVariants as block

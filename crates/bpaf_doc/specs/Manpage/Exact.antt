@@ -2,7 +2,8 @@
 -- on the marks before it. `render_roff` returns exactly the rendering of the page with these pieces. That a reader of
 -- roff reads them as the document's events, where the page takes a document, is a theorem about them
 -- (proofs/lemmas/Manpage/Drafts, proofs/lemmas/Manpage/PageRead).
-use Rattle.bpaf_doc.specs.Words.{ℕ, Bool, List, [], ◌∷◌, ◌++◌, Option, Some, None, reverse, find, flat_map, if◌then◌else◌, str_to_ascii_uppercase, Block, Part, Text, Start, End, Piece, Script, control_pieces, linebreak_pieces, text_pieces, rendering, Handle, Escape}
+use Rattle.std.specs.Prelude.{if◌then◌else◌, ◌++◌, ◌∷◌}
+use Rattle.bpaf_doc.specs.Words.{ℕ, Bool, List, [], Option, Some, None, reverse, find, flat_map, str_to_ascii_uppercase, Block, Part, Text, Start, End, Piece, Script, control_pieces, linebreak_pieces, text_pieces, rendering, Handle, Escape}
 use Rattle.bpaf_doc.specs.Manpage.Events.{places, is_start, last_is_start, is_section_mark, is_term_mark, captured_texts, font_of, start_name, heading_name, end_name, style_name}
 use Rattle.bpaf_doc.specs.declared.buffer.Block.TheVariants as block
 

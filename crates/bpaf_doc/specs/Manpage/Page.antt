@@ -1,5 +1,6 @@
 -- What a rendered page is: a front, and a body that the reader reads, whole, as the page's events.
-use Rattle.bpaf_doc.specs.Words.{◌≡◌, ℕ, true, false, List, [], ◌∷◌, ◌++◌, Option, unwrap_or, codes, map, Part, is_line_start, escaped, Script, no_script, with_pieces, control_pieces, preamble, rendering, Handle}
+use Rattle.std.specs.Prelude.{◌++◌, ◌∷◌, ◌≡◌}
+use Rattle.bpaf_doc.specs.Words.{ℕ, true, false, List, [], Option, unwrap_or, codes, map, Part, is_line_start, escaped, Script, no_script, with_pieces, control_pieces, preamble, rendering, Handle}
 use Rattle.bpaf_doc.specs.Manpage.Reader.{Event, Control, Reads, AtLineStart}
 use Rattle.bpaf_doc.specs.Manpage.Events.{page_events, word_of}
 

@@ -1,6 +1,7 @@
 -- What an unfinished page holds after each part, as its writer keeps it. This is internal: `Manpage/Exact` says what
 -- comes out, and that this comes to it is proved (proofs/lemmas/Manpage/Drafts).
-use Rattle.bpaf_doc.specs.Words.{ℕ, Bool, false, List, [], ◌∷◌, ◌++◌, ◌||◌, Option, Some, None, fold, if◌then◌else◌, str_to_ascii_uppercase, Style, Block, Part, Text, Start, End, RoffText, with_written, control_pieces, text_pieces}
+use Rattle.std.specs.Prelude.{if◌then◌else◌, ◌++◌, ◌||◌, ◌∷◌}
+use Rattle.bpaf_doc.specs.Words.{ℕ, Bool, false, List, [], Option, Some, None, fold, str_to_ascii_uppercase, Style, Block, Part, Text, Start, End, RoffText, with_written, control_pieces, text_pieces}
 use Rattle.bpaf_doc.specs.Manpage.Exact.{name_pieces, closing_pieces}
 use Rattle.bpaf_doc.specs.Manpage.Events.{start_name, heading_name, style_name, font_of, is_section, is_start, is_term_mark}
 

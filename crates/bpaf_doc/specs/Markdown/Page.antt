@@ -1,5 +1,6 @@
 -- What a markdown answer promises: it can be cut into marks and the fragments of the document, in the document's order.
-use Rattle.bpaf_doc.specs.Words.{◌≡◌, ℕ, ◌<◌, ◌==◌, Bool, true, false, not, ◌&&◌, ◌||◌, List, [], ◌∷◌, ◌++◌, map, reverse, filter, flat_map, count_by, if◌then◌else◌, IsTrue, nat_lt, codes, list_any, AllPass, after_last, Style, Part, Raw, starts, is_raw, is_ordinary, is_code_line, is_whole_line, is_paragraph, is_line_break}
+use Rattle.std.specs.Prelude.{if◌then◌else◌, ◌&&◌, ◌++◌, ◌<◌, ◌==◌, ◌||◌, ◌∷◌, ◌≡◌}
+use Rattle.bpaf_doc.specs.Words.{ℕ, Bool, true, false, not, List, [], map, reverse, filter, flat_map, count_by, IsTrue, nat_lt, codes, list_any, AllPass, after_last, Style, Part, Raw, starts, is_raw, is_ordinary, is_code_line, is_whole_line, is_paragraph, is_line_break}
 use Rattle.bpaf_roff.specs.Bytes as byte
 use Rattle.bpaf_doc.specs.declared.buffer.Style.TheVariants.{Text, Emphasis, Literal, Metavar, Invalid}
 use Rattle.bpaf_doc.specs.declared.buffer.Block.TheVariants.{Header, Section3, Section4, ItemTerm, ItemBody, DefinitionList, Mono}

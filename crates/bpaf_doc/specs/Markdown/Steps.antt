@@ -1,6 +1,7 @@
 -- A markdown text as the code keeps it while it writes one fragment after another. This is internal: `Markdown/Exact`
 -- says what comes out, and that these texts are the same is proved (proofs/lemmas/Markdown/Exact).
-use Rattle.bpaf_doc.specs.Words.{ℕ, ◌+◌, ◌-◌, ◌^◌, ◌==◌, Bool, true, false, List, [], ◌++◌, flat_map, if◌then◌else◌, codes, nat_lt, min, Style, Block, Chunk, Raw, Paragraph, LineBreak, code_weight, fence_weight, fold}
+use Rattle.std.specs.Prelude.{if◌then◌else◌, ◌++◌, ◌+◌, ◌-◌, ◌==◌, ◌^◌}
+use Rattle.bpaf_doc.specs.Words.{ℕ, Bool, true, false, List, [], flat_map, codes, nat_lt, min, Style, Block, Chunk, Raw, Paragraph, LineBreak, code_weight, fence_weight, fold}
 use Rattle.bpaf_doc.specs.declared.buffer.Block.TheVariants as blocks
 use Rattle.bpaf_doc.specs.declared.html.markdown.Item.{Item}
 use Rattle.bpaf_doc.specs.declared.html.markdown.Item.TheVariants as items

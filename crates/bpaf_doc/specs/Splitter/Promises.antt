@@ -1,5 +1,6 @@
 -- What the chunks of a text promise.
-use Rattle.bpaf_doc.specs.Words.{◌≡◌, ℕ, ◌≤◌, Bool, ◌||◌, ◌==◌, IsTrue, ◌⊎◌, ⊤, List, [], ◌∷◌, codes, length, drop, slice_range, All, flat_map, list_all, IsUtf8, ink, Chunk, Raw, Paragraph, LineBreak, Plain, Spells, chunk_ink, chunks_of, IsLine, newline, blank}
+use Rattle.std.specs.Prelude.{◌==◌, ◌||◌, ◌∷◌, ◌≡◌, ◌≤◌, ◌⊎◌}
+use Rattle.bpaf_doc.specs.Words.{ℕ, Bool, IsTrue, ⊤, List, [], codes, length, drop, slice_range, All, flat_map, list_all, IsUtf8, ink, Chunk, Raw, Paragraph, LineBreak, Plain, Spells, chunk_ink, chunks_of, IsLine, newline, blank}
 
 -- the text is spelled by its chunks, and by no other list
 pub record IsSpelledOnce (text : List ℕ) : Type 0 where

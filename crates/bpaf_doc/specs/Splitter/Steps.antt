@@ -1,6 +1,7 @@
 -- A run: words of a line and blanks between them, at the start of a text. Cut into chunks as a text of its own, it
 -- gives the same chunks.
-use Rattle.bpaf_doc.specs.Words.{◌≡◌, ◌≢◌, ℕ, ◌≤◌, Bool, true, not, ◌||◌, List, [], length, take, drop, count_by, list_all, is_in_range, IsLine, IsWordEnd}
+use Rattle.std.specs.Prelude.{◌||◌, ◌≡◌, ◌≢◌, ◌≤◌}
+use Rattle.bpaf_doc.specs.Words.{ℕ, Bool, true, not, List, [], length, take, drop, count_by, list_all, is_in_range, IsLine, IsWordEnd}
 
 -- a run of the text ends at this place
 pub record IsRunEnd (text : List ℕ) (end : ℕ) : Type 0 where

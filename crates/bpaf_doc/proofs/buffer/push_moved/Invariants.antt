@@ -1,4 +1,5 @@
-use Rattle.bpaf_doc.proofs.lemmas.Buffer.Words.{◌≡◌, ◌+◌, ◌≤◌, ◌++◌, length, map, take, vec_len, vec_capacity, moved}
+use Rattle.std.specs.Prelude.{◌++◌, ◌+◌, ◌≡◌, ◌≤◌}
+use Rattle.bpaf_doc.proofs.lemmas.Buffer.Words.{length, map, take, vec_len, vec_capacity, moved}
 use Rattle.bpaf_doc.proofs.buffer.push_moved.Given as goal
 
 abbrev pub invariant-loop-part : goal.invariant-loop-part

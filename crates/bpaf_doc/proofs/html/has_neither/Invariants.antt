@@ -1,4 +1,5 @@
-use Rattle.bpaf_doc.proofs.lemmas.Html.Words.{◌≡◌, take, not, list_all}
+use Rattle.std.specs.Prelude.{◌≡◌}
+use Rattle.bpaf_doc.proofs.lemmas.Html.Words.{take, not, list_all}
 use Rattle.memchr.specs.Find.{is_byte2}
 use Rattle.bpaf_doc.proofs.html.has_neither.Given as goal
 

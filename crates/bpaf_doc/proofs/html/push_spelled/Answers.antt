@@ -1,5 +1,6 @@
 -- Each turn writes a run and a block.
-use Rattle.bpaf_doc.proofs.lemmas.Html.Words.{◌≡◌, ◌+◌, ◌++◌, ◌<◌, length, get_or, sym, ap, ap₂, subst, ◌∙◌, ◌-◌, take, arith, string_bytes, take-append-drop, get_or-drop, IsUtf8-drop, spelling_of}
+use Rattle.std.specs.Prelude.{◌++◌, ◌+◌, ◌-◌, ◌<◌, ◌≡◌}
+use Rattle.bpaf_doc.proofs.lemmas.Html.Words.{length, get_or, sym, ap, ap₂, subst, ◌∙◌, take, arith, string_bytes, take-append-drop, get_or-drop, IsUtf8-drop, spelling_of}
 use Rattle.std.specs.Str.{IsUtf8}
 use Rattle.bpaf_doc.proofs.lemmas.Html.Spelled.{block_on, block_begins}
 use Rattle.bpaf_doc.proofs.html.push_spelled.Goals as goal

@@ -1,4 +1,5 @@
-use Rattle.bpaf_doc.proofs.lemmas.Html.Words.{◌≡◌, ◌++◌, length, string_bytes, flat_map, spelling_of}
+use Rattle.std.specs.Prelude.{◌++◌, ◌≡◌}
+use Rattle.bpaf_doc.proofs.lemmas.Html.Words.{length, string_bytes, flat_map, spelling_of}
 use denote.Text.{Utf8}
 use denote.Shadow.{shadow}
 use Rattle.bpaf_doc.proofs.html.push_spelled.Given as goal

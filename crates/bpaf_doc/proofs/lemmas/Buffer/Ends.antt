@@ -1,6 +1,7 @@
 -- What the running ends give: the parts, their texts, and what is added after them.
 use Rattle.std.proofs.lemmas.Grind.{common_steps}
-use Rattle.bpaf_doc.proofs.lemmas.Buffer.Words.{◌≡◌, ℕ, zero, suc, ◌+◌, ◌-◌, ◌^◌, ◌<◌, ◌≤◌, Bool, true, false, List, [], ◌∷◌, ◌++◌, All, map, length, get_or, take, drop, sym, refl, ap, arith, length-append, length-drop, take_all, append_assoc, append-nil, take-append-drop, subst, add-zero, if◌then◌else◌, Option, Some, None, option_to_list, slice_get, IsUtf8, take-append-le, drop-append-le, drop-drop, drop_all, All-nil, All-cons, IsUtf8-append, IsUtf8-nil, IsCharBoundary-from_take, Style, Kind, PartEnd, AreEnds, CanMove, IsEnd, end_before, end_then_text, is_text_of, moved, part_with, parts_from, text_end, with_last_end, with_text_end, Part, Text, HasUtf8Texts, document_bytes, part_bytes, part_then_text, with_text}
+use Rattle.std.specs.Prelude.{if◌then◌else◌, ◌++◌, ◌+◌, ◌-◌, ◌<◌, ◌^◌, ◌∷◌, ◌≡◌, ◌≤◌}
+use Rattle.bpaf_doc.proofs.lemmas.Buffer.Words.{ℕ, zero, suc, Bool, true, false, List, [], All, map, length, get_or, take, drop, sym, refl, ap, arith, length-append, length-drop, take_all, append_assoc, append-nil, take-append-drop, subst, add-zero, Option, Some, None, option_to_list, slice_get, IsUtf8, take-append-le, drop-append-le, drop-drop, drop_all, All-nil, All-cons, IsUtf8-append, IsUtf8-nil, IsCharBoundary-from_take, Style, Kind, PartEnd, AreEnds, CanMove, IsEnd, end_before, end_then_text, is_text_of, moved, part_with, parts_from, text_end, with_last_end, with_text_end, Part, Text, HasUtf8Texts, document_bytes, part_bytes, part_then_text, with_text}
 use Rattle.std.proofs.Math.Seq.{take-add}
 use Rattle.std.specs.Iterator.{YieldsFirstBy}
 use Rattle.std.specs.Option.{option_map}

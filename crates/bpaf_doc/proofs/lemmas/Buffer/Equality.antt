@@ -1,5 +1,6 @@
 -- Equal documents have the same parts.
-use Rattle.bpaf_doc.proofs.lemmas.Buffer.Words.{arith, ◌≡◌, Bool, true, List, ◌∷◌, subst, Part}
+use Rattle.std.specs.Prelude.{◌∷◌, ◌≡◌}
+use Rattle.bpaf_doc.proofs.lemmas.Buffer.Words.{arith, Bool, true, List, subst, Part}
 use Rattle.std.specs.Cmp.Lexicographic.{pointwise}
 use Rattle.std.proofs.lemmas.Bool.{eqb-true, and_parts}
 use Rattle.bpaf_doc.specs.Buffer.Equality.{IsEqualityOfParts, same_document, same_part}

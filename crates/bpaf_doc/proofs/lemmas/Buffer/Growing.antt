@@ -1,5 +1,6 @@
 -- A document that grows by one write after another.
-use Rattle.bpaf_doc.proofs.lemmas.Buffer.Words.{arith, ◌≡◌, List, ◌++◌, sym, ap, ◌∙◌, Result, OnErr, OnOk, fold-append, Grows, IsCheckpointOf, Reached, RollsBack, Part, IsWellNested, Write, with_write, with_writes}
+use Rattle.std.specs.Prelude.{◌++◌, ◌≡◌}
+use Rattle.bpaf_doc.proofs.lemmas.Buffer.Words.{arith, List, sym, ap, ◌∙◌, Result, OnErr, OnOk, fold-append, Grows, IsCheckpointOf, Reached, RollsBack, Part, IsWellNested, Write, with_write, with_writes}
 
 -- what holds anyway holds on an error
 pub on_err : {T E P : Type 0} (r : Result T E) → P → OnErr r P

@@ -1,5 +1,6 @@
 -- The first newline of a text.
-use Rattle.bpaf_doc.proofs.lemmas.Buffer.Words.{◌≡◌, ℕ, ◌<◌, Bool, true, false, List, [], ◌∷◌, length, refl, arith, Option, Some, None, MatchOption, Bor, list_any, position_or_len, IsSplitLine, is_newline}
+use Rattle.std.specs.Prelude.{◌<◌, ◌∷◌, ◌≡◌}
+use Rattle.bpaf_doc.proofs.lemmas.Buffer.Words.{ℕ, Bool, true, false, List, [], length, refl, arith, Option, Some, None, MatchOption, Bor, list_any, position_or_len, IsSplitLine, is_newline}
 use Rattle.std.proofs.lemmas.Str.Pattern.{IsSplitOnceResult, split_once_first}
 
 module _ (p : ℕ → Bool) where

@@ -1,5 +1,6 @@
 -- What is written into a well-nested document leaves it well nested.
-use Rattle.bpaf_doc.proofs.lemmas.Buffer.Words.{rules, arith, ◌≡◌, ℕ, Bool, true, false, List, [], ◌∷◌, ◌++◌, map, sym, refl, ap, ◌∙◌, append_assoc, append-nil, subst, if◌then◌else◌, Bor, list_any, before_first, after_first, fold-append, Style, leading_texts, Part, Text, Start, End, IsWellNested, nothing, text, enclosed, joined, Write, document_of, emphasis, inside, is_newline, pair_write, path_writes, plain, same_style, title_writes, titled, with_text, with_write, with_writes, IsUtf8-encode}
+use Rattle.std.specs.Prelude.{if◌then◌else◌, ◌++◌, ◌∷◌, ◌≡◌}
+use Rattle.bpaf_doc.proofs.lemmas.Buffer.Words.{rules, arith, ℕ, Bool, true, false, List, [], map, sym, refl, ap, ◌∙◌, append_assoc, append-nil, subst, Bor, list_any, before_first, after_first, fold-append, Style, leading_texts, Part, Text, Start, End, IsWellNested, nothing, text, enclosed, joined, Write, document_of, emphasis, inside, is_newline, pair_write, path_writes, plain, same_style, title_writes, titled, with_text, with_write, with_writes, IsUtf8-encode}
 use Rattle.bpaf_doc.specs.declared.buffer.Style.TheVariants as style
 use Rattle.bpaf_doc.specs.declared.buffer.Block.{Block}
 use Rattle.bpaf_doc.specs.declared.buffer.Block.TheVariants as block

@@ -1,5 +1,6 @@
 -- What was written is taken off again.
-use Rattle.bpaf_doc.proofs.lemmas.Buffer.Words.{◌≡◌, ℕ, ◌+◌, ◌-◌, ◌≤◌, List, [], ◌∷◌, ◌++◌, length, take, drop, sym, refl, ap, ◌∙◌, arith, length-append, length-drop, length-take, append_assoc, append-nil, subst, IsUtf8, drop-take, drop_all, length-take-le, take-take, take_at, All-head, All-tail, Style, Kind, PartEnd, AreEnds, IsEnd, MayTake, part_with, parts_from, with_last_end, Grows, Reached, IsCheckpointOf, Part, Text, Start, End, HasUtf8Texts, document_bytes, part_bytes, Write, with_text, with_write, with_writes}
+use Rattle.std.specs.Prelude.{◌++◌, ◌+◌, ◌-◌, ◌∷◌, ◌≡◌, ◌≤◌}
+use Rattle.bpaf_doc.proofs.lemmas.Buffer.Words.{ℕ, List, [], length, take, drop, sym, refl, ap, ◌∙◌, arith, length-append, length-drop, length-take, append_assoc, append-nil, subst, IsUtf8, drop-take, drop_all, length-take-le, take-take, take_at, All-head, All-tail, Style, Kind, PartEnd, AreEnds, IsEnd, MayTake, part_with, parts_from, with_last_end, Grows, Reached, IsCheckpointOf, Part, Text, Start, End, HasUtf8Texts, document_bytes, part_bytes, Write, with_text, with_write, with_writes}
 
 -- a part now is the part before, or a text that became longer
 IsLonger : Part → Part → Type 0

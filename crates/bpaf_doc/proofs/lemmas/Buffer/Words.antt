@@ -11,7 +11,7 @@ pub use Rattle.bpaf_doc.specs.declared.buffer.Block.TheVariants.{InlineBlock, Se
 pub use Rattle.bpaf_doc.specs.declared.buffer.Kind.{Kind}
 pub use Rattle.bpaf_doc.specs.declared.buffer.PartEnd.{PartEnd}
 pub use Rattle.bpaf_doc.specs.declared.buffer.Style.{Style}
-pub use Rattle.std.proofs.Common.{All, Bool, List, MatchOption, None, OnErr, OnOk, Option, Result, Some, [], add-zero, ap, append-nil, append_assoc, arith, drop, false, get_or, if◌then◌else◌, length, length-append, length-drop, length-take, map, option_to_list, refl, rules, string_bytes, subst, suc, sym, take, take-append-drop, take_all, true, vec_capacity, vec_len, zero, ℕ, ◌++◌, ◌+◌, ◌-◌, ◌<◌, ◌^◌, ◌∙◌, ◌∷◌, ◌≡◌, ◌≤◌}
+pub use Rattle.std.proofs.Common.{All, Bool, List, MatchOption, None, OnErr, OnOk, Option, Result, Some, [], add-zero, ap, append-nil, append_assoc, arith, drop, false, get_or, length, length-append, length-drop, length-take, map, option_to_list, refl, rules, string_bytes, subst, suc, sym, take, take-append-drop, take_all, true, vec_capacity, vec_len, zero, ℕ, ◌∙◌}
 pub use Rattle.std.proofs.lemmas.List.{drop-append-le, drop-drop, drop-take, drop_all, length-take-le, take-append-le, take-take, take_at}
 pub use Rattle.std.proofs.lemmas.List.Elements.{All-cons, All-head, All-nil, All-tail}
 pub use Rattle.std.proofs.lemmas.List.Sums.{fold-append}

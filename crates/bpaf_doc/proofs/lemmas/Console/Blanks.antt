@@ -1,5 +1,6 @@
 -- Of two blanks that come to a line without room after its margin nothing is left.
-use Rattle.bpaf_doc.proofs.lemmas.Console.Words.{trim_end, nat_tests, IsUtf8-from_ascii, ink, saturated, placed, ap₂, arith, rules, ◌∙◌, append_assoc, lt-ltb, ◌≡◌, ℕ, zero, suc, ◌+◌, ◌<◌, ◌≤◌, ◌==◌, true, false, List, [], ◌∷◌, ◌++◌, codes, length, replicate, nat_lt, IsUtf8}
+use Rattle.std.specs.Prelude.{◌++◌, ◌+◌, ◌<◌, ◌==◌, ◌∷◌, ◌≡◌, ◌≤◌}
+use Rattle.bpaf_doc.proofs.lemmas.Console.Words.{trim_end, nat_tests, IsUtf8-from_ascii, ink, saturated, placed, ap₂, arith, rules, ◌∙◌, append_assoc, lt-ltb, ℕ, zero, suc, true, false, List, [], codes, length, replicate, nat_lt, IsUtf8}
 use Rattle.bpaf_doc.specs.Console.Steps.Page.{Sheet, DropsBlanks, margin_of, raw_put}
 use Rattle.bpaf_doc.proofs.lemmas.Console.Ink.{ink-blank}
 use Rattle.bpaf_doc.proofs.lemmas.Console.Layout.Stretches.{trim_white}

@@ -1,5 +1,6 @@
 -- A code line that comes to a line past the width.
-use Rattle.bpaf_doc.proofs.lemmas.Console.Words.{bytes_eq, arith, lt-ltb, length-append, ◌≡◌, ℕ, ◌<◌, false, List, [], ◌∷◌, length, nat_tests, and-false}
+use Rattle.std.specs.Prelude.{◌<◌, ◌∷◌, ◌≡◌}
+use Rattle.bpaf_doc.proofs.lemmas.Console.Words.{bytes_eq, arith, lt-ltb, length-append, ℕ, false, List, [], length, nat_tests, and-false}
 use Rattle.bpaf_doc.specs.Console.Steps.Page.{Sheet, IsPastLine, code_put, margin_of, on, raw_put}
 use Rattle.bpaf_doc.proofs.lemmas.Console.Runs.{page_at}
 

@@ -1,5 +1,6 @@
 -- A text that ends in a printable ASCII character has no White_Space at its end.
-use Rattle.bpaf_doc.proofs.lemmas.Console.Words.{common_steps, is_ascii_graphic, is_whitespace, is_not_whitespace, nat_tests, chars-IsAscii, encodes-chars, IsUtf8-from_ascii, IsUtf8-string_bytes, encode_ascii, ink, has_some, replicate-append-replicate, ap, arith, ◌∙◌, ◌≡◌, ℕ, ◌<◌, true, false, List, [], ◌∷◌, ◌++◌, refl, filter, IsUtf8}
+use Rattle.std.specs.Prelude.{◌++◌, ◌<◌, ◌∷◌, ◌≡◌}
+use Rattle.bpaf_doc.proofs.lemmas.Console.Words.{common_steps, is_ascii_graphic, is_whitespace, is_not_whitespace, nat_tests, chars-IsAscii, encodes-chars, IsUtf8-from_ascii, IsUtf8-string_bytes, encode_ascii, ink, has_some, replicate-append-replicate, ap, arith, ◌∙◌, ℕ, true, false, List, [], refl, filter, IsUtf8}
 use Rattle.std.specs.Str.{trim_end}
 use Rattle.bpaf_doc.proofs.lemmas.Console.Ink.{trim-boundary, trim-cut}
 use Rattle.bpaf_doc.proofs.lemmas.Splitter.Pieces.{utf8_cut}

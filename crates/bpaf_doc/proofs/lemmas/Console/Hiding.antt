@@ -1,5 +1,6 @@
 -- Counting the inline blocks that have to end before texts are shown again comes to what the definition of hidden texts says.
-use Rattle.bpaf_doc.proofs.lemmas.Console.Words.{sym, ◌∙◌, ap, arith, append_assoc, append-nil, ◌≡◌, ℕ, zero, suc, Bool, false, not, ◌&&◌, ◌||◌, ◌==◌, List, [], ◌∷◌, ◌++◌, nat_le, nat_tests, or-false, Block, Part, Start, stays_open, is_inline_start, is_inline_end, breaks_off, is_hidden, is_inline, hidden_after}
+use Rattle.std.specs.Prelude.{◌&&◌, ◌++◌, ◌==◌, ◌||◌, ◌∷◌, ◌≡◌}
+use Rattle.bpaf_doc.proofs.lemmas.Console.Words.{sym, ◌∙◌, ap, arith, append_assoc, append-nil, ℕ, zero, suc, Bool, false, not, List, [], nat_le, nat_tests, or-false, Block, Part, Start, stays_open, is_inline_start, is_inline_end, breaks_off, is_hidden, is_inline, hidden_after}
 use Rattle.bpaf_doc.proofs.lemmas.Lists.Opening.{closed, stays_open_is}
 
 start_is : (b : Block) → is_inline_start (Start b) ≡ is_inline b

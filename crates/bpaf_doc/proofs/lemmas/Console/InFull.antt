@@ -1,5 +1,6 @@
 -- The ink of what a console shows in full, part by part.
-use Rattle.bpaf_doc.proofs.lemmas.Console.Words.{enumerate_from, list_any, ◌∙◌, ap, arith, ◌≡◌, ℕ, ◌+◌, true, false, List, [], ◌∷◌, ◌++◌, refl, take, flat_map, All-head, All-tail, Part, part_bytes, part_ink, HasUtf8Texts, shown_part_ink, IsUtf8}
+use Rattle.std.specs.Prelude.{◌++◌, ◌+◌, ◌∷◌, ◌≡◌}
+use Rattle.bpaf_doc.proofs.lemmas.Console.Words.{enumerate_from, list_any, ◌∙◌, ap, arith, ℕ, true, false, List, [], refl, take, flat_map, All-head, All-tail, Part, part_bytes, part_ink, HasUtf8Texts, shown_part_ink, IsUtf8}
 use Rattle.bpaf_doc.specs.Console.Ink.{backquoted_part_ink, is_term_mark, FullInkIsBackquotedInk, FullInkIsDocumentInk}
 use Rattle.bpaf_doc.proofs.lemmas.Splitter.Facts.{ink_of_chunks}
 

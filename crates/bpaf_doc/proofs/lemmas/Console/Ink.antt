@@ -1,6 +1,7 @@
 -- The ink of what the console puts, and a text without its blank end.
 use Rattle.std.specs.Str.{chars, IsUtf8, IsCharBoundary, IsTrimEnd}
-use Rattle.bpaf_doc.proofs.lemmas.Console.Words.{sym, ◌∙◌, ap, arith, ◌≡◌, ℕ, List, [], ◌∷◌, refl, length, take, IsCharBoundary-from_take, ink}
+use Rattle.std.specs.Prelude.{◌∷◌, ◌≡◌}
+use Rattle.bpaf_doc.proofs.lemmas.Console.Words.{sym, ◌∙◌, ap, arith, ℕ, List, [], refl, length, take, IsCharBoundary-from_take, ink}
 
 -- ---- the ink of what is put after a text
 

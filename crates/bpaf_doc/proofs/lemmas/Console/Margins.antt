@@ -1,5 +1,6 @@
 -- A stack of margins, walked over the marks of a document, has the margin at each place on top.
-use Rattle.bpaf_doc.proofs.lemmas.Console.Words.{◌≡◌, ℕ, zero, suc, ◌+◌, ◌*◌, ◌<◌, ◌≤◌, max, ⊤, false, List, [], ◌∷◌, ◌++◌, length, refl, map, filter, take, drop, fold, get_or, nat_le, if◌then◌else◌, enumerate_from, sym, ◌∙◌, ap, arith, add-one, nat_tests, zero-add, add-zero, Part, stays_open, greatest, is_skipped, term_lengths, tab_stop, Shift, Indent, Outdent, Level, part_shift, shifts, is_indent, is_outdent, indents_in_force, margin, greatest_margin}
+use Rattle.std.specs.Prelude.{if◌then◌else◌, ◌*◌, ◌++◌, ◌+◌, ◌<◌, ◌∷◌, ◌≡◌, ◌≤◌}
+use Rattle.bpaf_doc.proofs.lemmas.Console.Words.{ℕ, zero, suc, max, ⊤, false, List, [], length, refl, map, filter, take, drop, fold, get_or, nat_le, enumerate_from, sym, ◌∙◌, ap, arith, add-one, nat_tests, zero-add, add-zero, Part, stays_open, greatest, is_skipped, term_lengths, tab_stop, Shift, Indent, Outdent, Level, part_shift, shifts, is_indent, is_outdent, indents_in_force, margin, greatest_margin}
 use Rattle.bpaf_doc.proofs.lemmas.Lists.Opening.{closed, stays_open_is}
 
 -- ---- the stack, newest first

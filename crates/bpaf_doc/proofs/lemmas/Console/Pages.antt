@@ -1,5 +1,6 @@
 -- What a loop over the parts keeps of the page that it writes.
-use Rattle.bpaf_doc.proofs.lemmas.Console.Words.{arith, ◌≡◌, ℕ, ◌+◌, ◌≤◌, Bool, false, List, ◌∷◌, length, Pairs, Part, hidden_after, Sheet, blank_sheet, pairs_after, part_put, parts_put, no_pairs, tab_stop_from, whole_page}
+use Rattle.std.specs.Prelude.{◌+◌, ◌∷◌, ◌≡◌, ◌≤◌}
+use Rattle.bpaf_doc.proofs.lemmas.Console.Words.{arith, ℕ, Bool, false, List, length, Pairs, Part, hidden_after, Sheet, blank_sheet, pairs_after, part_put, parts_put, no_pairs, tab_stop_from, whole_page}
 
 -- The parts that are left, from this place on, make the page whole.
 pub record IsPageLeft (full : Bool) (document : List Part) (whole : Sheet) (index : ℕ) (pairs : Pairs) (hidden : ℕ) (parts : List Part) (page : Sheet) : Type 0 where

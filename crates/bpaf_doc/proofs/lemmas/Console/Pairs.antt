@@ -1,5 +1,6 @@
 -- What is remembered of empty Block pairs tells of each mark whether it is skipped.
-use Rattle.bpaf_doc.proofs.lemmas.Console.Words.{list_any, position_or_len, enumerate_from, slice_get_past, nat_tests, and_from, and_parts, false≢true, zero-add, add-zero, and-true, and-false, Block, Pairs, Part, Start, End, sym, ◌∙◌, ap, subst, inl, inr, arith, drop-drop, ◌≡◌, ℕ, suc, ◌+◌, ◌-◌, ◌^◌, ◌<◌, ◌≤◌, min, Bool, true, false, ◌&&◌, ◌||◌, ◌==◌, ◌⊎◌, IsTrue, ◌↔◌, List, [], ◌∷◌, Some, length, refl, drop, slice_get, Option, nat_le, nat_lt, is_section4_start, is_section4_end, has_empty_block, after_section4, skips_pair, is_skipped}
+use Rattle.std.specs.Prelude.{◌&&◌, ◌+◌, ◌-◌, ◌<◌, ◌==◌, ◌^◌, ◌||◌, ◌↔◌, ◌∷◌, ◌≡◌, ◌≤◌, ◌⊎◌}
+use Rattle.bpaf_doc.proofs.lemmas.Console.Words.{list_any, position_or_len, enumerate_from, slice_get_past, nat_tests, and_from, and_parts, false≢true, zero-add, add-zero, and-true, and-false, Block, Pairs, Part, Start, End, sym, ◌∙◌, ap, subst, inl, inr, arith, drop-drop, ℕ, suc, min, Bool, true, false, IsTrue, List, [], Some, length, refl, drop, slice_get, Option, nat_le, nat_lt, is_section4_start, is_section4_end, has_empty_block, after_section4, skips_pair, is_skipped}
 use Rattle.bpaf_doc.specs.declared.buffer.Block.TheVariants as blocks
 use Rattle.bpaf_doc.specs.Console.Steps.Text as whole
 use Rattle.bpaf_doc.proofs.lemmas.Console.Layout.Back.{by_test}

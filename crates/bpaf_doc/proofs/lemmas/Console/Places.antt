@@ -1,5 +1,6 @@
 -- The first Section4 end of what follows a place, found by looking at one part after another.
-use Rattle.bpaf_doc.proofs.lemmas.Console.Words.{common_steps, arith, ◌≡◌, ℕ, zero, suc, ◌+◌, ◌<◌, true, false, Some, List, [], ◌∷◌, refl, length, drop, Part}
+use Rattle.std.specs.Prelude.{◌+◌, ◌<◌, ◌∷◌, ◌≡◌}
+use Rattle.bpaf_doc.proofs.lemmas.Console.Words.{common_steps, arith, ℕ, zero, suc, true, false, Some, List, [], refl, length, drop, Part}
 use Rattle.std.specs.List.{slice_get, position_or_len}
 use Rattle.bpaf_doc.specs.Console.Steps.Text.{is_section4_end}
 

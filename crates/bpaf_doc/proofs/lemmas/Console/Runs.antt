@@ -1,5 +1,6 @@
 -- Words that are written at once are the same as one after another.
-use Rattle.bpaf_doc.proofs.lemmas.Console.Words.{sym, subst, ap, ap₂, arith, ◌∙◌, append_assoc, append-nil, le-ltb, ◌≡◌, ℕ, ◌+◌, ◌≤◌, ◌==◌, Bool, true, false, not, ◌&&◌, List, ◌∷◌, ◌++◌, refl, length, nat_lt, if◌then◌else◌, All-head, All-tail, list_all-append, and-false, Chunk, Raw, IsLine, chunks_of, columns, is_paragraph, IsText, hides, PageSoFar, NoBreak, saturated, sum_by-append, All, list_all, list_any, IsUtf8}
+use Rattle.std.specs.Prelude.{if◌then◌else◌, ◌&&◌, ◌++◌, ◌+◌, ◌==◌, ◌∷◌, ◌≡◌, ◌≤◌}
+use Rattle.bpaf_doc.proofs.lemmas.Console.Words.{sym, subst, ap, ap₂, arith, ◌∙◌, append_assoc, append-nil, le-ltb, ℕ, Bool, true, false, not, List, refl, length, nat_lt, All-head, All-tail, list_all-append, and-false, Chunk, Raw, IsLine, chunks_of, columns, is_paragraph, IsText, hides, PageSoFar, NoBreak, saturated, sum_by-append, All, list_all, list_any, IsUtf8}
 use Rattle.bpaf_doc.specs.Splitter.Steps.{IsLettered, is_lettered, letters, begins}
 use Rattle.bpaf_doc.specs.Console.Exact.{has_no_room}
 use Rattle.bpaf_doc.specs.Console.Steps.Page.{Sheet, IsWithinLine, wraps, room_made, columns_of, raw_put, chunks_put, text_put}

@@ -1,5 +1,6 @@
 -- One walk over the parts gives the tab stop.
-use Rattle.bpaf_doc.proofs.lemmas.Console.Words.{common_steps, list_any, before_first, after_last, enumerate_from, sym, ◌∙◌, arith, append_assoc, length-append, take_at, ◌≡◌, ℕ, ◌+◌, min, max, Bool, true, false, not, ◌&&◌, List, [], ◌∷◌, ◌++◌, length, refl, map, filter, take, fold, sum_by, nat_le, if◌then◌else◌, list_any-append, sum_by-cons, take_while-cons, nat_tests, and-false, and-true, or-false, zero-add, Part, Text, Start, End, columns, is_term_start, is_term_end, text_columns, term_length, drop-append-le, drop_all, reverse-append}
+use Rattle.std.specs.Prelude.{if◌then◌else◌, ◌&&◌, ◌++◌, ◌+◌, ◌∷◌, ◌≡◌}
+use Rattle.bpaf_doc.proofs.lemmas.Console.Words.{common_steps, list_any, before_first, after_last, enumerate_from, sym, ◌∙◌, arith, append_assoc, length-append, take_at, ℕ, min, max, Bool, true, false, not, List, [], length, refl, map, filter, take, fold, sum_by, nat_le, list_any-append, sum_by-cons, take_while-cons, nat_tests, and-false, and-true, or-false, zero-add, Part, Text, Start, End, columns, is_term_start, is_term_end, text_columns, term_length, drop-append-le, drop_all, reverse-append}
 use Rattle.bpaf_doc.specs.declared.buffer.Block.TheVariants as blocks
 
 -- ---- the walk

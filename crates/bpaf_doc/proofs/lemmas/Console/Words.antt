@@ -12,7 +12,7 @@ pub use Rattle.bpaf_doc.specs.Splitter.Promises.{IsText}
 pub use Rattle.bpaf_doc.specs.declared.buffer.Block.{Block}
 pub use Rattle.bpaf_doc.specs.declared.buffer.Style.{Style}
 pub use Rattle.bpaf_doc.specs.declared.console.pairs.Pairs.{Pairs}
-pub use Rattle.std.proofs.Common.{All, Bool, IfOk, IsUtf8, List, Option, Result, Some, String, [], add-one, ap, append-nil, append_assoc, ap₂, arith, codes, cond, count_by, drop, drop-drop, false, filter, flat_map, fold, if◌then◌else◌, inl, inr, le-ltb, length, length-append, lt-ltb, map, max, min, nat_eq, nat_le, nat_lt, not, refl, replicate, reverse, rules, slice_get, string_bytes, subst, suc, sum_by, sym, take, take_at, true, zero, ℕ, ◌&&◌, ◌++◌, ◌+◌, ◌<◌, ◌==◌, ◌^◌, ◌||◌, ◌↔◌, ◌∙◌, ◌∷◌, ◌≡◌, ◌≤◌, ◌⊎◌}
+pub use Rattle.std.proofs.Common.{All, Bool, IfOk, IsUtf8, List, Option, Result, Some, String, [], add-one, ap, append-nil, append_assoc, ap₂, arith, codes, cond, count_by, drop, drop-drop, false, filter, flat_map, fold, inl, inr, le-ltb, length, length-append, lt-ltb, map, max, min, nat_eq, nat_le, nat_lt, not, refl, replicate, reverse, rules, slice_get, string_bytes, subst, suc, sum_by, sym, take, take_at, true, zero, ℕ, ◌∙◌}
 pub use Rattle.std.proofs.Math.Bool.{and-false, and-true, or-false}
 pub use Rattle.std.proofs.Math.Nat.{add-zero, zero-add}
 pub use Rattle.std.proofs.lemmas.Bool.{and_from, and_parts, cases_lt, eqb-true, false≢true, not-false, not-true, or_cases, or_parts}
@@ -26,5 +26,5 @@ pub use Rattle.std.proofs.lemmas.Option.{get_or_from_slice_get, slice_get_past, 
 pub use Rattle.std.proofs.lemmas.Str.{IsCharBoundary-from_take, IsUtf8-append, IsUtf8-from_ascii, IsUtf8-nil, IsUtf8-string_bytes, chars-IsAscii, chars-append, chars-encodes, encode_ascii, encodes-append, encodes-chars, length-le-encodes, scalars-chars}
 pub use Rattle.std.specs.Char.{is_ascii_graphic, is_not_whitespace, is_whitespace}
 pub use Rattle.std.specs.List.{after_last, before_first, ends_with, enumerate_from, list_all, list_any, position_or_len, prefix_len, slice_split}
-pub use Rattle.std.specs.Prelude.{IsTrue, get_or, ⊤, ◌*◌, ◌-◌, ◌≢◌}
+pub use Rattle.std.specs.Prelude.{IsTrue, get_or, ⊤}
 pub use Rattle.std.specs.Str.{bytes_eq, trim_end}

@@ -1,5 +1,6 @@
 -- A break stands where a page has to have one, and nothing stands between words.
-use Rattle.bpaf_doc.proofs.lemmas.Html.Words.{◌≡◌, ℕ, Bool, true, false, List, [], ◌∷◌, ◌++◌, refl, ap, arith, not, ◌&&◌, ◌||◌, if◌then◌else◌, IsTrue, list_any, chars-nil, false≢true, and_parts, and_from, Raw, Paragraph, LineBreak, is_inked, is_raw, Fragment, Shown, Start, End, shows, HtmlSnippet, Break, asks_break, is_break, Put, Of, fragments_in, Touch, Written, page_after, is_empty}
+use Rattle.std.specs.Prelude.{if◌then◌else◌, ◌&&◌, ◌++◌, ◌||◌, ◌∷◌, ◌≡◌}
+use Rattle.bpaf_doc.proofs.lemmas.Html.Words.{ℕ, Bool, true, false, List, [], refl, ap, arith, not, IsTrue, list_any, chars-nil, false≢true, and_parts, and_from, Raw, Paragraph, LineBreak, is_inked, is_raw, Fragment, Shown, Start, End, shows, HtmlSnippet, Break, asks_break, is_break, Put, Of, fragments_in, Touch, Written, page_after, is_empty}
 use Rattle.bpaf_doc.specs.declared.buffer.Block.TheVariants as blocks
 use Rattle.bpaf_doc.proofs.lemmas.Lists.Passing.{implies}
 use Rattle.bpaf_doc.proofs.lemmas.Html.Cut.{snippets_of, cut_from, step-fragments, cut-fragments}

@@ -1,5 +1,6 @@
 -- The snippets that make up a page.
-use Rattle.bpaf_doc.proofs.lemmas.Html.Words.{◌≡◌, ℕ, Bool, List, [], ◌∷◌, ◌++◌, refl, sym, append_assoc, append-nil, arith, flat_map, filter, reverse, if◌then◌else◌, flat_map-append, filter-append, Block, Raw, Paragraph, LineBreak, Fragment, TextStart, Shown, TextEnd, Hidden, Start, End, HtmlSnippet, Break, Newline, snippet_text, open_each, close_each, style_elements, block_elements, is_style_tag, styled_snippets, Put, Of, fragments_in, is_mark_or_fragment, Written, page_after, page_after_all, first_or_false, is_header}
+use Rattle.std.specs.Prelude.{if◌then◌else◌, ◌++◌, ◌∷◌, ◌≡◌}
+use Rattle.bpaf_doc.proofs.lemmas.Html.Words.{ℕ, Bool, List, [], refl, sym, append_assoc, append-nil, arith, flat_map, filter, reverse, flat_map-append, filter-append, Block, Raw, Paragraph, LineBreak, Fragment, TextStart, Shown, TextEnd, Hidden, Start, End, HtmlSnippet, Break, Newline, snippet_text, open_each, close_each, style_elements, block_elements, is_style_tag, styled_snippets, Put, Of, fragments_in, is_mark_or_fragment, Written, page_after, page_after_all, first_or_false, is_header}
 use Rattle.bpaf_doc.specs.declared.buffer.Block.TheVariants as blocks
 use Rattle.bpaf_doc.proofs.lemmas.Snippets.{fragments-append}
 

@@ -1,5 +1,6 @@
 -- The pages that the code writes are what `IsHtmlOf` promises.
-use Rattle.bpaf_doc.proofs.lemmas.Html.Words.{◌≡◌, ℕ, Bool, true, List, sym, ap, ◌∙◌, subst, arith, filter, list_all, Part, IsWellNested, is_line_byte, Fragment, shown_fragments, IsHtmlOf, IsWellNestedHtml, erased, html_text, blank_page, page_after_all}
+use Rattle.std.specs.Prelude.{◌≡◌}
+use Rattle.bpaf_doc.proofs.lemmas.Html.Words.{ℕ, Bool, true, List, sym, ap, ◌∙◌, subst, arith, filter, list_all, Part, IsWellNested, is_line_byte, Fragment, shown_fragments, IsHtmlOf, IsWellNestedHtml, erased, html_text, blank_page, page_after_all}
 use Rattle.bpaf_doc.proofs.lemmas.Html.Fragments.Walking.{walked}
 use Rattle.bpaf_doc.proofs.lemmas.Html.Fragments.Lines.{fragment_is_line, walk_lines}
 use Rattle.bpaf_doc.proofs.lemmas.Html.Fragments.Nests.{Nests, walk_nests}

@@ -1,5 +1,6 @@
 -- A page of well-nested fragments is well-nested HTML, and has the tags of its blocks.
-use Rattle.bpaf_doc.proofs.lemmas.Html.Words.{arith, ◌≡◌, ℕ, Bool, true, false, List, [], ◌∷◌, ◌++◌, map, refl, sym, ap, ◌∙◌, subst, append_assoc, append-nil, flat_map, filter, codes, list_all, flat_map-append, list_all-append, AllPass-from_list_all, and_from, filter-append, Style, Block, Chunk, Fragment, TextStart, Shown, TextEnd, Hidden, Start, End, Of, is_mark_or_fragment, Written, page_after, page_after_all, first_or_false, with_heading, HtmlSnippet, Element, Tt, B, I, Div, IndentedDiv, Dt, Dd, Li, Dl, P, snippet_text, escaped_character, is_no_angle, opening_tag, closing_tag, IsWellNestedHtml, nothing as no_html, characters, line_break, enclosed as html_enclosed, joined as html_joined, block_elements, HasBlockTags, nothing as no_tags, fragment as one_fragment, enclosed as tags_enclosed, joined as tags_joined, open_each, close_each, is_block_tag}
+use Rattle.std.specs.Prelude.{◌++◌, ◌∷◌, ◌≡◌}
+use Rattle.bpaf_doc.proofs.lemmas.Html.Words.{arith, ℕ, Bool, true, false, List, [], map, refl, sym, ap, ◌∙◌, subst, append_assoc, append-nil, flat_map, filter, codes, list_all, flat_map-append, list_all-append, AllPass-from_list_all, and_from, filter-append, Style, Block, Chunk, Fragment, TextStart, Shown, TextEnd, Hidden, Start, End, Of, is_mark_or_fragment, Written, page_after, page_after_all, first_or_false, with_heading, HtmlSnippet, Element, Tt, B, I, Div, IndentedDiv, Dt, Dd, Li, Dl, P, snippet_text, escaped_character, is_no_angle, opening_tag, closing_tag, IsWellNestedHtml, nothing as no_html, characters, line_break, enclosed as html_enclosed, joined as html_joined, block_elements, HasBlockTags, nothing as no_tags, fragment as one_fragment, enclosed as tags_enclosed, joined as tags_joined, open_each, close_each, is_block_tag}
 use Rattle.bpaf_doc.specs.declared.buffer.Style.TheVariants as styles
 use Rattle.bpaf_doc.specs.declared.buffer.Block.TheVariants as blocks
 use Rattle.bpaf_doc.proofs.lemmas.Html.Cut.{spelled, snippets_of, cut_from, start_snippets, end_snippets}

@@ -1,5 +1,6 @@
 -- A run that is written at once is its chunks written one after another.
-use Rattle.bpaf_doc.proofs.lemmas.Html.Words.{arith, ◌≡◌, List, ℕ, map, sym, ap, ap₂, ◌∙◌, append_assoc, append-nil, flat_map-append, and-true, Style, Chunk, chunks_of, IsLine, Shown, Written, with_words, page_after_all}
+use Rattle.std.specs.Prelude.{◌≡◌}
+use Rattle.bpaf_doc.proofs.lemmas.Html.Words.{arith, List, ℕ, map, sym, ap, ap₂, ◌∙◌, append_assoc, append-nil, flat_map-append, and-true, Style, Chunk, chunks_of, IsLine, Shown, Written, with_words, page_after_all}
 use Rattle.bpaf_doc.proofs.lemmas.Splitter.Runs.{AreWords, no_words, a_word, words_of_line}
 
 words_page : {chunks : List Chunk} {text : List ℕ} → AreWords chunks text → (p : Written) (style : Style) → page_after_all p (map (Shown style) chunks) ≡ with_words p text

@@ -1,5 +1,6 @@
 -- A text in another spelling: a run that stays as it is, a character that doesn't, and the rest.
-use Rattle.bpaf_doc.proofs.lemmas.Html.Words.{sym, ap, ap₂, subst, ⊎_elim, inl, inr, ◌∙◌, arith, get_or, append_assoc, length-take, lit<, take-append-drop, get_or-take, ◌≡◌, ◌≢◌, ℕ, suc, ◌<◌, ◌≤◌, Bool, true, false, not, List, [], ◌∷◌, ◌++◌, refl, length, take, drop, flat_map, Option, Some, None, MatchOption, cases_lt, nat_tests, list_all, AllPass-from_list_all, IsCharBoundary-after_ascii, Language, spelling_of, IsPlain, IsFirstSpelled, flat_map-append}
+use Rattle.std.specs.Prelude.{◌++◌, ◌<◌, ◌∷◌, ◌≡◌, ◌≢◌, ◌≤◌}
+use Rattle.bpaf_doc.proofs.lemmas.Html.Words.{sym, ap, ap₂, subst, ⊎_elim, inl, inr, ◌∙◌, arith, get_or, append_assoc, length-take, lit<, take-append-drop, get_or-take, ℕ, suc, Bool, true, false, not, List, [], refl, length, take, drop, flat_map, Option, Some, None, MatchOption, cases_lt, nat_tests, list_all, AllPass-from_list_all, IsCharBoundary-after_ascii, Language, spelling_of, IsPlain, IsFirstSpelled, flat_map-append}
 use Rattle.std.specs.Str.{IsUtf8, IsCharBoundary}
 use Rattle.memchr.specs.Find.{NoneBefore, Passes, IsFirstByte, is_byte2}
 use Rattle.bpaf_doc.specs.declared.html.Language.TheVariants as language

@@ -1,6 +1,7 @@
 -- A text in another spelling is a text.
 use Rattle.std.specs.Char.{IsScalar}
-use Rattle.bpaf_doc.proofs.lemmas.Html.Words.{flat_map-append, and_parts, ne_eqb, cases_lt, IsUtf8-append, IsUtf8-nil, IsUtf8-from_ascii, IsUtf8-encode, encode_ascii, Language, spelling_of, inl, inr, arith, append-nil, ◌≡◌, ℕ, ◌<◌, ◌≤◌, true, List, [], ◌∷◌, refl, flat_map, IsUtf8, IsAscii}
+use Rattle.std.specs.Prelude.{◌<◌, ◌∷◌, ◌≡◌, ◌≤◌}
+use Rattle.bpaf_doc.proofs.lemmas.Html.Words.{flat_map-append, and_parts, ne_eqb, cases_lt, IsUtf8-append, IsUtf8-nil, IsUtf8-from_ascii, IsUtf8-encode, encode_ascii, Language, spelling_of, inl, inr, arith, append-nil, ℕ, true, List, [], refl, flat_map, IsUtf8, IsAscii}
 use Rattle.std.proofs.lemmas.Str.Ascii.{IsAscii-nil, IsAscii-cons}
 use lib.Utf8.{encode, encodes, scalar, scalars}
 use Rattle.bpaf_roff.proofs.lemmas.EscapedText.{High, high_encode}

@@ -1,5 +1,6 @@
 -- A page without its tags and newlines is the HTML text.
-use Rattle.bpaf_doc.proofs.lemmas.Html.Words.{arith, ◌≡◌, ℕ, true, List, [], ◌∷◌, ◌++◌, refl, append_assoc, flat_map, filter, list_all, and_parts, is_line_byte, erased, escaped_character, fragment_text, HtmlSnippet, fragments_in}
+use Rattle.std.specs.Prelude.{◌++◌, ◌∷◌, ◌≡◌}
+use Rattle.bpaf_doc.proofs.lemmas.Html.Words.{arith, ℕ, true, List, [], refl, append_assoc, flat_map, filter, list_all, and_parts, is_line_byte, erased, escaped_character, fragment_text, HtmlSnippet, fragments_in}
 use Rattle.bpaf_doc.proofs.lemmas.Html.Fragments.Lines.{fragment_is_line}
 use Rattle.bpaf_doc.proofs.lemmas.Html.Cut.{spelled}
 

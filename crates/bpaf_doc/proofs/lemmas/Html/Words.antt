@@ -10,7 +10,7 @@ pub use Rattle.bpaf_doc.specs.Splitter.Chunks.{Chunk, IsLine, LineBreak, Paragra
 pub use Rattle.bpaf_doc.specs.declared.buffer.Block.{Block}
 pub use Rattle.bpaf_doc.specs.declared.buffer.Style.{Style}
 pub use Rattle.bpaf_doc.specs.declared.html.Language.{Language}
-pub use Rattle.std.proofs.Common.{Bool, IsAscii, IsTrue, IsUtf8, List, MatchOption, None, Option, Some, [], ap, append-nil, append_assoc, ap₂, arith, codes, drop, false, filter, flat_map, get_or, get_or-drop, get_or-take, if◌then◌else◌, inl, inr, length, length-take, lit<, map, nat_eq, not, refl, reverse, rules, string_bytes, subst, suc, sym, take, take-append-drop, true, zero, ℕ, ⊎_elim, ◌&&◌, ◌*◌, ◌++◌, ◌+◌, ◌-◌, ◌<◌, ◌==◌, ◌||◌, ◌∙◌, ◌∷◌, ◌≡◌, ◌≢◌, ◌≤◌, ◌⊎◌}
+pub use Rattle.std.proofs.Common.{Bool, IsAscii, IsTrue, IsUtf8, List, MatchOption, None, Option, Some, [], ap, append-nil, append_assoc, ap₂, arith, codes, drop, false, filter, flat_map, get_or, get_or-drop, get_or-take, inl, inr, length, length-take, lit<, map, nat_eq, not, refl, reverse, rules, string_bytes, subst, suc, sym, take, take-append-drop, true, zero, ℕ, ⊎_elim, ◌∙◌}
 pub use Rattle.std.proofs.Math.Bool.{and-false, and-true, or-true}
 pub use Rattle.std.proofs.lemmas.Bool.{and_from, and_parts, cases_Bool, cases_lt, eqb-false, false≢true, ne_eqb}
 pub use Rattle.std.proofs.lemmas.Bool.Decides.{Decides-eqb, nat_tests}

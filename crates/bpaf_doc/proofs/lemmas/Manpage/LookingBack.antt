@@ -1,5 +1,6 @@
 -- What looking back from a place gives after one more part: what a loop over the parts keeps.
-use Rattle.bpaf_doc.proofs.lemmas.Manpage.Words.{append_assoc, arith, ◌≡◌, List, [], ◌∷◌, ◌++◌, if◌then◌else◌, refl, append-nil, reverse-append, drop-append-le, drop_all, length-append, flat_map-append, Part, places, is_section_end, captured_text, captured_texts}
+use Rattle.std.specs.Prelude.{if◌then◌else◌, ◌++◌, ◌∷◌, ◌≡◌}
+use Rattle.bpaf_doc.proofs.lemmas.Manpage.Words.{append_assoc, arith, List, [], refl, append-nil, reverse-append, drop-append-le, drop_all, length-append, flat_map-append, Part, places, is_section_end, captured_text, captured_texts}
 
 -- the places, after one more part
 pub places-append : (done before : List Part) (part : Part) → places done (before ++ part ∷ []) ≡ places done before ++ (done ++ before, part) ∷ []

@@ -1,5 +1,6 @@
 -- A text is read as at most one list of events: whatever it is read as, the program reads it so.
-use Rattle.bpaf_doc.proofs.lemmas.Manpage.Words.{arith, ap, ◌∙◌, append_assoc, append-nil, ne_eqb, ◌≡◌, ◌≢◌, ℕ, List, [], ◌∷◌, ◌++◌, Some, None, refl, newline, font_escape, restore_font, Font, Event, Control, Span, LineEnd, IsName, IsArgument, AreArguments, IsSpanText, Place, AtLineStart, WithinLine, Reads}
+use Rattle.std.specs.Prelude.{◌++◌, ◌∷◌, ◌≡◌, ◌≢◌}
+use Rattle.bpaf_doc.proofs.lemmas.Manpage.Words.{arith, ap, ◌∙◌, append_assoc, append-nil, ne_eqb, ℕ, List, [], Some, None, refl, newline, font_escape, restore_font, Font, Event, Control, Span, LineEnd, IsName, IsArgument, AreArguments, IsSpanText, Place, AtLineStart, WithinLine, Reads}
 use Rattle.bpaf_doc.proofs.lemmas.Manpage.Program.{State, Start, Within, Name, Argument, Inside, next, ended, with_event, read_from}
 
 -- a byte that ends no event

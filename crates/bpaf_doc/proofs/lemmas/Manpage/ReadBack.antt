@@ -1,5 +1,6 @@
 -- What the calls of a roff write is read as their events.
-use Rattle.bpaf_doc.proofs.lemmas.Manpage.Words.{AllByRecursion, list_all, inl, inr, ap, ◌∙◌, sym, subst, append_assoc, arith, append-nil, ◌≡◌, ◌≢◌, ℕ, Bool, true, false, not, List, [], ◌∷◌, ◌++◌, ◌==◌, map, flat_map, codes, if◌then◌else◌, refl, signs-append, text_after-append, newline, blank, dot, newline_as_blank, is_line_start, spaces_text, byte_text, Break, Byte, signs, sign_text, text_after, font_escape, restore_font, argument_word, argument_pieces, control_pieces, linebreak_pieces, text_pieces, Handle, Font, word_of, Step, Gives, Stop, starts_line, events_of_steps, Event, Control, Span, LineEnd, IsName, IsArgument, AreArguments, StartsNoControl, IsSpanText, Place, AtLineStart, WithinLine, Reads, Option, None, Some, Piece, Escape}
+use Rattle.std.specs.Prelude.{if◌then◌else◌, ◌++◌, ◌==◌, ◌∷◌, ◌≡◌, ◌≢◌}
+use Rattle.bpaf_doc.proofs.lemmas.Manpage.Words.{AllByRecursion, list_all, inl, inr, ap, ◌∙◌, sym, subst, append_assoc, arith, append-nil, ℕ, Bool, true, false, not, List, [], map, flat_map, codes, refl, signs-append, text_after-append, newline, blank, dot, newline_as_blank, is_line_start, spaces_text, byte_text, Break, Byte, signs, sign_text, text_after, font_escape, restore_font, argument_word, argument_pieces, control_pieces, linebreak_pieces, text_pieces, Handle, Font, word_of, Step, Gives, Stop, starts_line, events_of_steps, Event, Control, Span, LineEnd, IsName, IsArgument, AreArguments, StartsNoControl, IsSpanText, Place, AtLineStart, WithinLine, Reads, Option, None, Some, Piece, Escape}
 use Rattle.std.proofs.lemmas.List.Folds.{list_all-append}
 use Rattle.std.proofs.lemmas.Bool.{ne_eqb, and_from, and_parts, not-true}
 use Rattle.std.proofs.lemmas.Bool.Decides.{eqb_tells, nat_tests}

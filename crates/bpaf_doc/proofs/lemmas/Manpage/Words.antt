@@ -13,7 +13,7 @@ pub use Rattle.bpaf_roff.specs.Roff.{RoffText, Script, argument_pieces, argument
 pub use Rattle.bpaf_roff.specs.declared.escape.Apostrophes.TheVariants.{Handle}
 pub use Rattle.bpaf_roff.specs.declared.escape.Escape.{Escape}
 pub use Rattle.bpaf_roff.specs.declared.roff.Font.{Font}
-pub use Rattle.std.proofs.Common.{Bool, IfOk, List, None, Option, Result, Some, [], ap, append_assoc, arith, codes, false, find, flat_map, if◌then◌else◌, inl, inr, map, ne_eqb, not, refl, subst, sym, true, ℕ, ◌++◌, ◌==◌, ◌∙◌, ◌∷◌, ◌≡◌, ◌≢◌}
+pub use Rattle.std.proofs.Common.{Bool, IfOk, List, None, Option, Result, Some, [], ap, append_assoc, arith, codes, false, find, flat_map, inl, inr, map, ne_eqb, not, refl, subst, sym, true, ℕ, ◌∙◌}
 pub use Rattle.std.proofs.lemmas.List.Concat.{flat_map-append}
 pub use Rattle.std.proofs.lemmas.List.{append-nil, drop-append-le, drop_all, length-append, reverse-append}
 pub use Rattle.std.specs.List.{AllByRecursion, list_all}

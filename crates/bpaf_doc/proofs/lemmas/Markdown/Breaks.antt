@@ -1,5 +1,6 @@
 -- Nothing stands between the words of a markdown text, and breaks stand where they were asked for.
-use Rattle.bpaf_doc.proofs.lemmas.Markdown.Words.{◌≡◌, Bool, true, false, List, [], ◌∷◌, ◌++◌, refl, ap, append_assoc, append-nil, arith, not, ◌&&◌, ◌||◌, IsTrue, list_any, false≢true, and_parts, and_from, not-true, or_right, cases_Bool, Raw, is_ordinary, is_whole_line, is_paragraph, is_line_break, code_weight, fence_weight, Fragment, Shown, shows, Newline, MarkdownSnippet, is_newline, Put, Of, fragments_in, Touch, Marked, marked_after, and-false}
+use Rattle.std.specs.Prelude.{◌&&◌, ◌++◌, ◌||◌, ◌∷◌, ◌≡◌}
+use Rattle.bpaf_doc.proofs.lemmas.Markdown.Words.{Bool, true, false, List, [], refl, ap, append_assoc, append-nil, arith, not, IsTrue, list_any, false≢true, and_parts, and_from, not-true, or_right, cases_Bool, Raw, is_ordinary, is_whole_line, is_paragraph, is_line_break, code_weight, fence_weight, Fragment, Shown, shows, Newline, MarkdownSnippet, is_newline, Put, Of, fragments_in, Touch, Marked, marked_after, and-false}
 use Rattle.bpaf_doc.proofs.lemmas.Lists.Passing.{implies}
 use Rattle.bpaf_doc.proofs.lemmas.Markdown.Cut.{by_weight, own_snippets, cut_from, item_snippets, step-flags, step-code, item-code, item_marks, new_line_marks}
 use Rattle.bpaf_doc.proofs.lemmas.Snippets.{all_followed, followed_at, quiet_followed, touches, other_touches, touching_between}

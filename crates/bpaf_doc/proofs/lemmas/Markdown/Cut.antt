@@ -1,5 +1,6 @@
 -- The snippets that make up a markdown text, and what it keeps in mind between fragments.
-use Rattle.bpaf_doc.proofs.lemmas.Markdown.Words.{common_steps, ◌≡◌, ℕ, Bool, true, false, List, [], ◌∷◌, ◌++◌, map, refl, sym, ap, ◌∙◌, append_assoc, append-nil, nat_lt, arith, not, ◌==◌, reverse, codes, if◌then◌else◌, and-true, and-false, Style, Raw, Paragraph, LineBreak, code_weight, fence_weight, is_ordinary, Fragment, TextStart, Shown, TextEnd, Hidden, Start, End, TextFence, Fence, Heading, SecondHeading, ThirdHeading, Dash, LongDash, Blank, Newline, mark_text, MarkdownSnippet, is_in_mono, fragment_text, snippet_text, flat_map_places_from, style_marks, is_header_start, is_item_start, is_mono_start, is_mono_end, Put, Of, fragments_in, Marked, put, starts_line, starts_paragraph, with_new_line, with_item, open_code, close_code, with_raw, own_after, is_term_end, marked_after, one_more}
+use Rattle.std.specs.Prelude.{if◌then◌else◌, ◌++◌, ◌==◌, ◌∷◌, ◌≡◌}
+use Rattle.bpaf_doc.proofs.lemmas.Markdown.Words.{common_steps, ℕ, Bool, true, false, List, [], map, refl, sym, ap, ◌∙◌, append_assoc, append-nil, nat_lt, arith, not, reverse, codes, and-true, and-false, Style, Raw, Paragraph, LineBreak, code_weight, fence_weight, is_ordinary, Fragment, TextStart, Shown, TextEnd, Hidden, Start, End, TextFence, Fence, Heading, SecondHeading, ThirdHeading, Dash, LongDash, Blank, Newline, mark_text, MarkdownSnippet, is_in_mono, fragment_text, snippet_text, flat_map_places_from, style_marks, is_header_start, is_item_start, is_mono_start, is_mono_end, Put, Of, fragments_in, Marked, put, starts_line, starts_paragraph, with_new_line, with_item, open_code, close_code, with_raw, own_after, is_term_end, marked_after, one_more}
 use Rattle.bpaf_doc.specs.declared.buffer.Block.{Block}
 use Rattle.bpaf_doc.specs.declared.buffer.Block.TheVariants as blocks
 use Rattle.bpaf_doc.proofs.lemmas.Snippets.{fragments-append}

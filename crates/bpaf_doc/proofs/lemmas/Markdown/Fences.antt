@@ -1,5 +1,6 @@
 -- Fences open and close in turn, and code stands between them.
-use Rattle.bpaf_doc.proofs.lemmas.Markdown.Words.{common_steps, ◌≡◌, ℕ, ◌+◌, ◌<◌, Bool, true, false, List, [], ◌∷◌, ◌++◌, refl, ap, ◌∙◌, arith, not, ◌&&◌, ◌||◌, IsTrue, list_all, false≢true, eqb-true, and_parts, and_from, Raw, is_ordinary, is_code_line, code_weight, fence_weight, Fragment, Shown, TextEnd, shows, TextFence, Fence, MarkdownSnippet, is_fence, is_text_end, Put, Of, Marked, marked_after, and-false, is_text_fence, count_by}
+use Rattle.std.specs.Prelude.{◌&&◌, ◌++◌, ◌+◌, ◌<◌, ◌||◌, ◌∷◌, ◌≡◌}
+use Rattle.bpaf_doc.proofs.lemmas.Markdown.Words.{common_steps, ℕ, Bool, true, false, List, [], refl, ap, ◌∙◌, arith, not, IsTrue, list_all, false≢true, eqb-true, and_parts, and_from, Raw, is_ordinary, is_code_line, code_weight, fence_weight, Fragment, Shown, TextEnd, shows, TextFence, Fence, MarkdownSnippet, is_fence, is_text_end, Put, Of, Marked, marked_after, and-false, is_text_fence, count_by}
 use Rattle.bpaf_doc.proofs.lemmas.Lists.Counting.{one_if, count_by-cons}
 use Rattle.bpaf_doc.proofs.lemmas.Lists.Passing.{state_after, passes, passes_back, passes_both, passes_first}
 use Rattle.bpaf_doc.proofs.lemmas.Markdown.Cut.{by_weight, own_snippets, cut_from, item_snippets, end_code_snippets, code_next, step-code, item-code}

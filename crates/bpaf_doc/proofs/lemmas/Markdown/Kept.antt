@@ -1,5 +1,6 @@
 -- What stays of the snippets under a test.
-use Rattle.bpaf_doc.proofs.lemmas.Markdown.Words.{◌≡◌, Bool, false, List, [], ◌∷◌, arith, filter, flat_map, if◌then◌else◌, filter-append, Fragment, Start, Mark, Heading, SecondHeading, ThirdHeading, Dash, LongDash, styled_snippets, is_style_mark, fragments_in, is_mark_or_fragment, Marked, marked_after}
+use Rattle.std.specs.Prelude.{if◌then◌else◌, ◌∷◌, ◌≡◌}
+use Rattle.bpaf_doc.proofs.lemmas.Markdown.Words.{Bool, false, List, [], arith, filter, flat_map, filter-append, Fragment, Start, Mark, Heading, SecondHeading, ThirdHeading, Dash, LongDash, styled_snippets, is_style_mark, fragments_in, is_mark_or_fragment, Marked, marked_after}
 use Rattle.bpaf_doc.specs.declared.buffer.Block.TheVariants as blocks
 use Rattle.bpaf_doc.proofs.lemmas.Markdown.Cut.{snippets_of, cut_from, item_marks}
 use Rattle.bpaf_doc.proofs.lemmas.Snippets.{fragments-append}

@@ -1,5 +1,6 @@
 -- A whole line of a markdown text stands alone on its line.
-use Rattle.bpaf_doc.proofs.lemmas.Markdown.Words.{common_steps, rules, ◌≡◌, ℕ, ◌+◌, ◌-◌, Bool, true, false, cond, List, [], ◌∷◌, ◌++◌, length, take, drop, refl, sym, ap, ◌∙◌, subst, arith, append_assoc, append-nil, length-append, not, ◌&&◌, ◌||◌, ◌==◌, if◌then◌else◌, IsTrue, codes, list_all, after_last, suffix_len, prefix_len, reverse-append, drop-append-le, drop_all, take-append-drop, list_all-append, false≢true, and_parts, eqb-true, Style, Chunk, Raw, fence_weight, is_whole_line, Fragment, TextStart, Shown, TextEnd, shows, mark_text, MarkdownSnippet, fragment_text, EndsInBlankLine, Put, Of, fragments_in, Marked, put, starts_line, with_new_line, open_code, with_chunk, marked_after}
+use Rattle.std.specs.Prelude.{if◌then◌else◌, ◌&&◌, ◌++◌, ◌+◌, ◌-◌, ◌==◌, ◌||◌, ◌∷◌, ◌≡◌}
+use Rattle.bpaf_doc.proofs.lemmas.Markdown.Words.{common_steps, rules, ℕ, Bool, true, false, cond, List, [], length, take, drop, refl, sym, ap, ◌∙◌, subst, arith, append_assoc, append-nil, length-append, not, IsTrue, codes, list_all, after_last, suffix_len, prefix_len, reverse-append, drop-append-le, drop_all, take-append-drop, list_all-append, false≢true, and_parts, eqb-true, Style, Chunk, Raw, fence_weight, is_whole_line, Fragment, TextStart, Shown, TextEnd, shows, mark_text, MarkdownSnippet, fragment_text, EndsInBlankLine, Put, Of, fragments_in, Marked, put, starts_line, with_new_line, open_code, with_chunk, marked_after}
 use Rattle.std.proofs.lemmas.List.Sums.{AllPass-from_list_all, list_all-from_AllPass}
 use Rattle.bpaf_doc.proofs.lemmas.Lists.Passing.{passes}
 use Rattle.bpaf_doc.proofs.lemmas.Markdown.Cut.{raw_cut, by_weight, spelled, own_snippets, snippets_of, cut_from, item_snippets, open_snippets, close_snippets, line_snippets, new_line_snippets, flags, step-code, item_marks, step-spelled, new_line-spelled, open-spelled, new_line_marks}

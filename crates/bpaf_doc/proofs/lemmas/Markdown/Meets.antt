@@ -1,5 +1,6 @@
 -- The markdown texts that the code writes are what `IsMarkdownOf` promises.
-use Rattle.bpaf_doc.proofs.lemmas.Markdown.Words.{visible, ◌≡◌, ℕ, zero, suc, ◌^◌, ◌<◌, ◌≤◌, Bool, true, false, List, [], ◌∷◌, ◌++◌, length, map, refl, sym, ap, ◌∙◌, subst, arith, append_assoc, count_by, IsTrue, codes, Style, Chunk, chunks_of, starts, Fragment, TextStart, Shown, TextEnd, Hidden, shown_fragments, IsMarkdownOf, text_after, EndsInBlankLine, is_mono_start, is_mono_end, Of, blank_text, with_item, marked_after_all}
+use Rattle.std.specs.Prelude.{◌++◌, ◌<◌, ◌^◌, ◌∷◌, ◌≡◌, ◌≤◌}
+use Rattle.bpaf_doc.proofs.lemmas.Markdown.Words.{visible, ℕ, zero, suc, Bool, true, false, List, [], length, map, refl, sym, ap, ◌∙◌, subst, arith, append_assoc, count_by, IsTrue, codes, Style, Chunk, chunks_of, starts, Fragment, TextStart, Shown, TextEnd, Hidden, shown_fragments, IsMarkdownOf, text_after, EndsInBlankLine, is_mono_start, is_mono_end, Of, blank_text, with_item, marked_after_all}
 use Rattle.bpaf_doc.specs.Buffer.Parts.{Part, Text}
 use Rattle.bpaf_doc.specs.Html.Steps.View.{text_rest, part_walk, walk, depth_after}
 use Rattle.bpaf_doc.proofs.lemmas.Lists.Counting.{one_if, count_by-cons, count_by-append}

@@ -1,5 +1,6 @@
 -- What a markdown text keeps in mind is what looking back at the fragments before says.
-use Rattle.bpaf_doc.proofs.lemmas.Markdown.Words.{◌≡◌, ℕ, ◌+◌, ◌^◌, ◌<◌, Bool, true, false, cond, List, [], ◌∷◌, ◌++◌, map, refl, sym, ap, ◌∙◌, subst, arith, append_assoc, append-nil, length-append, nat_lt, filter, count_by, if◌then◌else◌, common_steps, list_any, after_last, suffix_len, prefix_len, reverse-append, drop-append-le, drop_all, map-append, list_any-append, filter-append, Fragment, Mark, MarkdownSnippet, is_mono_start, is_mono_end, is_header_start, is_item_start, begins_with_term_end, is_in_list, is_after_empty_item, headings_of, headed_snippets, flat_map_places_from, is_heading, Put, Of, is_mark_or_fragment, Marked, with_item, is_term_end, marked_after, marked_after_all, one_more}
+use Rattle.std.specs.Prelude.{if◌then◌else◌, ◌++◌, ◌+◌, ◌<◌, ◌^◌, ◌∷◌, ◌≡◌}
+use Rattle.bpaf_doc.proofs.lemmas.Markdown.Words.{ℕ, Bool, true, false, cond, List, [], map, refl, sym, ap, ◌∙◌, subst, arith, append_assoc, append-nil, length-append, nat_lt, filter, count_by, common_steps, list_any, after_last, suffix_len, prefix_len, reverse-append, drop-append-le, drop_all, map-append, list_any-append, filter-append, Fragment, Mark, MarkdownSnippet, is_mono_start, is_mono_end, is_header_start, is_item_start, begins_with_term_end, is_in_list, is_after_empty_item, headings_of, headed_snippets, flat_map_places_from, is_heading, Put, Of, is_mark_or_fragment, Marked, with_item, is_term_end, marked_after, marked_after_all, one_more}
 use Rattle.bpaf_doc.proofs.lemmas.Lists.Counting.{one_if, count_by-cons, count_by-append}
 use Rattle.bpaf_doc.proofs.lemmas.Markdown.Cut.{Flags, flags, flags_next, item-flags, step-flags, SameMono, spelled, spelled-append, step-spelled, cut_from, snippets_of, item-spelled}
 use Rattle.bpaf_doc.proofs.lemmas.Markdown.Kept.{own_heading, item_heading, step-fragments}

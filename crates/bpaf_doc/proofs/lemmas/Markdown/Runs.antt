@@ -1,5 +1,6 @@
 -- A run that is written at once is its chunks written one after another.
-use Rattle.bpaf_doc.proofs.lemmas.Markdown.Words.{◌≡◌, ◌<◌, ◌≤◌, true, false, List, ℕ, [], ◌∷◌, ◌++◌, length, map, refl, sym, ap, ◌∙◌, append_assoc, append-nil, arith, length-append, nat_lt, ne_eqb, flat_map, if◌then◌else◌, codes, Style, Chunk, Raw, chunks_of, code_weight, columns, Fragment, Shown, escaped_character, Marked, put, with_item, close_code, with_line, with_words, marked_after, marked_after_all}
+use Rattle.std.specs.Prelude.{if◌then◌else◌, ◌++◌, ◌<◌, ◌∷◌, ◌≡◌, ◌≤◌}
+use Rattle.bpaf_doc.proofs.lemmas.Markdown.Words.{true, false, List, ℕ, [], length, map, refl, sym, ap, ◌∙◌, append_assoc, append-nil, arith, length-append, nat_lt, ne_eqb, flat_map, codes, Style, Chunk, Raw, chunks_of, code_weight, columns, Fragment, Shown, escaped_character, Marked, put, with_item, close_code, with_line, with_words, marked_after, marked_after_all}
 use Rattle.std.proofs.lemmas.List.Concat.{flat_map-append}
 use Rattle.bpaf_doc.specs.Splitter.Steps.{IsRun}
 use Rattle.bpaf_doc.proofs.lemmas.Splitter.Runs.{AreWords, no_words, a_word, words_of_line}

@@ -5,7 +5,7 @@ pub use Rattle.bpaf_doc.specs.Markdown.Steps.{Marked, blank_text, close_code, is
 pub use Rattle.bpaf_doc.specs.Snippets.{Of, Put, Touch, fragments_in, is_mark_or_fragment}
 pub use Rattle.bpaf_doc.specs.Splitter.Chunks.{Chunk, LineBreak, Paragraph, Raw, chunks_of, code_weight, columns, fence_weight, is_code_line, is_line_break, is_ordinary, is_paragraph, is_whole_line, starts}
 pub use Rattle.bpaf_doc.specs.declared.buffer.Style.{Style}
-pub use Rattle.std.proofs.Common.{Bool, IsTrue, List, [], ap, append-nil, append_assoc, arith, codes, cond, count_by, drop, false, filter, flat_map, if◌then◌else◌, length, length-append, map, nat_lt, ne_eqb, not, refl, reverse, rules, subst, suc, sym, take, true, zero, ℕ, ◌&&◌, ◌++◌, ◌+◌, ◌-◌, ◌<◌, ◌==◌, ◌^◌, ◌||◌, ◌∙◌, ◌∷◌, ◌≡◌, ◌≤◌}
+pub use Rattle.std.proofs.Common.{Bool, IsTrue, List, [], ap, append-nil, append_assoc, arith, codes, cond, count_by, drop, false, filter, flat_map, length, length-append, map, nat_lt, ne_eqb, not, refl, reverse, rules, subst, suc, sym, take, true, zero, ℕ, ◌∙◌}
 pub use Rattle.std.proofs.Math.Bool.{and-false, and-true}
 pub use Rattle.std.proofs.lemmas.Bool.{and_from, and_parts, cases_Bool, eqb-true, false≢true, not-true, or_right}
 pub use Rattle.std.proofs.lemmas.Grind.{common_steps}

@@ -1,5 +1,6 @@
 -- A text that begins with a newline and four blanks begins with a code line.
-use Rattle.bpaf_doc.proofs.lemmas.Splitter.Words.{ap, sym, ◌∙◌, arith, length-take, take-append-drop, ◌≡◌, ℕ, List, ◌∷◌, ◌++◌, codes, drop, length, refl, take, IsUtf8, IsCharBoundary, IsCharBoundary-from_take, Chunk, Raw, Plain, IsLine, IsLineEnd, chunks_in, chunks_of, code_weight}
+use Rattle.std.specs.Prelude.{◌++◌, ◌∷◌, ◌≡◌}
+use Rattle.bpaf_doc.proofs.lemmas.Splitter.Words.{ap, sym, ◌∙◌, arith, length-take, take-append-drop, ℕ, List, codes, drop, length, refl, take, IsUtf8, IsCharBoundary, IsCharBoundary-from_take, Chunk, Raw, Plain, IsLine, IsLineEnd, chunks_in, chunks_of, code_weight}
 use Rattle.bpaf_doc.proofs.lemmas.Splitter.FirstChunk.{code_line_first}
 
 whole : (text : List ℕ) → take 5 text ≡ codes "\n    " → text ≡ codes "\n    " ++ drop 5 text

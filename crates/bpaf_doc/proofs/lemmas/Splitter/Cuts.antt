@@ -1,5 +1,6 @@
 -- Where a line and a word end.
-use Rattle.bpaf_doc.proofs.lemmas.Splitter.Words.{char_set_contains, NoCharPasses, HasPassingCharAt, list_all, inl, inr, arith, get_or, length-take, get_or-take, ◌≡◌, ◌≢◌, ℕ, suc, ◌<◌, ◌≤◌, Bool, true, false, IsTrue, List, [], ◌∷◌, refl, length, take, drop, Option, MatchOption, unwrap_or, NoCharPasses-byte, drop_at_char, cases_lt, nat_tests, Nowhere, NoneBefore, Passes, is_byte, is_line_byte, is_word_byte, IsLine, IsLineEnd, IsWordEnd, IsPastNewline}
+use Rattle.std.specs.Prelude.{◌<◌, ◌∷◌, ◌≡◌, ◌≢◌, ◌≤◌}
+use Rattle.bpaf_doc.proofs.lemmas.Splitter.Words.{char_set_contains, NoCharPasses, HasPassingCharAt, list_all, inl, inr, arith, get_or, length-take, get_or-take, ℕ, suc, Bool, true, false, IsTrue, List, [], refl, length, take, drop, Option, MatchOption, unwrap_or, NoCharPasses-byte, drop_at_char, cases_lt, nat_tests, Nowhere, NoneBefore, Passes, is_byte, is_line_byte, is_word_byte, IsLine, IsLineEnd, IsWordEnd, IsPastNewline}
 use denote.Ref.{Bor}
 
 -- the test of a newline or a blank

@@ -1,5 +1,6 @@
 -- What holds of the chunks of each text.
-use Rattle.bpaf_doc.proofs.lemmas.Splitter.Words.{All, flat_map, IsUtf8, sym, ◌∙◌, ap, subst, arith, append_assoc, append-nil, take_at, drop_at, length-append, ◌≡◌, ℕ, List, [], ◌++◌, refl, length, All-nil, All-cons, All-same, list_all-append, ink, Chunk, chunk_ink, chunks_of, IsGap, IsOneLine, IsPlace, IsSpelledOnce, IsText, StandInOrder, StandsFor, is_gap_byte}
+use Rattle.std.specs.Prelude.{◌++◌, ◌≡◌}
+use Rattle.bpaf_doc.proofs.lemmas.Splitter.Words.{All, flat_map, IsUtf8, sym, ◌∙◌, ap, subst, arith, append_assoc, append-nil, take_at, drop_at, length-append, ℕ, List, [], refl, length, All-nil, All-cons, All-same, list_all-append, ink, Chunk, chunk_ink, chunks_of, IsGap, IsOneLine, IsPlace, IsSpelledOnce, IsText, StandInOrder, StandsFor, is_gap_byte}
 use Rattle.bpaf_doc.proofs.lemmas.Splitter.Spelling.{spells_its_chunks, only_its_chunks, spells_in}
 use Rattle.bpaf_doc.proofs.lemmas.Splitter.Pieces.{Pieces, none, piece, pieces, IsUtf8-blank}
 use Rattle.bpaf_doc.proofs.lemmas.Splitter.Ink.{ink-nil, ink-append, ink_after_gap, gap_ink}

@@ -1,5 +1,6 @@
 -- The first chunk of a text, and the chunks after it.
-use Rattle.bpaf_doc.proofs.lemmas.Splitter.Words.{StripsPrefix, HasPrefixMatch, FindsTextPrefix, list_all, sym, ◌∙◌, ap, subst, arith, ◌≡◌, ◌≢◌, ℕ, Bool, true, false, ◌==◌, IsTrue, List, [], ◌∷◌, ◌++◌, codes, refl, length, MatchBool, None, starts_text, nat_tests}
+use Rattle.std.specs.Prelude.{◌++◌, ◌==◌, ◌∷◌, ◌≡◌, ◌≢◌}
+use Rattle.bpaf_doc.proofs.lemmas.Splitter.Words.{StripsPrefix, HasPrefixMatch, FindsTextPrefix, list_all, sym, ◌∙◌, ap, subst, arith, ℕ, Bool, true, false, IsTrue, List, [], codes, refl, length, MatchBool, None, starts_text, nat_tests}
 use Rattle.bpaf_doc.specs.Splitter.Chunks.{Chunk, Raw, Paragraph, LineBreak, Form, Plain, Opening, Later, Spells, code_line, fence, before_code, paragraph, line_break, newline, blank, word, opening, later, closing, closing_paragraph, chunks_of, chunks_in, chunks_within, columns, code_weight, fence_weight, is_word_byte, starts, IsLine, IsLineEnd, IsWordEnd, IsPastNewline}
 use Rattle.bpaf_doc.proofs.lemmas.Splitter.Spelling.{spells_in, only_in, starts_front}
 

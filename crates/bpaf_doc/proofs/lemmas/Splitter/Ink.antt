@@ -1,5 +1,6 @@
 -- The ink of a text in parts.
-use Rattle.bpaf_doc.proofs.lemmas.Splitter.Words.{is_not_whitespace, sym, ◌∙◌, ap, arith, append-nil, ◌≡◌, ℕ, List, [], ◌∷◌, ◌++◌, refl, filter, nat_tests, filter-append, chars-append, chars-nil, ink, IsGap}
+use Rattle.std.specs.Prelude.{◌++◌, ◌∷◌, ◌≡◌}
+use Rattle.bpaf_doc.proofs.lemmas.Splitter.Words.{is_not_whitespace, sym, ◌∙◌, ap, arith, append-nil, ℕ, List, [], refl, filter, nat_tests, filter-append, chars-append, chars-nil, ink, IsGap}
 use Rattle.std.specs.Str.{IsUtf8, chars}
 use Rattle.bpaf_doc.proofs.lemmas.Splitter.Spelling.{and_left, and_right}
 

@@ -1,5 +1,6 @@
 -- Latin letters of two bytes take a column each, as printable ASCII does.
-use Rattle.bpaf_doc.proofs.lemmas.Splitter.Words.{is_in_range, list_all, IsUtf8, sym, ap, ap₂, ◌∙◌, ◌⊎◌, inl, inr, get_or, arith, ◌≡◌, ℕ, ◌+◌, ◌/◌, ◌%◌, ◌<◌, ◌≤◌, ◌==◌, Bool, true, false, ◌&&◌, ◌||◌, nat_lt, List, [], ◌∷◌, refl, length, take, drop, sum_by, if◌then◌else◌, and_parts, cases_lt, lt-ltb, le-ltb, eqb-true, nat_tests, list_all-append, list_all_more, take_more, take_rest, sum_by-append, sum_by-cons, count_by-le-length, chars_from_encodes, is_simple, is_simple_kind, width_or_zero, str_width-simple, IsWordEnd, columns, is_line_byte, IsRunEnd, IsLettered, is_lettered, begins, letters}
+use Rattle.std.specs.Prelude.{if◌then◌else◌, ◌%◌, ◌&&◌, ◌+◌, ◌/◌, ◌<◌, ◌==◌, ◌||◌, ◌∷◌, ◌≡◌, ◌≤◌, ◌⊎◌}
+use Rattle.bpaf_doc.proofs.lemmas.Splitter.Words.{is_in_range, list_all, IsUtf8, sym, ap, ap₂, ◌∙◌, inl, inr, get_or, arith, ℕ, Bool, true, false, nat_lt, List, [], refl, length, take, drop, sum_by, and_parts, cases_lt, lt-ltb, le-ltb, eqb-true, nat_tests, list_all-append, list_all_more, take_more, take_rest, sum_by-append, sum_by-cons, count_by-le-length, chars_from_encodes, is_simple, is_simple_kind, width_or_zero, str_width-simple, IsWordEnd, columns, is_line_byte, IsRunEnd, IsLettered, is_lettered, begins, letters}
 use Rattle.std.proofs.Math.Utf8.{encode, encodes}
 use Rattle.ucd_table.proofs.Facts.{passes_below, Stepped-below}
 use Rattle.unicode_width.specs.declared.kind.Kind.{Kind}

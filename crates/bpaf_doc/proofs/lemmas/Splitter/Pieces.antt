@@ -1,5 +1,6 @@
 -- A text as its chunks cut it: what each chunk stands for, with gaps before and after it.
-use Rattle.bpaf_doc.proofs.lemmas.Splitter.Words.{IsScalar, list_all, sym, ◌∙◌, ap, subst, inl, inr, arith, lit<, get_or, ◌≡◌, ℕ, true, false, ◌<◌, IsTrue, ◌⊎◌, List, [], ◌∷◌, ◌++◌, codes, refl, length, append-nil, get_or_at, take_at, drop_at, length-append, IsUtf8-nil, IsUtf8-append, IsUtf8-encode, encode_ascii, IsUtf8-take, IsUtf8-drop, IsCharBoundary-before_ascii, IsCharBoundary-after_ascii, Chunk, Raw, Paragraph, LineBreak, Form, Spells, nothing, code_line, fence, before_code, paragraph, line_break, newline, blank, word, opening, later, closing, closing_paragraph, is_word_byte, code_weight, fence_weight, columns, has_some, IsLine, IsLineEnd, is_ordinary, IsPastNewline, IsGap, StandsFor, is_gap_byte, nat_tests}
+use Rattle.std.specs.Prelude.{◌++◌, ◌<◌, ◌∷◌, ◌≡◌, ◌⊎◌}
+use Rattle.bpaf_doc.proofs.lemmas.Splitter.Words.{IsScalar, list_all, sym, ◌∙◌, ap, subst, inl, inr, arith, lit<, get_or, ℕ, true, false, IsTrue, List, [], codes, refl, length, append-nil, get_or_at, take_at, drop_at, length-append, IsUtf8-nil, IsUtf8-append, IsUtf8-encode, encode_ascii, IsUtf8-take, IsUtf8-drop, IsCharBoundary-before_ascii, IsCharBoundary-after_ascii, Chunk, Raw, Paragraph, LineBreak, Form, Spells, nothing, code_line, fence, before_code, paragraph, line_break, newline, blank, word, opening, later, closing, closing_paragraph, is_word_byte, code_weight, fence_weight, columns, has_some, IsLine, IsLineEnd, is_ordinary, IsPastNewline, IsGap, StandsFor, is_gap_byte, nat_tests}
 use Rattle.std.specs.Str.{IsUtf8, chars}
 use Rattle.unicode_width.specs.Width.{str_width, step, past_emoji}
 use Rattle.bpaf_doc.proofs.lemmas.Splitter.Spelling.{and_left, and_right, starts_front}

@@ -1,5 +1,6 @@
 -- Printable ASCII without blanks is a word, and each of its characters takes a column.
-use Rattle.bpaf_doc.proofs.lemmas.Splitter.Words.{is_ascii_graphic, is_in_range, All, list_all, IsAscii, IsUtf8, IsCharBoundary, arith, ◌≡◌, ℕ, ◌<◌, ◌≤◌, Bool, true, IsTrue, List, [], ◌∷◌, refl, length, take, and_parts, nat_tests, AllPass-from_list_all, chars-IsAscii, IsUtf8-from_ascii, IsCharBoundary-from_take, str_width-printable, columns, is_word_byte}
+use Rattle.std.specs.Prelude.{◌<◌, ◌∷◌, ◌≡◌, ◌≤◌}
+use Rattle.bpaf_doc.proofs.lemmas.Splitter.Words.{is_ascii_graphic, is_in_range, All, list_all, IsAscii, IsUtf8, IsCharBoundary, arith, ℕ, Bool, true, IsTrue, List, [], refl, length, take, and_parts, nat_tests, AllPass-from_list_all, chars-IsAscii, IsUtf8-from_ascii, IsCharBoundary-from_take, str_width-printable, columns, is_word_byte}
 use Rattle.std.proofs.lemmas.Str.Ascii.{IsAscii-from_all}
 
 -- what each of them is: no newline and no blank, printable, and ASCII

@@ -1,5 +1,6 @@
 -- The chunks of a run, and of a text that begins with one.
-use Rattle.bpaf_doc.proofs.lemmas.Splitter.Words.{list_all, sym, ◌∙◌, ap, subst, inl, inr, arith, append_assoc, get_or, take-append-drop, take_all, drop-cons, length-take, ◌≡◌, ℕ, ◌<◌, ◌≤◌, Bool, true, IsTrue, ◌⊎◌, List, [], ◌∷◌, ◌++◌, codes, refl, length, take, drop, Option, Some, None, unwrap_or, take-take, drop_all, get_or-take, Nowhere, NoneBefore, NoneAfter, Passes, IsLastByte, is_byte, list_all-append, nat_tests, Chunk, Raw, Form, Plain, Spells, nothing, code_line, fence, before_code, paragraph, line_break, newline, blank, word, chunks_of, columns, is_line_byte, IsLine, IsLineEnd, IsWordEnd, IsRunEnd}
+use Rattle.std.specs.Prelude.{◌++◌, ◌<◌, ◌∷◌, ◌≡◌, ◌≤◌, ◌⊎◌}
+use Rattle.bpaf_doc.proofs.lemmas.Splitter.Words.{list_all, sym, ◌∙◌, ap, subst, inl, inr, arith, append_assoc, get_or, take-append-drop, take_all, drop-cons, length-take, ℕ, Bool, true, IsTrue, List, [], codes, refl, length, take, drop, Option, Some, None, unwrap_or, take-take, drop_all, get_or-take, Nowhere, NoneBefore, NoneAfter, Passes, IsLastByte, is_byte, list_all-append, nat_tests, Chunk, Raw, Form, Plain, Spells, nothing, code_line, fence, before_code, paragraph, line_break, newline, blank, word, chunks_of, columns, is_line_byte, IsLine, IsLineEnd, IsWordEnd, IsRunEnd}
 use Rattle.bpaf_doc.proofs.lemmas.Splitter.Cuts.{is_newline, line_from_no_newline, line_before_newline}
 use Rattle.bpaf_doc.proofs.lemmas.Splitter.Printable.{line_columns_are}
 use Rattle.bpaf_doc.proofs.lemmas.Splitter.Spelling.{and_left, and_right, spells_its_chunks, only_its_chunks}

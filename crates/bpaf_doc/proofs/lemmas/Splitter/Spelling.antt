@@ -1,5 +1,6 @@
 -- Each text is spelled by its chunks, and by no other list.
-use Rattle.bpaf_doc.proofs.lemmas.Splitter.Words.{list_all, prefix_len, sym, ◌∙◌, ap, subst, inl, inr, arith, take-append-drop, length-drop, length-append, ◌≡◌, ◌≢◌, ℕ, zero, suc, ◌+◌, ◌<◌, ◌≤◌, Bool, true, false, ◌&&◌, ◌==◌, IsTrue, List, [], ◌∷◌, ◌++◌, codes, refl, length, drop, take_while, take_while-cons, nat_tests, eqb-true, cases_Bool}
+use Rattle.std.specs.Prelude.{◌&&◌, ◌++◌, ◌+◌, ◌<◌, ◌==◌, ◌∷◌, ◌≡◌, ◌≢◌, ◌≤◌}
+use Rattle.bpaf_doc.proofs.lemmas.Splitter.Words.{list_all, prefix_len, sym, ◌∙◌, ap, subst, inl, inr, arith, take-append-drop, length-drop, length-append, ℕ, zero, suc, Bool, true, false, IsTrue, List, [], codes, refl, length, drop, take_while, take_while-cons, nat_tests, eqb-true, cases_Bool}
 use Rattle.bpaf_doc.specs.Splitter.Chunks.{Chunk, Raw, Paragraph, LineBreak, Form, Plain, Opening, Later, Spells, nothing, code_line, fence, before_code, paragraph, line_break, newline, blank, word, opening, later, closing, closing_paragraph, chunks_of, chunks_within, columns, code_weight, fence_weight, is_line_byte, is_word_byte, without_front, starts, IsLine, IsWord, IsLineEnd, IsWordEnd, IsPastNewline, chunks_in}
 
 pub and_left : (a b : Bool) → IsTrue (a && b) → IsTrue a

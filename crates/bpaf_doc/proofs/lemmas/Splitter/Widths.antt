@@ -1,5 +1,6 @@
 -- How many columns a text takes at most: three for each character.
-use Rattle.bpaf_doc.proofs.lemmas.Splitter.Words.{arith, ℕ, zero, suc, ◌+◌, ◌-◌, ◌*◌, ◌<◌, ◌≤◌, false, List, [], ◌∷◌, length, nat_tests, columns}
+use Rattle.std.specs.Prelude.{◌*◌, ◌+◌, ◌-◌, ◌<◌, ◌∷◌, ◌≤◌}
+use Rattle.bpaf_doc.proofs.lemmas.Splitter.Words.{arith, ℕ, zero, suc, false, List, [], length, nat_tests, columns}
 use Rattle.std.specs.Str.{chars, chars_after, continuation_len, lead_bits}
 use Rattle.unicode_width.specs.declared.state.State.{State}
 use Rattle.unicode_width.specs.declared.state.After.{After}

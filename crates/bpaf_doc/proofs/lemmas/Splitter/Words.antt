@@ -4,7 +4,7 @@ pub use Rattle.bpaf_doc.specs.Splitter.Chunks.{Chunk, Form, IsLine, IsLineEnd, I
 pub use Rattle.bpaf_doc.specs.Splitter.Promises.{IsGap, IsOneLine, IsPlace, IsSpelledOnce, IsText, StandInOrder, StandsFor, is_gap_byte}
 pub use Rattle.bpaf_doc.specs.Splitter.Steps.{IsLettered, IsRunEnd, begins, is_lettered, letters}
 pub use Rattle.memchr.specs.Find.{IsLastByte, NoneAfter, NoneBefore, Nowhere, Passes, is_byte}
-pub use Rattle.std.proofs.Common.{Bool, IsTrue, List, MatchBool, MatchOption, None, Option, Some, [], ap, append-nil, append_assoc, ap₂, arith, codes, drop, drop-cons, drop_at, false, filter, get_or, get_or-take, if◌then◌else◌, inl, inr, length, length-append, length-drop, length-take, lit<, nat_lt, refl, subst, suc, sum_by, sym, take, take-append-drop, take_all, take_at, take_while, true, unwrap_or, zero, ℕ, ◌%◌, ◌&&◌, ◌*◌, ◌++◌, ◌+◌, ◌-◌, ◌/◌, ◌<◌, ◌==◌, ◌||◌, ◌∙◌, ◌∷◌, ◌≡◌, ◌≢◌, ◌≤◌, ◌⊎◌}
+pub use Rattle.std.proofs.Common.{Bool, IsTrue, List, MatchBool, MatchOption, None, Option, Some, [], ap, append-nil, append_assoc, ap₂, arith, codes, drop, drop-cons, drop_at, false, filter, get_or, get_or-take, inl, inr, length, length-append, length-drop, length-take, lit<, nat_lt, refl, subst, suc, sum_by, sym, take, take-append-drop, take_all, take_at, take_while, true, unwrap_or, zero, ℕ, ◌∙◌}
 pub use Rattle.std.proofs.lemmas.Bool.{and_parts, cases_Bool, cases_lt, eqb-true, le-ltb, lt-ltb}
 pub use Rattle.std.proofs.lemmas.Bool.Decides.{nat_tests}
 pub use Rattle.std.proofs.lemmas.List.{drop_all, get_or_at, take-take, take_more, take_rest}

@@ -1,4 +1,5 @@
-use Rattle.bpaf_doc.proofs.lemmas.Manpage.Words.{◌≡◌, after_parts, draft_on}
+use Rattle.std.specs.Prelude.{◌≡◌}
+use Rattle.bpaf_doc.proofs.lemmas.Manpage.Words.{after_parts, draft_on}
 use Rattle.bpaf_doc.proofs.manpage.written.Given as goal
 
 abbrev pub invariant-loop-part : goal.invariant-loop-part

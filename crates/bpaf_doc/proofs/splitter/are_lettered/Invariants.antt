@@ -1,4 +1,5 @@
-use Rattle.bpaf_doc.proofs.lemmas.Splitter.Words.{◌≡◌, take, list_all, is_lettered}
+use Rattle.std.specs.Prelude.{◌≡◌}
+use Rattle.bpaf_doc.proofs.lemmas.Splitter.Words.{take, list_all, is_lettered}
 use Rattle.bpaf_doc.proofs.splitter.are_lettered.Given as goal
 
 abbrev pub invariant-loop-byte : goal.invariant-loop-byte

@@ -1,4 +1,5 @@
-use Rattle.bpaf_doc.proofs.lemmas.Splitter.Words.{◌≡◌, ◌≤◌, take, letters}
+use Rattle.std.specs.Prelude.{◌≡◌, ◌≤◌}
+use Rattle.bpaf_doc.proofs.lemmas.Splitter.Words.{take, letters}
 use Rattle.bpaf_doc.proofs.splitter.count_letters.Given as goal
 
 abbrev pub invariant-loop-byte : goal.invariant-loop-byte

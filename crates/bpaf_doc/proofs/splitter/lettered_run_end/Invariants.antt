@@ -1,4 +1,5 @@
-use Rattle.bpaf_doc.proofs.lemmas.Splitter.Words.{◌≡◌, ◌≤◌, ◌<◌, ◌-◌, length, take, IsRunEnd, IsLettered, letters}
+use Rattle.std.specs.Prelude.{◌-◌, ◌<◌, ◌≡◌, ◌≤◌}
+use Rattle.bpaf_doc.proofs.lemmas.Splitter.Words.{length, take, IsRunEnd, IsLettered, letters}
 use Rattle.bpaf_doc.proofs.splitter.lettered_run_end.Given as goal
 
 abbrev pub invariant-lettered : goal.invariant-lettered

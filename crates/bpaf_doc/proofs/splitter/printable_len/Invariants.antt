@@ -1,4 +1,5 @@
-use Rattle.bpaf_doc.proofs.lemmas.Splitter.Words.{◌≡◌, ◌≤◌, ◌-◌, true, length, take, is_ascii_graphic, list_all}
+use Rattle.std.specs.Prelude.{◌-◌, ◌≡◌, ◌≤◌}
+use Rattle.bpaf_doc.proofs.lemmas.Splitter.Words.{true, length, take, is_ascii_graphic, list_all}
 use Rattle.bpaf_doc.proofs.splitter.printable_len.Given as goal
 
 abbrev pub invariant-printable : goal.invariant-printable

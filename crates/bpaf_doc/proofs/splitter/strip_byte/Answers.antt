@@ -1,4 +1,5 @@
-use Rattle.bpaf_doc.proofs.lemmas.Splitter.Words.{◌≡◌, ◌<◌, ◌==◌, false, ℕ, List, length, get_or, subst, sym, ◌∙◌, ap, arith, IsCharBoundary-after_ascii}
+use Rattle.std.specs.Prelude.{◌<◌, ◌==◌, ◌≡◌}
+use Rattle.bpaf_doc.proofs.lemmas.Splitter.Words.{false, ℕ, List, length, get_or, subst, sym, ◌∙◌, ap, arith, IsCharBoundary-after_ascii}
 use Rattle.bpaf_doc.proofs.splitter.strip_byte.Goals as goal
 
 some : (bytes : List ℕ) → (length bytes == 0) ≡ false → 0 < length bytes

@@ -1,5 +1,6 @@
 -- How the running ends cut the payload of a document into its parts.
-use Rattle.bpaf_doc.specs.Words.{◌≡◌, ℕ, zero, suc, ◌+◌, ◌-◌, ◌^◌, ◌<◌, ◌≤◌, Bool, false, if◌then◌else◌, List, [], ◌∷◌, length, take, drop, IsUtf8, Style, Part, Text, Start, End}
+use Rattle.std.specs.Prelude.{if◌then◌else◌, ◌+◌, ◌-◌, ◌<◌, ◌^◌, ◌∷◌, ◌≡◌, ◌≤◌}
+use Rattle.bpaf_doc.specs.Words.{ℕ, zero, suc, Bool, false, List, [], length, take, drop, IsUtf8, Style, Part, Text, Start, End}
 use Rattle.bpaf_doc.specs.declared.buffer.{Kind.Kind, PartEnd.PartEnd}
 use Rattle.bpaf_doc.specs.declared.buffer.Kind.TheVariants as kind
 use Rattle.bpaf_doc.specs.Buffer.Writes.{same_style}

@@ -1,5 +1,6 @@
 -- The laws of the equality and the order of documents, which their implementations cite.
-use Rattle.bpaf_doc.specs.Words.{◌≡◌, ◌&&◌, ◌==◌, refl, List, Part, part_bytes}
+use Rattle.std.specs.Prelude.{◌&&◌, ◌==◌, ◌≡◌}
+use Rattle.bpaf_doc.specs.Words.{refl, List, Part, part_bytes}
 use Rattle.std.specs.Ordering.{nat_cmp, on, then_cmp, eq_by_cmp, as_partial_cmp}
 use Rattle.std.specs.Cmp.Lexicographic.{slice_cmp, lists_ties, texts_ties}
 use Rattle.std.specs.Cmp.{IsEquivalence, IsTotalOrder, IsPartialOrder, partial_order_from_agreeing_total, unsigned_ties, both_tied}

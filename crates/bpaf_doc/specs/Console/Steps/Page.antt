@@ -1,6 +1,7 @@
 -- A console page, step by step, as the private functions leave it: the page so far of the exact rules, and what the
 -- code carries beside it. This is internal.
-use Rattle.bpaf_doc.specs.Words.{◌≡◌, ℕ, ◌+◌, ◌-◌, ◌<◌, ◌≤◌, ◌==◌, Bool, false, not, ◌&&◌, List, [], ◌∷◌, ◌++◌, Option, Some, None, unwrap_or, length, take, nat_lt, string_bytes, if◌then◌else◌, slice_get, trim_end, bytes_eq, Block, Chunk, Raw, Paragraph, LineBreak, code_weight, columns, codes}
+use Rattle.std.specs.Prelude.{if◌then◌else◌, ◌&&◌, ◌++◌, ◌+◌, ◌-◌, ◌<◌, ◌==◌, ◌∷◌, ◌≡◌, ◌≤◌}
+use Rattle.bpaf_doc.specs.Words.{ℕ, Bool, false, not, List, [], Option, Some, None, unwrap_or, length, take, nat_lt, string_bytes, slice_get, trim_end, bytes_eq, Block, Chunk, Raw, Paragraph, LineBreak, code_weight, columns, codes}
 use Rattle.bpaf_doc.specs.declared.buffer.Block.TheVariants as blocks
 use Rattle.bpaf_doc.specs.declared.console.page.Asked.TheVariants as asked
 use Rattle.bpaf_doc.specs.declared.console.page.{Asked.Asked, Page.Page}

@@ -1,6 +1,7 @@
 -- A console text, part by part, as the private functions leave it. This is internal: that such a text is the exact page
 -- is proved.
-use Rattle.bpaf_doc.specs.Words.{ℕ, ◌+◌, ◌-◌, ◌==◌, Bool, true, false, ◌&&◌, List, [], ◌∷◌, Option, Some, drop, max, nat_le, nat_lt, if◌then◌else◌, slice_get, position_or_len, Block, Part, Text, Start, End, columns, chunks_of, not, list_any, Chunk, is_paragraph, is_inline}
+use Rattle.std.specs.Prelude.{if◌then◌else◌, ◌&&◌, ◌+◌, ◌-◌, ◌==◌, ◌∷◌}
+use Rattle.bpaf_doc.specs.Words.{ℕ, Bool, true, false, List, [], Option, Some, drop, max, nat_le, nat_lt, slice_get, position_or_len, Block, Part, Text, Start, End, columns, chunks_of, not, list_any, Chunk, is_paragraph, is_inline}
 use Rattle.bpaf_doc.specs.declared.buffer.Block.TheVariants as blocks
 use Rattle.bpaf_doc.specs.declared.console.pairs.Pairs.{Pairs}
 use Rattle.bpaf_doc.specs.Console.Margin.{is_section4_start, is_term_start, is_term_end}

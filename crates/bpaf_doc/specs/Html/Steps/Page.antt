@@ -1,6 +1,7 @@
 -- An HTML page as the code keeps it while it writes one fragment after another. This is internal: `Html/Exact` says
 -- what comes out, and that these pages are the same is proved (proofs/lemmas/Html/Exact).
-use Rattle.bpaf_doc.specs.Words.{ℕ, Bool, true, false, ◌&&◌, List, [], ◌∷◌, ◌++◌, flat_map, if◌then◌else◌, codes, Block, Chunk, Raw, drop, fold}
+use Rattle.std.specs.Prelude.{if◌then◌else◌, ◌&&◌, ◌++◌, ◌∷◌}
+use Rattle.bpaf_doc.specs.Words.{ℕ, Bool, true, false, List, [], flat_map, codes, Block, Chunk, Raw, drop, fold}
 use Rattle.bpaf_doc.specs.Html.Fragments.{Fragment, TextStart, Shown, TextEnd, Hidden, Start, End}
 use Rattle.bpaf_doc.specs.Html.Page.{escaped_character, is_definition_list}
 pub use Rattle.bpaf_doc.specs.Html.Exact.{is_empty, is_header, start_tag, end_tag, opening_tags, closing_tags}

@@ -1,5 +1,6 @@
 -- Fragments, styles and languages of the code, as the definitions name them.
-use Rattle.bpaf_doc.specs.Words.{◌≡◌, ◌≢◌, ℕ, ◌<◌, Bool, ⊤, List, if◌then◌else◌, [], ◌∷◌, ◌++◌, length, map, take, slice_index, flat_map, Option, MatchOption, Raw, chunks_of, code_weight, zero, suc, not, ◌&&◌, list_any, Style, Part, Text, Start as PartStart, End as PartEnd, Chunk, is_paragraph, is_inline}
+use Rattle.std.specs.Prelude.{if◌then◌else◌, ◌&&◌, ◌++◌, ◌<◌, ◌∷◌, ◌≡◌, ◌≢◌}
+use Rattle.bpaf_doc.specs.Words.{ℕ, Bool, ⊤, List, [], length, map, take, slice_index, flat_map, Option, MatchOption, Raw, chunks_of, code_weight, zero, suc, not, list_any, Style, Part, Text, Start as PartStart, End as PartEnd, Chunk, is_paragraph, is_inline}
 use Rattle.bpaf_doc.specs.declared.html.Language.{Language}
 use Rattle.bpaf_doc.specs.declared.html.Language.TheVariants as language
 use Rattle.bpaf_doc.specs.declared.html.fragments.{Fragment.Fragment as Handed, Taken.Taken}

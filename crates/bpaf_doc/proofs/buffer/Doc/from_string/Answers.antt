@@ -1,4 +1,5 @@
-use Rattle.bpaf_doc.proofs.lemmas.Buffer.Words.{◌≡◌, ◌+◌, [], length, refl, string_bytes, arith, IsUtf8-string_bytes}
+use Rattle.std.specs.Prelude.{◌+◌, ◌≡◌}
+use Rattle.bpaf_doc.proofs.lemmas.Buffer.Words.{[], length, refl, string_bytes, arith, IsUtf8-string_bytes}
 use Rattle.bpaf_doc.specs.declared.buffer.Style.TheVariants as style
 use Rattle.bpaf_doc.proofs.lemmas.Buffer.Ends.{AreEnds-with_text_end}
 use Rattle.bpaf_doc.proofs.buffer.Doc.from_string.Goals as goal

@@ -1,4 +1,5 @@
-use Rattle.bpaf_doc.proofs.lemmas.Buffer.Words.{◌≡◌, ◌++◌, leading_texts}
+use Rattle.std.specs.Prelude.{◌++◌, ◌≡◌}
+use Rattle.bpaf_doc.proofs.lemmas.Buffer.Words.{leading_texts}
 use Rattle.bpaf_doc.proofs.buffer.Doc.leading_texts.Given as goal
 
 abbrev pub invariant-loop-part : goal.invariant-loop-part

@@ -1,4 +1,5 @@
-use Rattle.bpaf_doc.proofs.lemmas.Buffer.Words.{◌≡◌, ℕ, ◌-◌, ◌≤◌, List, length, string_bytes, arith, IsCharBoundary-from_take, PartEnd, end_before, parts_from}
+use Rattle.std.specs.Prelude.{◌-◌, ◌≡◌, ◌≤◌}
+use Rattle.bpaf_doc.proofs.lemmas.Buffer.Words.{ℕ, List, length, string_bytes, arith, IsCharBoundary-from_take, PartEnd, end_before, parts_from}
 use Rattle.bpaf_doc.proofs.lemmas.Buffer.Ends.{AreEnds-drop, IsUtf8-AreEnds, IsUtf8-before, end_before-bounds, length-parts_from, parts_from-drop}
 use Rattle.bpaf_doc.proofs.buffer.Doc.parts_after.Goals as goal
 

@@ -1,4 +1,5 @@
-use Rattle.bpaf_doc.proofs.lemmas.Buffer.Words.{◌≡◌, ◌+◌, ◌-◌, map, length, string_bytes, arith, ap, length-append, subst, AreEnds, moved}
+use Rattle.std.specs.Prelude.{◌+◌, ◌-◌, ◌≡◌}
+use Rattle.bpaf_doc.proofs.lemmas.Buffer.Words.{map, length, string_bytes, arith, ap, length-append, subst, AreEnds, moved}
 use Rattle.bpaf_doc.proofs.lemmas.Buffer.Ends.{AreEnds-append, AreEnds-moved, CanMove-AreEnds, parts_from-append, parts_from-moved}
 use Rattle.bpaf_doc.proofs.buffer.Doc.push_parts.Goals as goal
 

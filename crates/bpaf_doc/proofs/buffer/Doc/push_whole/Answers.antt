@@ -1,4 +1,5 @@
-use Rattle.bpaf_doc.proofs.lemmas.Buffer.Words.{◌≡◌, ◌+◌, ◌∷◌, [], ◌++◌, length, string_bytes, arith, ap, length-append, ◌∙◌, parts_from, text_end}
+use Rattle.std.specs.Prelude.{◌++◌, ◌+◌, ◌∷◌, ◌≡◌}
+use Rattle.bpaf_doc.proofs.lemmas.Buffer.Words.{[], length, string_bytes, arith, ap, length-append, ◌∙◌, parts_from, text_end}
 use Rattle.bpaf_doc.proofs.lemmas.Buffer.Ends.{AreEnds-append, alone_are, parts_from-append, text_alone}
 use Rattle.bpaf_doc.proofs.buffer.Doc.push_whole.Goals as goal
 

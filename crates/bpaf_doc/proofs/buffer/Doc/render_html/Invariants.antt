@@ -1,4 +1,5 @@
-use Rattle.bpaf_doc.proofs.lemmas.Buffer.Words.{◌≡◌, shown_fragments, blank_page, page_after_all}
+use Rattle.std.specs.Prelude.{◌≡◌}
+use Rattle.bpaf_doc.proofs.lemmas.Buffer.Words.{shown_fragments, blank_page, page_after_all}
 use Rattle.bpaf_doc.proofs.buffer.Doc.render_html.Given as goal
 
 -- the page so far with what is left comes to the whole

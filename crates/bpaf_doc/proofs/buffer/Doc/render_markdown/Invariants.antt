@@ -1,4 +1,5 @@
-use Rattle.bpaf_doc.proofs.lemmas.Buffer.Words.{◌≡◌, length, shown_fragments}
+use Rattle.std.specs.Prelude.{◌≡◌}
+use Rattle.bpaf_doc.proofs.lemmas.Buffer.Words.{length, shown_fragments}
 use Rattle.bpaf_doc.specs.Markdown.Steps.{blank_text, marked_after_all}
 use Rattle.bpaf_doc.proofs.buffer.Doc.render_markdown.Given as goal
 

@@ -1,4 +1,5 @@
-use Rattle.bpaf_doc.proofs.lemmas.Buffer.Words.{◌≡◌, ◌-◌, sym, subst, arith, string_bytes, IsCharBoundary-from_take, Grows, IsCheckpointOf}
+use Rattle.std.specs.Prelude.{◌-◌, ◌≡◌}
+use Rattle.bpaf_doc.proofs.lemmas.Buffer.Words.{sym, subst, arith, string_bytes, IsCharBoundary-from_take, Grows, IsCheckpointOf}
 use Rattle.bpaf_doc.proofs.lemmas.Buffer.Ends.{IsUtf8-AreEnds}
 use Rattle.bpaf_doc.proofs.lemmas.Buffer.RollBack.{is_cut}
 use Rattle.bpaf_doc.proofs.buffer.Doc.roll_back.Goals as goal

@@ -1,4 +1,5 @@
-use Rattle.bpaf_doc.proofs.lemmas.Buffer.Words.{[], ◌∷◌, ◌++◌, ap, ◌∙◌, on_err_weaker, InlineBlock, start, parts, Start}
+use Rattle.std.specs.Prelude.{◌++◌, ◌∷◌}
+use Rattle.bpaf_doc.proofs.lemmas.Buffer.Words.{[], ap, ◌∙◌, on_err_weaker, InlineBlock, start, parts, Start}
 use Rattle.bpaf_doc.proofs.lemmas.Buffer.Growing.{on_err}
 use Rattle.bpaf_doc.proofs.buffer.Doc.write_doc.Goals as goal
 

@@ -1,4 +1,5 @@
-use Rattle.bpaf_doc.proofs.lemmas.Buffer.Words.{[], ◌∷◌, on_err_weaker, InlineBlock, titled}
+use Rattle.std.specs.Prelude.{◌∷◌}
+use Rattle.bpaf_doc.proofs.lemmas.Buffer.Words.{[], on_err_weaker, InlineBlock, titled}
 use Rattle.bpaf_doc.specs.Buffer.Writes as write
 use Rattle.bpaf_doc.proofs.lemmas.Buffer.Growing.{Grows-more, Grows-grown, on_err}
 use Rattle.bpaf_doc.proofs.buffer.Doc.write_em_doc.Goals as goal

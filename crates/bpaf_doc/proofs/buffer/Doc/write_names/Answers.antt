@@ -1,4 +1,5 @@
-use Rattle.bpaf_doc.proofs.lemmas.Buffer.Words.{[], ◌∷◌, map, take, ◌∙◌, string_bytes, literal, path_writes}
+use Rattle.std.specs.Prelude.{◌∷◌}
+use Rattle.bpaf_doc.proofs.lemmas.Buffer.Words.{[], map, take, ◌∙◌, string_bytes, literal, path_writes}
 use Rattle.bpaf_doc.proofs.lemmas.Buffer.Growing.{Grows-more, on_err}
 use Rattle.bpaf_doc.proofs.buffer.Doc.write_names.Goals as goal
 

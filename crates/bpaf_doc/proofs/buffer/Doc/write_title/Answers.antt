@@ -1,4 +1,5 @@
-use Rattle.bpaf_doc.proofs.lemmas.Buffer.Words.{[], ◌∷◌, ◌∙◌, on_err_weaker, Section3, Grows, emphasis, plain}
+use Rattle.std.specs.Prelude.{◌∷◌}
+use Rattle.bpaf_doc.proofs.lemmas.Buffer.Words.{[], ◌∙◌, on_err_weaker, Section3, Grows, emphasis, plain}
 use Rattle.bpaf_doc.specs.Buffer.Writes as write
 use Rattle.bpaf_doc.proofs.lemmas.Buffer.Growing.{Grows-more, on_err}
 use Rattle.bpaf_doc.proofs.buffer.Doc.write_title.Goals as goal

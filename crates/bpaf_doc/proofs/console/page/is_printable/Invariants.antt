@@ -1,4 +1,5 @@
-use Rattle.bpaf_doc.proofs.lemmas.Console.Words.{◌≡◌, take, list_all}
+use Rattle.std.specs.Prelude.{◌≡◌}
+use Rattle.bpaf_doc.proofs.lemmas.Console.Words.{take, list_all}
 use Rattle.std.specs.Int.{is_in_range}
 use Rattle.bpaf_doc.proofs.console.page.is_printable.Given as goal
 

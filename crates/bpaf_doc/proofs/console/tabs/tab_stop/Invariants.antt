@@ -1,4 +1,5 @@
-use Rattle.bpaf_doc.proofs.lemmas.Console.Words.{◌≡◌, false, tab_stop_from}
+use Rattle.std.specs.Prelude.{◌≡◌}
+use Rattle.bpaf_doc.proofs.lemmas.Console.Words.{false, tab_stop_from}
 use Rattle.bpaf_doc.proofs.console.tabs.tab_stop.Given as goal
 
 abbrev pub invariant-loop-part : goal.invariant-loop-part

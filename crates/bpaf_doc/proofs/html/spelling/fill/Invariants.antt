@@ -1,4 +1,5 @@
-use Rattle.bpaf_doc.proofs.lemmas.Html.Words.{◌≡◌, ◌≤◌, ◌*◌, take, flat_map, spelling_of}
+use Rattle.std.specs.Prelude.{◌*◌, ◌≡◌, ◌≤◌}
+use Rattle.bpaf_doc.proofs.lemmas.Html.Words.{take, flat_map, spelling_of}
 use Rattle.bpaf_doc.proofs.html.spelling.fill.Given as goal
 
 abbrev pub invariant-loop-byte : goal.invariant-loop-byte

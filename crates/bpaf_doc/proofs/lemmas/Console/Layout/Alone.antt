@@ -1,5 +1,6 @@
 -- After a code or fence line a newline comes before the next place.
-use Rattle.bpaf_doc.proofs.lemmas.Console.Words.{sym, subst, ap, arith, inl, inr, ◌∙◌, ◌≡◌, ℕ, ◌<◌, ◌≤◌, true, false, List, [], ◌∷◌, ◌++◌, refl, ◌⊎◌, nat_tests, is_whole_line, Shows, Stretch, Gap, Placed, Passed, Place, chunk_at, is_placed}
+use Rattle.std.specs.Prelude.{◌++◌, ◌<◌, ◌∷◌, ◌≡◌, ◌≤◌, ◌⊎◌}
+use Rattle.bpaf_doc.proofs.lemmas.Console.Words.{sym, subst, ap, arith, inl, inr, ◌∙◌, ℕ, true, false, List, [], refl, nat_tests, is_whole_line, Shows, Stretch, Gap, Placed, Passed, Place, chunk_at, is_placed}
 use Rattle.bpaf_doc.proofs.lemmas.Console.Layout.State.{State, Piece, Lines, Begins, first, stays, wraps, places, drops, Next, Grows, placing, breaking, passing, padded, trimmed}
 use Rattle.bpaf_doc.proofs.lemmas.Console.Layout.Back.{by_cases, EachPlace, each_grows, place_of, by_lines, same_padded, IsStarting, has_place, or_true_right}
 use Rattle.bpaf_doc.proofs.lemmas.Console.Layout.Split.{Cut, cut_cons, cut_gap, cut_passed, cut_padded, has_newline, After}

@@ -1,5 +1,6 @@
 -- The first inked chunk of a line stands at its margin, where only marks or one blank stand before it.
-use Rattle.bpaf_doc.proofs.lemmas.Console.Words.{sym, subst, ap, arith, inl, inr, ◌∙◌, ◌≡◌, ℕ, ◌+◌, ◌<◌, Bool, true, false, not, ◌&&◌, List, [], ◌∷◌, codes, refl, ◌⊎◌, Chunk, Raw, is_inked, Event, Shows, Stretch, Gap, Placed, Passed, Place, chunk_at, is_raw_or_ref, NoBreak}
+use Rattle.std.specs.Prelude.{◌&&◌, ◌+◌, ◌<◌, ◌∷◌, ◌≡◌, ◌⊎◌}
+use Rattle.bpaf_doc.proofs.lemmas.Console.Words.{sym, subst, ap, arith, inl, inr, ◌∙◌, ℕ, Bool, true, false, not, List, [], codes, refl, Chunk, Raw, is_inked, Event, Shows, Stretch, Gap, Placed, Passed, Place, chunk_at, is_raw_or_ref, NoBreak}
 use Rattle.bpaf_doc.proofs.lemmas.Console.Layout.State.{State, Piece, Lines, Pads, Begins, first, stays, wraps, places, drops, Next, raw, mark, Grows, placing, breaking, passing, padded, put, Suits}
 use Rattle.bpaf_doc.proofs.lemmas.Console.Layout.Back.{by_cases, EachPlace, each_grows, place_of, fits_of, by_lines, same_padded, by_mark, Fills, column_back, column_padded, Agrees, EachPassed, NoInk, ink_text, IsStarting, begins_margin, or_false_right, agrees_lines, no_text_column}
 use Rattle.bpaf_doc.proofs.lemmas.Console.Layout.Pads.{pads_back, HasNoPads, pads_begins}

@@ -1,6 +1,6 @@
 -- Facts that hold of each place of a page, and what keeps them; the column and the text of a page as it grows.
 use Rattle.std.specs.Prelude.{IsTrue, ◌≡◌, ℕ, zero, suc, ◌+◌, ◌<◌, ◌≤◌, ⊤, Bool, true, false, List, [], ◌∷◌, ◌++◌, codes, refl, if◌then◌else◌, not, ◌&&◌, ◌||◌, ◌==◌, length, filter, chars, ◌⊎◌}
-use Rattle.bpaf_doc.proofs.lemmas.Console.Words.{arith, sym, subst, ◌∙◌, ◌⊎◌, rules, inl, inr, Chunk, Paragraph, LineBreak, columns, is_inked, has_some, Raw, is_ordinary, code_weight, fence_weight, Block, Event, Shows, Opens, Closes, is_silent_block, Stretch, Gap, Placed, Passed, Place, chunk_at, event_bytes, stretch_columns, is_newline, is_inked_event, is_inked_stretch, is_placed, is_written, is_not_whitespace, cases_lt, length-le-encodes, nat_tests, ink, list_any}
+use Rattle.bpaf_doc.proofs.lemmas.Console.Words.{arith, sym, subst, ◌∙◌, rules, inl, inr, Chunk, Paragraph, LineBreak, columns, is_inked, has_some, Raw, is_ordinary, code_weight, fence_weight, Block, Event, Shows, Opens, Closes, is_silent_block, Stretch, Gap, Placed, Passed, Place, chunk_at, event_bytes, stretch_columns, is_newline, is_inked_event, is_inked_stretch, is_placed, is_written, is_not_whitespace, cases_lt, length-le-encodes, nat_tests, ink, list_any}
 use Rattle.bpaf_doc.proofs.lemmas.Console.Layout.State.{State, Piece, Lines, Pads, Begins, places, drops, Next, raw, break, mark, Grows, placing, breaking, passing, padded, trimmed, cut, Fits, Suits, on_new_line, sat, put, dropped, wrapped, broken, passed, has_text, ends_line, IsClear}
 use Rattle.std.specs.Str.{trim_end, drop_trailing_whitespace, chars}
 use Rattle.unicode_width.specs.Width.{str_width}

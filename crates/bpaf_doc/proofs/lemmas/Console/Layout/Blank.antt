@@ -1,5 +1,6 @@
 -- A blank line stands where one is asked for.
-use Rattle.bpaf_doc.proofs.lemmas.Console.Words.{list_any, sym, subst, ap, arith, ◌∙◌, append_assoc, ◌≡◌, ℕ, zero, suc, ◌≤◌, Bool, true, false, ◌&&◌, ◌||◌, ◌==◌, List, [], ◌∷◌, ◌++◌, reverse, codes, refl, if◌then◌else◌, reverse-append, append-nil, flat_map-append, common_steps, and_parts, eqb-true, or_cases, columns, is_inked, has_some, Event, Stretch, Gap, Placed, Passed, Place, chunk_at, event_bytes, stretch_bytes, asks_blank_line, is_raw_event, text_of, HasBlankLine, is_inked_stretch, asks_newline, BlankLine}
+use Rattle.std.specs.Prelude.{if◌then◌else◌, ◌&&◌, ◌++◌, ◌==◌, ◌||◌, ◌∷◌, ◌≡◌, ◌≤◌}
+use Rattle.bpaf_doc.proofs.lemmas.Console.Words.{list_any, sym, subst, ap, arith, ◌∙◌, append_assoc, ℕ, zero, suc, Bool, true, false, List, [], reverse, codes, refl, reverse-append, append-nil, flat_map-append, common_steps, and_parts, eqb-true, or_cases, columns, is_inked, has_some, Event, Stretch, Gap, Placed, Passed, Place, chunk_at, event_bytes, stretch_bytes, asks_blank_line, is_raw_event, text_of, HasBlankLine, is_inked_stretch, asks_newline, BlankLine}
 use Rattle.bpaf_doc.proofs.lemmas.Console.Layout.State.{State, Piece, Lines, Pads, Begins, first, stays, wraps, Next, raw, Grows, padded, trimmed, ends_line, ends_blank, passed, Suits, is_nothing}
 use Rattle.bpaf_doc.proofs.lemmas.Console.Layout.Back.{each_back, by_cases, EachPlace, each_grows, place_of, lines_back, by_trimmed, same_padded, by_break, by_grows, Fills, inked_some, no_bytes, EachPassed, NoInk, ink_text, or_true_right, or_false_left, or_false_right, each_begins, fills_cut}
 use Rattle.bpaf_doc.proofs.lemmas.Console.Layout.Split.{events_back, Cut, cut_padded, ink_at, inked_line, After}

@@ -1,5 +1,6 @@
 -- No line of a page passes the bound.
-use Rattle.bpaf_doc.proofs.lemmas.Console.Words.{◌≡◌, ℕ, zero, suc, ◌+◌, ◌<◌, ◌≤◌, max, ⊤, true, false, List, [], ◌∷◌, length, refl, sym, subst, arith, ◌∙◌, cases_lt, columns, has_some, Event, Stretch, event_bytes}
+use Rattle.std.specs.Prelude.{◌+◌, ◌<◌, ◌∷◌, ◌≡◌, ◌≤◌}
+use Rattle.bpaf_doc.proofs.lemmas.Console.Words.{ℕ, zero, suc, max, ⊤, true, false, List, [], length, refl, sym, subst, arith, ◌∙◌, cases_lt, columns, has_some, Event, Stretch, event_bytes}
 use Rattle.bpaf_doc.proofs.lemmas.Console.Layout.State.{State, Piece, Lines, Pads, Begins, Next, raw, break, mark, Grows, padded, trimmed}
 use Rattle.bpaf_doc.proofs.lemmas.Console.Layout.Back.{EachPlace, lines_back, begins_back, by_trimmed, by_padded, by_grows, Fills, column_back, column_padded, no_text_column, Agrees, agrees_lines, no_bytes, EachPassed, lines_margin}
 

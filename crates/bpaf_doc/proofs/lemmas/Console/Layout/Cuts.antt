@@ -1,5 +1,6 @@
 -- What may stand on a page, and that a chunk loses its blank end only before a newline.
-use Rattle.bpaf_doc.proofs.lemmas.Console.Words.{◌≡◌, ℕ, ⊤, Bool, true, false, ◌==◌, List, [], ◌∷◌, refl, if◌then◌else◌, ◌⊎◌, trim_end, sym, subst, inl, inr, ◌∙◌, arith, has_some, Stretch, Gap, Placed, Passed, event_bytes}
+use Rattle.std.specs.Prelude.{if◌then◌else◌, ◌==◌, ◌∷◌, ◌≡◌, ◌⊎◌}
+use Rattle.bpaf_doc.proofs.lemmas.Console.Words.{ℕ, ⊤, Bool, true, false, List, [], refl, trim_end, sym, subst, inl, inr, ◌∙◌, arith, has_some, Stretch, Gap, Placed, Passed, event_bytes}
 use Rattle.bpaf_doc.proofs.lemmas.Console.Layout.State.{State, Lines, Next, Grows, padded, trimmed, wrapped}
 use Rattle.bpaf_doc.proofs.lemmas.Console.Layout.Back.{EachPlace, lines_back, by_trimmed, by_padded, by_grows, Fills, inked_trim, inked_some}
 

@@ -1,5 +1,6 @@
 -- Between neighbouring inked chunks of one line nothing is cut or left out, and within one text nothing is added.
-use Rattle.bpaf_doc.proofs.lemmas.Console.Words.{◌≡◌, ◌≢◌, ℕ, zero, suc, ◌<◌, ◌≤◌, ⊤, true, false, ◌||◌, List, [], ◌∷◌, refl, ◌⊎◌, list_any, sym, subst, arith, inl, inr, Raw, is_inked, Shows, Stretch, Gap, Placed, Passed, Place, chunk_at, is_inked_stretch, is_inked_event, is_raw_event}
+use Rattle.std.specs.Prelude.{◌<◌, ◌||◌, ◌∷◌, ◌≡◌, ◌≢◌, ◌≤◌, ◌⊎◌}
+use Rattle.bpaf_doc.proofs.lemmas.Console.Words.{ℕ, zero, suc, ⊤, true, false, List, [], refl, list_any, sym, subst, arith, inl, inr, Raw, is_inked, Shows, Stretch, Gap, Placed, Passed, Place, chunk_at, is_inked_stretch, is_inked_event, is_raw_event}
 use Rattle.bpaf_doc.proofs.lemmas.Console.Layout.State.{State, Piece, Lines, Pads, Begins, first, stays, wraps, places, drops, Next, raw, Grows, placing, breaking, passing, padded, trimmed, put, Suits}
 use Rattle.bpaf_doc.proofs.lemmas.Console.Layout.Back.{each_back, by_cases, EachPlace, each_grows, each_begins, each_trimmed, place_of, fits_of, by_lines, by_padded, same_padded, by_mark, by_break, by_grows, or_false_right, begins_margin, blank_ink, lines_back}
 use Rattle.bpaf_doc.proofs.lemmas.Console.Layout.Split.{Cut, FirstOrLater, here, later, cut_cons, cut_gap, cut_passed, cut_padded, has_newline, inked_line, inked_since, After}

@@ -1,5 +1,6 @@
 -- Each inked chunk stands at its margin at least, and no line passes the bound.
-use Rattle.bpaf_doc.proofs.lemmas.Console.Words.{arith, ◌∙◌, ◌≡◌, ℕ, ◌+◌, ◌<◌, ◌≤◌, List, Stretch, Place}
+use Rattle.std.specs.Prelude.{◌+◌, ◌<◌, ◌≡◌, ◌≤◌}
+use Rattle.bpaf_doc.proofs.lemmas.Console.Words.{arith, ◌∙◌, ℕ, List, Stretch, Place}
 use Rattle.bpaf_doc.proofs.lemmas.Console.Layout.State.{State, Piece, Pads, Begins, Next, raw, Grows, padded, Suits}
 use Rattle.bpaf_doc.proofs.lemmas.Console.Layout.Back.{EachPlace, KeepsCut, each_grows, place_of, fits_of, Fills, column_back, column_padded, Agrees, IsStarting, begins_margin, agrees_lines, no_text_column}
 

@@ -1,5 +1,6 @@
 -- Chunks fit the width, and blanks are added only up to the margin or after a wide term, and before a place.
-use Rattle.bpaf_doc.proofs.lemmas.Console.Words.{◌≡◌, ℕ, zero, suc, ◌+◌, ◌<◌, ◌≤◌, ⊤, Bool, true, false, ◌&&◌, ◌||◌, ◌==◌, List, [], ◌∷◌, ◌++◌, reverse, refl, if◌then◌else◌, ◌⊎◌, rules, ap, arith, inl, inr, ◌∙◌, append_assoc, reverse-append, columns, Event, Stretch, Gap, Placed, Passed, Place, is_newline, is_placed, is_gap, holds_line, leads_to_place, opens_body}
+use Rattle.std.specs.Prelude.{if◌then◌else◌, ◌&&◌, ◌++◌, ◌+◌, ◌<◌, ◌==◌, ◌||◌, ◌∷◌, ◌≡◌, ◌≤◌, ◌⊎◌}
+use Rattle.bpaf_doc.proofs.lemmas.Console.Words.{ℕ, zero, suc, ⊤, Bool, true, false, List, [], reverse, refl, rules, ap, arith, inl, inr, ◌∙◌, append_assoc, reverse-append, columns, Event, Stretch, Gap, Placed, Passed, Place, is_newline, is_placed, is_gap, holds_line, leads_to_place, opens_body}
 use Rattle.bpaf_doc.proofs.lemmas.Console.Layout.State.{State, Piece, Lines, Pads, Begins, first, stays, wraps, Next, raw, Grows, padded, trimmed, has_text, Suits}
 use Rattle.bpaf_doc.proofs.lemmas.Console.Layout.Back.{by_cases, EachPlace, KeepsCut, each_grows, place_of, fits_of, by_lines, lines_back, begins_back, by_trimmed, by_padded, same_padded, by_grows, Fills, column_back, column_padded, Agrees, any_in_line, IsStarting, has_place, begins_margin, or_true_right, or_false_left, or_false_right, agrees_lines, no_text_column}
 

@@ -1,5 +1,6 @@
 -- How much of a line is taken since a chunk, reckoned by some rule; and that the line is broken only where the next chunk has no room.
-use Rattle.bpaf_doc.proofs.lemmas.Console.Words.{IsTrue, list_all, sym, subst, ap, arith, ◌∙◌, ◌≡◌, ℕ, ◌+◌, ◌<◌, ◌≤◌, Bool, true, false, List, [], ◌∷◌, length, refl, ◌⊎◌, and_parts, Block, Request, NoBreak, Chunk, Raw, Paragraph, LineBreak, columns, is_ordinary, Event, Shows, Opens, Closes, Stretch, Gap, Placed, Passed, Place, chunk_at, event_bytes, is_silent_block}
+use Rattle.std.specs.Prelude.{◌+◌, ◌<◌, ◌∷◌, ◌≡◌, ◌≤◌, ◌⊎◌}
+use Rattle.bpaf_doc.proofs.lemmas.Console.Words.{IsTrue, list_all, sym, subst, ap, arith, ◌∙◌, ℕ, Bool, true, false, List, [], length, refl, and_parts, Block, Request, NoBreak, Chunk, Raw, Paragraph, LineBreak, columns, is_ordinary, Event, Shows, Opens, Closes, Stretch, Gap, Placed, Passed, Place, chunk_at, event_bytes, is_silent_block}
 use Rattle.bpaf_doc.proofs.lemmas.Console.Layout.State.{State, Piece, Lines, Pads, Begins, first, stays, wraps, Next, raw, break, mark, Grows, padded, trimmed, sat, wrapped, put, passed, dropped, broken, asked_after, pending_after, Suits, IsShallow}
 use Rattle.bpaf_doc.proofs.lemmas.Console.Layout.Back.{EachPlace, each_grows, place_of, fits_of, same_padded, by_mark, by_grows, Fills, column_back, column_padded, Agrees, IsStarting, agrees_lines, no_text_column}
 use Rattle.bpaf_doc.proofs.lemmas.Console.Layout.Alone.{place_in}

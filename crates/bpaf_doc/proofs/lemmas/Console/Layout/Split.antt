@@ -1,5 +1,6 @@
 -- A page cut before one of its places.
-use Rattle.bpaf_doc.proofs.lemmas.Console.Words.{list_any, sym, ap, ◌∙◌, arith, ◌≡◌, ℕ, zero, suc, Bool, true, false, List, [], ◌∷◌, ◌++◌, refl, or_parts, is_inked, has_some, Event, Shows, Stretch, Gap, Placed, Passed, Place, chunk_at, event_bytes, is_newline, is_inked_stretch}
+use Rattle.std.specs.Prelude.{◌++◌, ◌∷◌, ◌≡◌}
+use Rattle.bpaf_doc.proofs.lemmas.Console.Words.{list_any, sym, ap, ◌∙◌, arith, ℕ, zero, suc, Bool, true, false, List, [], refl, or_parts, is_inked, has_some, Event, Shows, Stretch, Gap, Placed, Passed, Place, chunk_at, event_bytes, is_newline, is_inked_stretch}
 use Rattle.bpaf_doc.proofs.lemmas.Console.Layout.Back.{any_in_line, next_event, lines_back, begins_back, by_trimmed, same_padded}
 use Rattle.bpaf_doc.proofs.lemmas.Console.Layout.State.{State, Piece, Lines, Begins, places, drops, Next, Grows, placing, breaking, passing, padded, trimmed, cut}
 

@@ -1,6 +1,7 @@
 -- A console page as it grows. The rules of the console as a relation between what stands before a document event and after it.
 -- Internal: `IsLayout` is what is promised, and it is proved of each page that grows so.
-use Rattle.bpaf_doc.proofs.lemmas.Console.Words.{trim_end, IsLine, Chunk, Raw, Paragraph, LineBreak, columns, is_inked, has_some, is_ordinary, Event, Shows, Opens, Closes, Stretch, Gap, Placed, Passed, Place, chunk_at, event_bytes, stretch_bytes, is_newline, asks_newline, asks_blank_line, opens_body, is_silent_block, is_empty_code, Request, NoBreak, NewLine, BlankLine, at_least_new_line, Block, IsTrue, IsUtf8, ◌⊎◌, ◌≡◌, ◌≢◌, ℕ, zero, suc, ◌+◌, ◌-◌, ◌<◌, ◌≤◌, min, ⊤, Bool, true, false, ◌&&◌, ◌||◌, List, [], ◌∷◌, ◌++◌, length, codes, if◌then◌else◌}
+use Rattle.std.specs.Prelude.{if◌then◌else◌, ◌&&◌, ◌++◌, ◌+◌, ◌-◌, ◌<◌, ◌||◌, ◌∷◌, ◌≡◌, ◌≢◌, ◌≤◌, ◌⊎◌}
+use Rattle.bpaf_doc.proofs.lemmas.Console.Words.{trim_end, IsLine, Chunk, Raw, Paragraph, LineBreak, columns, is_inked, has_some, is_ordinary, Event, Shows, Opens, Closes, Stretch, Gap, Placed, Passed, Place, chunk_at, event_bytes, stretch_bytes, is_newline, asks_newline, asks_blank_line, opens_body, is_silent_block, is_empty_code, Request, NoBreak, NewLine, BlankLine, at_least_new_line, Block, IsTrue, IsUtf8, ℕ, zero, suc, min, ⊤, Bool, true, false, List, [], length, codes}
 use Rattle.bpaf_doc.specs.declared.buffer.Block.TheVariants as blocks
 
 -- The page so far. The stretches stand newest first; `latest` is the part of the last chunk, `marked` says that a mark came since,

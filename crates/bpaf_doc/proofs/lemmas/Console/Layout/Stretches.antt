@@ -1,5 +1,6 @@
 -- What the text of a page shows of its stretches, and what it is without its blank end.
-use Rattle.bpaf_doc.proofs.lemmas.Console.Words.{common_steps, is_whitespace, is_not_whitespace, append-nil, nil_from_length, same_from_push, chars-append, encodes-chars, chars-encodes, scalars-chars, encodes-append, IsUtf8-append, IsUtf8-nil, IsUtf8-from_ascii, nat_tests, and_parts, eqb-true, or_parts, ink, has_some, IsLine, Event, Stretch, Gap, Placed, Passed, Place, event_bytes, stretch_bytes, is_newline, sym, subst, ap, arith, inl, inr, ◌∙◌, append_assoc, ◌≡◌, ◌≢◌, ℕ, true, false, ◌&&◌, ◌==◌, List, [], ◌∷◌, ◌++◌, length, filter, refl, ◌⊎◌, IsUtf8}
+use Rattle.std.specs.Prelude.{◌&&◌, ◌++◌, ◌==◌, ◌∷◌, ◌≡◌, ◌≢◌, ◌⊎◌}
+use Rattle.bpaf_doc.proofs.lemmas.Console.Words.{common_steps, is_whitespace, is_not_whitespace, append-nil, nil_from_length, same_from_push, chars-append, encodes-chars, chars-encodes, scalars-chars, encodes-append, IsUtf8-append, IsUtf8-nil, IsUtf8-from_ascii, nat_tests, and_parts, eqb-true, or_parts, ink, has_some, IsLine, Event, Stretch, Gap, Placed, Passed, Place, event_bytes, stretch_bytes, is_newline, sym, subst, ap, arith, inl, inr, ◌∙◌, append_assoc, ℕ, true, false, List, [], length, filter, refl, IsUtf8}
 use Rattle.std.specs.Str.{trim_end, drop_trailing_whitespace, chars, encode_utf8_all}
 use Rattle.std.proofs.Math.Utf8.{scalars, scalar}
 use Rattle.bpaf_doc.proofs.lemmas.Console.Layout.Back.{whole_trim, by_cases, by_test, by_trimmed}

@@ -1,5 +1,6 @@
 -- A page newest first and the stretches in order: what the definitions say of the one, said of the other.
-use Rattle.bpaf_doc.proofs.lemmas.Console.Words.{list_any, list_all, after_last, slice_split, prefix_len, reverse-append, reverse-reverse, length-reverse, append-nil, take-append-drop, length-drop, sum_by-append, sum_by-cons, list_any-append, list_all-append, flat_map-append, All-cons, All-nil, Stretch, stretch_columns, events_of, is_newline, is_placed, is_gap, is_inked_stretch, line_before, column, padding, stretch_lines, opens_body, is_raw_or_ref, events_since_ink, sym, subst, ap, arith, inl, inr, ◌∙◌, append_assoc, ◌≡◌, ℕ, ◌+◌, ◌-◌, ◌≤◌, Bool, true, false, not, ◌&&◌, ◌||◌, List, [], ◌∷◌, ◌++◌, length, take, drop, reverse, sum_by, count_by, All, refl, if◌then◌else◌, ◌⊎◌, cond}
+use Rattle.std.specs.Prelude.{if◌then◌else◌, ◌&&◌, ◌++◌, ◌+◌, ◌-◌, ◌||◌, ◌∷◌, ◌≡◌, ◌≤◌, ◌⊎◌}
+use Rattle.bpaf_doc.proofs.lemmas.Console.Words.{list_any, list_all, after_last, slice_split, prefix_len, reverse-append, reverse-reverse, length-reverse, append-nil, take-append-drop, length-drop, sum_by-append, sum_by-cons, list_any-append, list_all-append, flat_map-append, All-cons, All-nil, Stretch, stretch_columns, events_of, is_newline, is_placed, is_gap, is_inked_stretch, line_before, column, padding, stretch_lines, opens_body, is_raw_or_ref, events_since_ink, sym, subst, ap, arith, inl, inr, ◌∙◌, append_assoc, ℕ, Bool, true, false, not, List, [], length, take, drop, reverse, sum_by, count_by, All, refl, cond}
 use Rattle.std.proofs.Math.Seq.{drop-append_seam}
 use Rattle.bpaf_doc.proofs.lemmas.Console.Layout.Back.{by_cases, column_back, any_in_line, EachPassed, NoInk}
 use Rattle.bpaf_doc.proofs.lemmas.Console.Layout.Bound.{EachFront, whole_front}

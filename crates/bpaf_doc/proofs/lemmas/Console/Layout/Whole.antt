@@ -1,5 +1,6 @@
 -- A page that grows by the rules is a layout of its document.
-use Rattle.bpaf_doc.proofs.lemmas.Console.Words.{common_steps, list_any, list_all, after_last, rules, sym, subst, ap, arith, inl, inr, ◌∙◌, append_assoc, reverse-append, reverse-reverse, append-nil, All-append, All-cons, All-nil, sum_by-cons, list_any-append, nat_tests, not-true, or_parts, not-false, eqb-true, and_parts, Part, ink, columns, is_inked, has_some, starts, console_ink, margin, greatest_margin, Event, Shows, Stretch, Gap, Placed, Passed, Place, AreApart, chunk_at, event_bytes, event_columns, stretch_columns, text_of, events_of, shown_events, is_newline, is_placed, holds_line, leads_to_place, is_inked_stretch, is_empty_code, is_written, is_raw_event, is_ref, asks_newline, asks_blank_line, is_light, is_light_mark, opens_body, column, padding, line_before, stretch_lines, MayStand, BreaksWhereAsked, KeepsBlanks, IsKept, BeginsClear, IsFirstInLine, events_since_ink, is_raw_or_ref, FollowsBlank, KeepsMargin, WrapsOnlyIfNeeded, IsBounded, FitsWidth, PadsToMargin, StandsAlone, room_of, BreaksForRoom, HasBlankLine, widest, IsLayout, ◌≡◌, ◌≢◌, ℕ, suc, ◌+◌, ◌<◌, ◌≤◌, max, ⊤, Bool, true, false, not, ◌==◌, List, [], ◌∷◌, ◌++◌, take, reverse, map, fold, sum_by, All, codes, refl, if◌then◌else◌, ◌⊎◌, IsTrue}
+use Rattle.std.specs.Prelude.{if◌then◌else◌, ◌++◌, ◌+◌, ◌<◌, ◌==◌, ◌∷◌, ◌≡◌, ◌≢◌, ◌≤◌, ◌⊎◌}
+use Rattle.bpaf_doc.proofs.lemmas.Console.Words.{common_steps, list_any, list_all, after_last, rules, sym, subst, ap, arith, inl, inr, ◌∙◌, append_assoc, reverse-append, reverse-reverse, append-nil, All-append, All-cons, All-nil, sum_by-cons, list_any-append, nat_tests, not-true, or_parts, not-false, eqb-true, and_parts, Part, ink, columns, is_inked, has_some, starts, console_ink, margin, greatest_margin, Event, Shows, Stretch, Gap, Placed, Passed, Place, AreApart, chunk_at, event_bytes, event_columns, stretch_columns, text_of, events_of, shown_events, is_newline, is_placed, holds_line, leads_to_place, is_inked_stretch, is_empty_code, is_written, is_raw_event, is_ref, asks_newline, asks_blank_line, is_light, is_light_mark, opens_body, column, padding, line_before, stretch_lines, MayStand, BreaksWhereAsked, KeepsBlanks, IsKept, BeginsClear, IsFirstInLine, events_since_ink, is_raw_or_ref, FollowsBlank, KeepsMargin, WrapsOnlyIfNeeded, IsBounded, FitsWidth, PadsToMargin, StandsAlone, room_of, BreaksForRoom, HasBlankLine, widest, IsLayout, ℕ, suc, max, ⊤, Bool, true, false, not, List, [], take, reverse, map, fold, sum_by, All, codes, refl, IsTrue}
 use Rattle.bpaf_doc.proofs.lemmas.Console.Margins.{more_than}
 use Rattle.bpaf_doc.proofs.lemmas.Console.Layout.State.{State, has_text, IsShallow, Next, Grows, Suits, IsClear, blank_page, Written, nothing, more, Ends, as_is, with_newline, broken}
 use Rattle.bpaf_doc.proofs.lemmas.Console.Layout.Back.{each_back, by_cases, EachPlace, by_grows, Fills, fills_grows, Agrees, agrees_grows, column_back, EachPassed, NoInk, no_ink_grows, IsStarting, starting_grows, next_event, text_stays, text_written, begins_margin, lines_margin, by_mark}

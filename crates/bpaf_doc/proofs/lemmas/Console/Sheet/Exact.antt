@@ -1,5 +1,6 @@
 -- The page that the code writes is the page as a function of the document: the walk over its marks, and the whole.
-use Rattle.bpaf_doc.proofs.lemmas.Console.Words.{common_steps, length-drop, length-reverse, take_at, nat_tests, Pairs, Block, Style, Part, Text, Start, End, Chunk, Raw, Paragraph, LineBreak, columns, chunks_of, has_some, is_hidden, shown_chunks, through_paragraph, margin, is_skipped, skips_pair, is_section4_start, tab_stop, Shift, Indent, Level, part_shift, saturated, PageSoFar, console_page, hidden_after, Sheet, blank_sheet, enumerate_from, console_text, sym, ap, arith, inl, inr, ◌∙◌, ◌≡◌, ℕ, zero, suc, ◌+◌, ◌-◌, ◌^◌, ◌<◌, ◌≤◌, Bool, true, false, not, ◌&&◌, ◌==◌, List, [], ◌∷◌, ◌++◌, length, take, drop, reverse, refl, if◌then◌else◌, slice_get, Some, IfOk, Result, String, string_bytes}
+use Rattle.std.specs.Prelude.{if◌then◌else◌, ◌&&◌, ◌++◌, ◌+◌, ◌-◌, ◌<◌, ◌==◌, ◌^◌, ◌∷◌, ◌≡◌, ◌≤◌}
+use Rattle.bpaf_doc.proofs.lemmas.Console.Words.{common_steps, length-drop, length-reverse, take_at, nat_tests, Pairs, Block, Style, Part, Text, Start, End, Chunk, Raw, Paragraph, LineBreak, columns, chunks_of, has_some, is_hidden, shown_chunks, through_paragraph, margin, is_skipped, skips_pair, is_section4_start, tab_stop, Shift, Indent, Level, part_shift, saturated, PageSoFar, console_page, hidden_after, Sheet, blank_sheet, enumerate_from, console_text, sym, ap, arith, inl, inr, ◌∙◌, ℕ, zero, suc, Bool, true, false, not, List, [], length, take, drop, reverse, refl, slice_get, Some, IfOk, Result, String, string_bytes}
 use Rattle.bpaf_doc.proofs.lemmas.Console.Hiding.{Counts, Counts-more, is_hidden-Counts}
 use Rattle.bpaf_doc.proofs.lemmas.Console.Layout.Back.{by_test, by_cases}
 use Rattle.bpaf_doc.proofs.lemmas.Console.Layout.Turned.{reverse_cons}

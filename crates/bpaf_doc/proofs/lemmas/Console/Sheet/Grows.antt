@@ -1,5 +1,6 @@
 -- Each step of the exact page is a step of the console's rules.
-use Rattle.bpaf_doc.proofs.lemmas.Console.Words.{ends_with, bytes_eq, append-nil, same_from_push, replicate_next, common_steps, cases_lt, and_parts, not-true, not-false, nat_tests, Decides-eqb, IsLine, columns, has_some, Stretch, Gap, Placed, PageSoFar, Request, NoBreak, NewLine, BlankLine, sym, subst, ap, arith, inl, inr, ◌∙◌, append_assoc, ◌≡◌, ℕ, zero, suc, ◌+◌, ◌-◌, ◌<◌, ◌≤◌, true, false, not, ◌&&◌, List, [], ◌∷◌, ◌++◌, length, take, replicate, refl, ◌⊎◌, IsUtf8, nat_eq, nat_le}
+use Rattle.std.specs.Prelude.{◌&&◌, ◌++◌, ◌+◌, ◌-◌, ◌<◌, ◌∷◌, ◌≡◌, ◌≤◌, ◌⊎◌}
+use Rattle.bpaf_doc.proofs.lemmas.Console.Words.{ends_with, bytes_eq, append-nil, same_from_push, replicate_next, common_steps, cases_lt, and_parts, not-true, not-false, nat_tests, Decides-eqb, IsLine, columns, has_some, Stretch, Gap, Placed, PageSoFar, Request, NoBreak, NewLine, BlankLine, sym, subst, ap, arith, inl, inr, ◌∙◌, append_assoc, ℕ, zero, suc, true, false, not, List, [], length, take, replicate, refl, IsUtf8, nat_eq, nat_le}
 use Rattle.std.proofs.lemmas.Slice.Eq.{ends_is, bytes_eq-Decides}
 use Rattle.bpaf_doc.specs.Console.Exact as page
 use Rattle.bpaf_doc.proofs.lemmas.Console.Layout.State.{State, Piece, Lines, none_asked, line_there, line_put, blank_there, second_put, both_put, Begins, first, stays, wraps, Places, places, drops, Pads, to_margin, IsPut, sat, padded, put, wrapped, dropped, spaced, on_new_line, has_text, ends_line, ends_blank, IsLegible}

@@ -1,5 +1,6 @@
 -- The exact page is a layout of its document, with the console's ink.
-use Rattle.bpaf_doc.proofs.lemmas.Console.Words.{enumerate_from, sym, subst, ap, arith, ◌∙◌, append_assoc, append-nil, reverse-reverse, length-drop, All-get_or, get_or_from_slice_get, slice_get_within, flat_map-append, common_steps, Style, Part, Text, Start, End, ink, part_bytes, HasUtf8Texts, IsText, console_ink, mark_bytes, numbered, shown_chunks, shown_part_ink, margin, greatest_margin, is_skipped, Level, Event, Shows, Opens, Closes, part_events, shown_events, IsLayout, Stretch, Gap, Passed, PageSoFar, console_page, and-false, and-true, ◌≡◌, ℕ, zero, suc, ◌+◌, ◌^◌, ◌<◌, ◌≤◌, ⊤, Bool, true, false, List, [], ◌∷◌, ◌++◌, length, take, drop, reverse, map, flat_map, All, refl, IsUtf8, slice_get, Some}
+use Rattle.std.specs.Prelude.{◌++◌, ◌+◌, ◌<◌, ◌^◌, ◌∷◌, ◌≡◌, ◌≤◌}
+use Rattle.bpaf_doc.proofs.lemmas.Console.Words.{enumerate_from, sym, subst, ap, arith, ◌∙◌, append_assoc, append-nil, reverse-reverse, length-drop, All-get_or, get_or_from_slice_get, slice_get_within, flat_map-append, common_steps, Style, Part, Text, Start, End, ink, part_bytes, HasUtf8Texts, IsText, console_ink, mark_bytes, numbered, shown_chunks, shown_part_ink, margin, greatest_margin, is_skipped, Level, Event, Shows, Opens, Closes, part_events, shown_events, IsLayout, Stretch, Gap, Passed, PageSoFar, console_page, and-false, and-true, ℕ, zero, suc, ⊤, Bool, true, false, List, [], length, take, drop, reverse, map, flat_map, All, refl, IsUtf8, slice_get, Some}
 use Rattle.bpaf_doc.proofs.lemmas.Splitter.Pieces.{Pieces, none as no_pieces, piece as stands, pieces, IsGood}
 use Rattle.bpaf_doc.specs.Splitter.Chunks.{Chunk, Raw, Paragraph, LineBreak, chunks_of, chunk_ink, Plain}
 use Rattle.bpaf_doc.specs.Laws.{IsExactPageLayout}

@@ -1,5 +1,6 @@
 -- No chunk of a text has a newline in it, so no fragment of a document has.
-use Rattle.bpaf_doc.proofs.lemmas.Html.Words.{arith, ◌≡◌, ℕ, suc, Bool, true, List, [], ◌∷◌, take, refl, ap, list_all, list_all-append, list_all-map, and_parts, and_from, Part, Chunk, Raw, Paragraph, LineBreak, is_line_byte, chunks_of, Fragment, Shown, walk, depth_after}
+use Rattle.std.specs.Prelude.{◌∷◌, ◌≡◌}
+use Rattle.bpaf_doc.proofs.lemmas.Html.Words.{arith, ℕ, suc, Bool, true, List, [], take, refl, ap, list_all, list_all-append, list_all-map, and_parts, and_from, Part, Chunk, Raw, Paragraph, LineBreak, is_line_byte, chunks_of, Fragment, Shown, walk, depth_after}
 use Rattle.bpaf_doc.proofs.lemmas.Splitter.Pieces.{Pieces, none, piece, pieces}
 use Rattle.bpaf_doc.proofs.lemmas.Splitter.Spelling.{spells_its_chunks}
 

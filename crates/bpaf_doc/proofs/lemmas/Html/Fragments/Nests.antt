@@ -1,5 +1,6 @@
 -- The fragments of a well-nested document are well nested.
-use Rattle.bpaf_doc.proofs.lemmas.Html.Words.{rules, ◌≡◌, ℕ, zero, suc, Bool, List, [], ◌∷◌, ◌++◌, map, refl, sym, ap, ◌∙◌, append_assoc, append-nil, subst, Style, Block, Chunk, chunks_of, Fragment, TextStart, Shown, TextEnd, Hidden, Start, End, visible, walk, part_walk, depth_after}
+use Rattle.std.specs.Prelude.{◌++◌, ◌∷◌, ◌≡◌}
+use Rattle.bpaf_doc.proofs.lemmas.Html.Words.{rules, ℕ, zero, suc, Bool, List, [], map, refl, sym, ap, ◌∙◌, append_assoc, append-nil, subst, Style, Block, Chunk, chunks_of, Fragment, TextStart, Shown, TextEnd, Hidden, Start, End, visible, walk, part_walk, depth_after}
 use Rattle.bpaf_doc.specs.Buffer.Parts.{Part, Text, Start as PartStart, End as PartEnd, IsWellNested, nothing as no_part, text as one_text, enclosed as part_enclosed, joined as part_joined}
 use Rattle.bpaf_doc.proofs.lemmas.Html.Fragments.Walking.{depth_after_all}
 

@@ -1,5 +1,6 @@
 -- The walk over the parts gives the fragments of the document.
-use Rattle.bpaf_doc.proofs.lemmas.Html.Words.{◌≡◌, ℕ, zero, suc, ◌+◌, Bool, true, false, List, [], ◌∷◌, ◌++◌, length, take, map, refl, sym, ◌∙◌, arith, append_assoc, append-nil, subst, inr, ◌<◌, ◌==◌, not, ◌⊎◌, flat_map, if◌then◌else◌, Style, enumerate_from, before_first, position_or_len, take_at, length_push, length-append, length-map, false≢true, Part, Chunk, Raw, IsLine, chunks_of, columns, is_paragraph, Fragment, Shown, part_fragments, shown_fragments, depth_after, depth_after_text, visible, text_rest, part_walk, walk}
+use Rattle.std.specs.Prelude.{if◌then◌else◌, ◌++◌, ◌+◌, ◌<◌, ◌==◌, ◌∷◌, ◌≡◌, ◌⊎◌}
+use Rattle.bpaf_doc.proofs.lemmas.Html.Words.{ℕ, zero, suc, Bool, true, false, List, [], length, take, map, refl, sym, ◌∙◌, arith, append_assoc, append-nil, subst, inr, not, flat_map, Style, enumerate_from, before_first, position_or_len, take_at, length_push, length-append, length-map, false≢true, Part, Chunk, Raw, IsLine, chunks_of, columns, is_paragraph, Fragment, Shown, part_fragments, shown_fragments, depth_after, depth_after_text, visible, text_rest, part_walk, walk}
 use Rattle.bpaf_doc.specs.Splitter.Steps.{IsRun}
 use Rattle.bpaf_doc.proofs.lemmas.Splitter.Runs.{AreWords, no_words, a_word, words_of_line}
 use Rattle.bpaf_doc.specs.Shown.{is_hidden}

@@ -1,4 +1,5 @@
-use Rattle.bpaf_doc.proofs.lemmas.Splitter.Words.{◌∷◌, ◌∙◌, sym, ap, codes, refl, Raw, chunks_in}
+use Rattle.std.specs.Prelude.{◌∷◌}
+use Rattle.bpaf_doc.proofs.lemmas.Splitter.Words.{◌∙◌, sym, ap, codes, refl, Raw, chunks_in}
 use Rattle.bpaf_doc.specs.Splitter.View.{form_of}
 use Rattle.bpaf_doc.proofs.lemmas.Splitter.FirstChunk.{chunks_of-plain, stripped, blank_first}
 use Rattle.bpaf_doc.proofs.splitter.Splitter.take_blanks.Goals as goal

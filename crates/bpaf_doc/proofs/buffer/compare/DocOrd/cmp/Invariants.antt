@@ -1,4 +1,5 @@
-use Rattle.bpaf_doc.proofs.lemmas.Buffer.Words.{◌≡◌, document_cmp}
+use Rattle.std.specs.Prelude.{◌≡◌}
+use Rattle.bpaf_doc.proofs.lemmas.Buffer.Words.{document_cmp}
 use Rattle.bpaf_doc.proofs.buffer.compare.DocOrd.cmp.Given as goal
 
 abbrev pub invariant-loop-part : goal.invariant-loop-part

@@ -1,4 +1,5 @@
-use Rattle.bpaf_doc.proofs.lemmas.Buffer.Words.{◌≡◌, same_document}
+use Rattle.std.specs.Prelude.{◌≡◌}
+use Rattle.bpaf_doc.proofs.lemmas.Buffer.Words.{same_document}
 use Rattle.bpaf_doc.proofs.buffer.compare.DocPartialEq.eq.Given as goal
 
 abbrev pub invariant-loop-part : goal.invariant-loop-part

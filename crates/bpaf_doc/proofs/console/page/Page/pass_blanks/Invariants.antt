@@ -1,4 +1,5 @@
-use Rattle.bpaf_doc.proofs.lemmas.Console.Words.{◌≡◌, ◌≤◌, Bool, length, hides, sheet_of, text_put}
+use Rattle.std.specs.Prelude.{◌≡◌, ◌≤◌}
+use Rattle.bpaf_doc.proofs.lemmas.Console.Words.{Bool, length, hides, sheet_of, text_put}
 use Rattle.bpaf_doc.proofs.console.page.Page.pass_blanks.Given as goal
 
 abbrev pub invariant-blanks : goal.invariant-blanks

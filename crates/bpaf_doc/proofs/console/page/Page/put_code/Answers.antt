@@ -1,4 +1,5 @@
-use Rattle.bpaf_doc.proofs.lemmas.Console.Words.{◌≡◌, ◌∷◌, [], false, length, sym, ap, subst, ◌∙◌, arith, bytes_eq, Raw, hides, IsPastLine, code_put, margin_of, on, sheet_of, text_put}
+use Rattle.std.specs.Prelude.{◌∷◌, ◌≡◌}
+use Rattle.bpaf_doc.proofs.lemmas.Console.Words.{[], false, length, sym, ap, subst, ◌∙◌, arith, bytes_eq, Raw, hides, IsPastLine, code_put, margin_of, on, sheet_of, text_put}
 use Rattle.bpaf_doc.proofs.lemmas.Console.Code.{code_put_is, past_again}
 use Rattle.bpaf_doc.proofs.console.page.Page.put_code.Goals as goal
 

@@ -1,4 +1,5 @@
-use Rattle.bpaf_doc.proofs.lemmas.Console.Words.{◌≡◌, ◌≤◌, Bool, length, hides, IsPastLine, margin_of, sheet_of, text_put}
+use Rattle.std.specs.Prelude.{◌≡◌, ◌≤◌}
+use Rattle.bpaf_doc.proofs.lemmas.Console.Words.{Bool, length, hides, IsPastLine, margin_of, sheet_of, text_put}
 use Rattle.bpaf_doc.proofs.console.page.Page.put_code.Given as goal
 
 abbrev pub invariant-lines : goal.invariant-lines

@@ -1,5 +1,6 @@
 -- A run that is written at once is its words written one after another.
-use Rattle.bpaf_doc.proofs.lemmas.Console.Words.{◌+◌, ◌<◌, ◌≤◌, ◌^◌, ap₂, ◌∙◌, arith, rules, page_of, sheet_of, text_put}
+use Rattle.std.specs.Prelude.{◌+◌, ◌<◌, ◌^◌, ◌≤◌}
+use Rattle.bpaf_doc.proofs.lemmas.Console.Words.{ap₂, ◌∙◌, arith, rules, page_of, sheet_of, text_put}
 use Rattle.bpaf_doc.specs.Splitter.Steps.{letters}
 use Rattle.bpaf_doc.proofs.lemmas.Console.Runs.{run_put}
 use Rattle.bpaf_doc.proofs.console.page.Page.put_run.Goals as goal

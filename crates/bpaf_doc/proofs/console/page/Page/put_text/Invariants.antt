@@ -1,4 +1,5 @@
-use Rattle.bpaf_doc.proofs.lemmas.Console.Words.{◌≡◌, length, chunks_of, hides, sheet_of, text_put}
+use Rattle.std.specs.Prelude.{◌≡◌}
+use Rattle.bpaf_doc.proofs.lemmas.Console.Words.{length, chunks_of, hides, sheet_of, text_put}
 use Rattle.bpaf_doc.proofs.console.page.Page.put_text.Given as goal
 
 abbrev pub invariant-loop-chunk : goal.invariant-loop-chunk
