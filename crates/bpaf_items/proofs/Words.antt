@@ -24,7 +24,7 @@ pub use Rattle.bpaf_meta.proofs.lemmas.Usage.Written.{Grows-by, Grows-call, Grow
 pub use Rattle.bpaf_meta.specs.Content.{Head, Leaf, Name, Tree, Trees, adjacent, and_of, any, argument, both, command, custom_usage, flag, head, item, many, no_trees, optional, or_of, positional, required, skip, strict, subsection, suffix, tree}
 pub use Rattle.bpaf_meta.specs.Usage.Writes.{metavar_writes, usage_writes}
 pub use Rattle.bpaf_meta.specs.View.{head_of, text_of, tree_of, trees_of}
-pub use Rattle.std.proofs.Common.{Bool, Box, List, String, [], add-one, ap, append-nil, append_assoc, arith, codes, drop, encode_utf8, false, flat_map, get_or, inl, inr, length, map, not, refl, rules, string_bytes, subst, suc, sym, take, take_all, true, zero, ℕ, ◌&&◌, ◌++◌, ◌+◌, ◌-◌, ◌<◌, ◌==◌, ◌||◌, ◌∙◌, ◌∷◌, ◌≡◌, ◌≢◌, ◌≤◌, ◌⊎◌}
+pub use Rattle.std.proofs.Common.{Bool, Box, List, String, [], add-one, ap, append-nil, append_assoc, arith, codes, drop, encode_utf8, false, flat_map, get_or, inl, inr, length, map, not, refl, rules, string_bytes, subst, suc, sym, take, take_all, true, zero, ℕ, ◌∙◌}
 pub use Rattle.std.proofs.Math.Bool.{and-false, and-true, or-false, or-true}
 pub use Rattle.std.proofs.Math.Seq.{drop-append_seam, get_or-append_seam, set-append_seam, take-append_seam}
 pub use Rattle.std.proofs.lemmas.Bool.{eq-eqb, eqb-true, false_from_ne_true, le-ltb, lt-ltb, ne_eqb, or_parts}
@@ -40,5 +40,5 @@ pub use Rattle.std.specs.Borrow.{Bor}
 pub use Rattle.std.specs.List.{AllByRecursion, IsDistinct, after_last, dedup, dedup_from, last_or, list_any, position, position_or_len, prefix_len, range_with_len, swap_remove}
 pub use Rattle.std.specs.Option.{option_copied, option_map, option_map_or, option_or}
 pub use Rattle.std.specs.Ordering.{is_eq, match_ordering, nat_cmp, ordering_then}
-pub use Rattle.std.specs.Prelude.{All, Contains, Err, IfOk, IsTrue, None, Ok, OnErr, OnOk, Option, Result, Some, cond, count_by, filter, fold, if◌then◌else◌, nat_eq, nat_lt, slice_set}
+pub use Rattle.std.specs.Prelude.{All, Contains, Err, IfOk, IsTrue, None, Ok, OnErr, OnOk, Option, Result, Some, cond, count_by, filter, fold, nat_eq, nat_lt, slice_set}
 pub use borrow.Author.Tests.{tests}

@@ -11,5 +11,5 @@ pub use Rattle.std.specs.Cmp.Lexicographic.{bytes_decides, options_total, slice_
 pub use Rattle.std.specs.List.{AllByRecursion, IsDistinct, after_last, last_or, list_any, position, range_with_len}
 pub use Rattle.std.specs.Option.{option_cmp, option_copied, option_eq, option_map_or, option_or}
 pub use Rattle.std.specs.Ordering.{as_partial_cmp, eq_by_cmp, eq_of_both, nat_cmp, on, then_cmp}
-pub use Rattle.std.specs.Prelude.{All, Bool, Contains, Err, IsTrue, List, None, Ok, OnOk, Option, Result, Some, [], codes, count_by, drop, encode_utf8, false, filter, flat_map, fold, if◌then◌else◌, is_some, length, map, nat_eq, nat_lt, not, refl, take, true, ℕ, ⊤, ◌&&◌, ◌++◌, ◌+◌, ◌<◌, ◌==◌, ◌||◌, ◌↔◌, ◌∷◌, ◌≡◌, ◌≢◌, ◌≤◌, ◌⊎◌}
+pub use Rattle.std.specs.Prelude.{All, Bool, Contains, Err, IsTrue, List, None, Ok, OnOk, Option, Result, Some, [], codes, count_by, drop, encode_utf8, false, filter, flat_map, fold, is_some, length, map, nat_eq, nat_lt, not, refl, take, true, ℕ, ⊤}
 pub use Rattle.std.specs.declared.cmp.Ordering.{Ordering}

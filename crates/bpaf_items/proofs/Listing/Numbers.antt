@@ -1,5 +1,6 @@
 -- The group that an entry of an item list falls under is one of those that the list has.
-use Rattle.bpaf_items.proofs.Words.{◌≡◌, ℕ, ◌+◌, ◌-◌, ◌<◌, ◌≤◌, false, List, [], ◌∷◌, ◌++◌, length, refl, sym, ap, ◌∙◌, subst, append_assoc, arith, count_by, All, Contains, Option, list_any, range_with_len, or_parts, All-nil, All-cons, All-append, All-same, Entry, group_start, group_end, Placed, placed_after, group, is_group_mark, is_group_start, is_group_open, is_in_group, heading_after, destination, HasPairedGroups, empty, outer, whole, FallsUnderWritten}
+use Rattle.std.specs.Prelude.{◌++◌, ◌+◌, ◌-◌, ◌<◌, ◌∷◌, ◌≡◌, ◌≤◌}
+use Rattle.bpaf_items.proofs.Words.{ℕ, false, List, [], length, refl, sym, ap, ◌∙◌, subst, append_assoc, arith, count_by, All, Contains, Option, list_any, range_with_len, or_parts, All-nil, All-cons, All-append, All-same, Entry, group_start, group_end, Placed, placed_after, group, is_group_mark, is_group_start, is_group_open, is_in_group, heading_after, destination, HasPairedGroups, empty, outer, whole, FallsUnderWritten}
 use Rattle.std.proofs.lemmas.List.FromFn.{length-range_with_len, get_or-range_with_len}
 use Rattle.bpaf_items.proofs.Listing.Placing.{placed_after-append}
 use Rattle.bpaf_items.proofs.Listing.Blocks.{count-append, item_list_blocks}

@@ -1,5 +1,6 @@
 -- The groups of an item list, one after another, and what falls under each.
-use Rattle.bpaf_items.proofs.Words.{◌≡◌, ℕ, ◌+◌, ◌≤◌, ◌==◌, Bool, true, false, ◌&&◌, ◌||◌, ◌⊎◌, inl, inr, List, [], ◌∷◌, ◌++◌, map, refl, sym, ap, ◌∙◌, subst, append_assoc, append-nil, arith, if◌then◌else◌, filter, count_by, All, list_any, and-false, eqb-true, ne_eqb, or_parts, All-nil, All-cons, All-head, All-tail, All-map, All-filter, list_any-append, Part, HiTy, Entry, group_start, group_end, adjacent_start, adjacent_stop, Placed, placed_after, lacks_help, is_mark, is_group_mark, is_group_start, is_group_end, is_adjacent_mark, is_group_open, is_in_group, destination, is_group, HasPairedGroups, empty, outer, whole, stays}
+use Rattle.std.specs.Prelude.{if◌then◌else◌, ◌&&◌, ◌++◌, ◌+◌, ◌==◌, ◌||◌, ◌∷◌, ◌≡◌, ◌≤◌, ◌⊎◌}
+use Rattle.bpaf_items.proofs.Words.{ℕ, Bool, true, false, inl, inr, List, [], map, refl, sym, ap, ◌∙◌, subst, append_assoc, append-nil, arith, filter, count_by, All, list_any, and-false, eqb-true, ne_eqb, or_parts, All-nil, All-cons, All-head, All-tail, All-map, All-filter, list_any-append, Part, HiTy, Entry, group_start, group_end, adjacent_start, adjacent_stop, Placed, placed_after, lacks_help, is_mark, is_group_mark, is_group_start, is_group_end, is_adjacent_mark, is_group_open, is_in_group, destination, is_group, HasPairedGroups, empty, outer, whole, stays}
 use Rattle.bpaf_items.proofs.Listing.Placing.{entry, chosen-append, two_kept}
 use Rattle.bpaf_items.proofs.Listing.Blocks.{Blocks, none, plain, block, grouped, joined}
 use Rattle.bpaf_items.proofs.Listing.Pushes.{count-push, open-push}

@@ -1,5 +1,6 @@
 -- Entries with those before them, one entry after another.
-use Rattle.bpaf_items.proofs.Words.{◌≡◌, Bool, not, List, [], ◌∷◌, ◌++◌, map, refl, sym, ap, ◌∙◌, append_assoc, append-nil, arith, if◌then◌else◌, filter, map-append, filter-append, Entry, Placed, placed, placed_after, is_in_group, outside_groups}
+use Rattle.std.specs.Prelude.{if◌then◌else◌, ◌++◌, ◌∷◌, ◌≡◌}
+use Rattle.bpaf_items.proofs.Words.{Bool, not, List, [], map, refl, sym, ap, ◌∙◌, append_assoc, append-nil, arith, filter, map-append, filter-append, Entry, Placed, placed, placed_after, is_in_group, outside_groups}
 
 -- two lists: the second stands after the first
 pub placed_after-append : (before es fs : List Entry) → placed_after before (es ++ fs) ≡ placed_after before es ++ placed_after (before ++ es) fs

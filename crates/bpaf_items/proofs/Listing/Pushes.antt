@@ -1,5 +1,6 @@
 -- What a look back sees after one more entry.
-use Rattle.bpaf_items.proofs.Words.{◌≡◌, ℕ, ◌+◌, Bool, true, false, not, List, [], ◌∷◌, ◌++◌, refl, ap, ◌∙◌, append-nil, arith, if◌then◌else◌, count_by, Option, Some, option_map_or, last_or, after_last, filter-append, sum_by_push, reverse-append, drop-append-le, drop_all, length-append, Entry, is_group_start, is_group_mark, is_adjacent_start, is_adjacent_mark, last_that, is_group_open, is_in_group, outside_groups}
+use Rattle.std.specs.Prelude.{if◌then◌else◌, ◌++◌, ◌+◌, ◌∷◌, ◌≡◌}
+use Rattle.bpaf_items.proofs.Words.{ℕ, Bool, true, false, not, List, [], refl, ap, ◌∙◌, append-nil, arith, count_by, Option, Some, option_map_or, last_or, after_last, filter-append, sum_by_push, reverse-append, drop-append-le, drop_all, length-append, Entry, is_group_start, is_group_mark, is_adjacent_start, is_adjacent_mark, last_that, is_group_open, is_in_group, outside_groups}
 use Rattle.bpaf_items.proofs.Listing.Placing.{outside_groups-push}
 
 pub last_or-push : {X : Type 0} (o : Option X) (xs : List X) (x : X) → last_or o (xs ++ x ∷ []) ≡ Some x

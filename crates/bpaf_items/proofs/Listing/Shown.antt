@@ -1,5 +1,6 @@
 -- Each key of a list is shown once, at its first place.
-use Rattle.bpaf_items.proofs.Words.{◌≡◌, ℕ, ◌+◌, ◌≤◌, Bool, true, false, ◌||◌, List, [], ◌∷◌, ◌++◌, map, length, get_or, refl, sym, ap, ◌∙◌, subst, arith, if◌then◌else◌, filter, take, count_by, Contains, list_any, or-false, or-true, list_any-append, sum_by-cons, get_or-le-sum_by, Leaf, Entry, listed, key_of, same_key, Placed, placed, placed_after, has_key_of, is_shown, shown_places, shown_entries, KeyOnce}
+use Rattle.std.specs.Prelude.{if◌then◌else◌, ◌++◌, ◌+◌, ◌||◌, ◌∷◌, ◌≡◌, ◌≤◌}
+use Rattle.bpaf_items.proofs.Words.{ℕ, Bool, true, false, List, [], map, length, get_or, refl, sym, ap, ◌∙◌, subst, arith, filter, take, count_by, Contains, list_any, or-false, or-true, list_any-append, sum_by-cons, get_or-le-sum_by, Leaf, Entry, listed, key_of, same_key, Placed, placed, placed_after, has_key_of, is_shown, shown_places, shown_entries, KeyOnce}
 use Rattle.bpaf_items.specs.Steps.KeyOrder.{keys_equiv}
 use Rattle.bpaf_items.proofs.Listing.Placing.{chosen-append, placed_entries, kept_map}
 

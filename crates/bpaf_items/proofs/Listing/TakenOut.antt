@@ -1,5 +1,6 @@
 -- Groups are taken out of a list one after another.
-use Rattle.bpaf_items.proofs.Words.{◌≡◌, ℕ, ◌+◌, ◌==◌, Bool, true, false, not, ◌&&◌, ◌||◌, ◌⊎◌, inl, inr, List, [], ◌∷◌, ◌++◌, length, map, refl, sym, ap, ◌∙◌, append_assoc, append-nil, add-one, arith, if◌then◌else◌, filter, count_by, nat_lt, Some, None, list_any, position, position_or_len, after_last, and-true, ne_eqb, lt-ltb, le-ltb, or_parts, length-append, list_any-append, Part, HiTy, Entry, group_start, group_end, placed_after, is_group_start, is_group_end, is_group_mark, is_group_open, is_in_group, group_members, outside_groups, find_group, both_places, HasNoGroupMark, HasPairedGroups, empty, outer, whole, stays, kept_entries, HasFirstGroup, HasNoGroup, GroupsAreTakenOut}
+use Rattle.std.specs.Prelude.{if◌then◌else◌, ◌&&◌, ◌++◌, ◌+◌, ◌==◌, ◌||◌, ◌∷◌, ◌≡◌, ◌⊎◌}
+use Rattle.bpaf_items.proofs.Words.{ℕ, Bool, true, false, not, inl, inr, List, [], length, map, refl, sym, ap, ◌∙◌, append_assoc, append-nil, add-one, arith, filter, count_by, nat_lt, Some, None, list_any, position, position_or_len, after_last, and-true, ne_eqb, lt-ltb, le-ltb, or_parts, length-append, list_any-append, Part, HiTy, Entry, group_start, group_end, placed_after, is_group_start, is_group_end, is_group_mark, is_group_open, is_in_group, group_members, outside_groups, find_group, both_places, HasNoGroupMark, HasPairedGroups, empty, outer, whole, stays, kept_entries, HasFirstGroup, HasNoGroup, GroupsAreTakenOut}
 use Rattle.std.proofs.Math.Dec.{eqb-suc-suc}
 use Rattle.bpaf_items.proofs.Listing.Placing.{entry, chosen-append, two_kept}
 use Rattle.bpaf_items.proofs.Listing.Blocks.{item_list_blocks, count-append, count-cons}

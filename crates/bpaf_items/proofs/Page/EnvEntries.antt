@@ -1,5 +1,6 @@
 -- The texts that the entries of a map show.
-use Rattle.bpaf_items.proofs.Words.{option_map, BTreeMap, get_by_text, is_at, Updates, nat_cmp, arith, ◌≡◌, ℕ, List, [], ◌∷◌, Some, map, String, string_bytes, refl, same_text, texts_in, texts_with}
+use Rattle.std.specs.Prelude.{◌∷◌, ◌≡◌}
+use Rattle.bpaf_items.proofs.Words.{option_map, BTreeMap, get_by_text, is_at, Updates, nat_cmp, arith, ℕ, List, [], Some, map, String, string_bytes, refl, same_text, texts_in, texts_with}
 use Rattle.std.specs.Map.{lookup}
 use Rattle.std.specs.Cmp.Lexicographic.{slice_cmp}
 use Rattle.std.specs.String.{string_cmp}

@@ -1,5 +1,6 @@
 -- An insertion into a map of texts.
-use Rattle.bpaf_items.proofs.Words.{◌≡◌, ◌≢◌, ℕ, false, List, Some, ap, sym, arith, if◌then◌else◌, same_text, TextsAreInserted}
+use Rattle.std.specs.Prelude.{if◌then◌else◌, ◌≡◌, ◌≢◌}
+use Rattle.bpaf_items.proofs.Words.{ℕ, false, List, Some, ap, sym, arith, same_text, TextsAreInserted}
 use Rattle.std.proofs.lemmas.Cmp.{nat_list_eq_equiv}
 use Rattle.bpaf_items.specs.Steps.KeyOrder.{texts_are}
 

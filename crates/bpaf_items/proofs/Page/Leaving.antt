@@ -1,5 +1,6 @@
 -- What calls that write leave, one after another.
-use Rattle.bpaf_items.proofs.Words.{◌≡◌, ℕ, ◌+◌, ◌<◌, length, List, [], ◌∷◌, ◌++◌, flat_map, map, take, Result, Ok, Err, OnOk, OnErr, Bor, ap, sym, ◌∙◌, append-nil, drop, get_or, arith, flat_map-append, common_steps, drop_more, map-append, take-append-drop, take_more, Style, Part, Write, with_text, with_writes, with_writes-append, with_text_twice, Grows-then, Grows-call, Leaves, joined, piece_writes, pieces_write}
+use Rattle.std.specs.Prelude.{◌++◌, ◌+◌, ◌<◌, ◌∷◌, ◌≡◌}
+use Rattle.bpaf_items.proofs.Words.{ℕ, length, List, [], flat_map, map, take, Result, Ok, Err, OnOk, OnErr, Bor, ap, sym, ◌∙◌, append-nil, drop, get_or, arith, flat_map-append, common_steps, drop_more, map-append, take-append-drop, take_more, Style, Part, Write, with_text, with_writes, with_writes-append, with_text_twice, Grows-then, Grows-call, Leaves, joined, piece_writes, pieces_write}
 use Rattle.bpaf_items.specs.declared.meta_help.pieces.Piece.{Piece}
 
 pub map_next : {X Y : Type 0} (f : X → Y) (xs : List X) (i : ℕ) (x : X) → i < length xs → x ≡ get_or xs i x → map f (take (i + 1) xs) ≡ map f (take i xs) ++ f x ∷ []

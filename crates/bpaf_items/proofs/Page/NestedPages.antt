@@ -1,5 +1,6 @@
 -- Pages of well-nested texts are well nested.
-use Rattle.bpaf_items.proofs.Words.{◌≡◌, ℕ, Bool, true, false, ◌⊎◌, inl, inr, List, [], ◌∷◌, ◌++◌, map, refl, sym, ap, ◌∙◌, subst, append_assoc, append-nil, arith, if◌then◌else◌, filter, flat_map, count_by, All, codes, Option, Some, None, or_parts, list_any, range_with_len, flat_map-append, common_steps, All-nil, All-cons, All-append, All-push, All-head, All-tail, Style, Part, IsWellNested, nothing, Write, text, with_write, with_writes, document_of, doc_writes, em_doc_writes, path_writes, inside, Name, both, Tree, and_of, or_of, optional, required, adjacent, item, many, subsection, suffix, skip, custom_usage, strict, Trees, no_trees, tree, Leaf, any, positional, command, flag, argument, Head, head, metavar_writes, usage_writes, with_writes-append, HiTy, Entry, listed, note, group_start, group_end, adjacent_start, adjacent_stop, front_type, item_entries, adjacent_entries, group_entries, noted_entries, entries_with_type, entries_of, entries_of_parts, item_list, IsItemList, Placed, placed_after, is_group_mark, is_group_start, destination, is_heading, is_shown, shown_entries, group_members, heading_members, Texts, term, help_writes, names_writes, command_writes, env_body, env_term, env_writes, flag_env_text, argument_env_text, listed_writes, entry_writes, list_writes, heading_writes, groups_writes, doc_within, usage_line_writes, help_page_writes, IsNestedText, HasNestedText, HasNestedTexts, EachHasNestedTexts, HasNestedHead, HasNestedEntry, KeepsNested, ItemListsAreNested, GroupsAreNested, HelpPagesAreNested}
+use Rattle.std.specs.Prelude.{if◌then◌else◌, ◌++◌, ◌∷◌, ◌≡◌, ◌⊎◌}
+use Rattle.bpaf_items.proofs.Words.{ℕ, Bool, true, false, inl, inr, List, [], map, refl, sym, ap, ◌∙◌, subst, append_assoc, append-nil, arith, filter, flat_map, count_by, All, codes, Option, Some, None, or_parts, list_any, range_with_len, flat_map-append, common_steps, All-nil, All-cons, All-append, All-push, All-head, All-tail, Style, Part, IsWellNested, nothing, Write, text, with_write, with_writes, document_of, doc_writes, em_doc_writes, path_writes, inside, Name, both, Tree, and_of, or_of, optional, required, adjacent, item, many, subsection, suffix, skip, custom_usage, strict, Trees, no_trees, tree, Leaf, any, positional, command, flag, argument, Head, head, metavar_writes, usage_writes, with_writes-append, HiTy, Entry, listed, note, group_start, group_end, adjacent_start, adjacent_stop, front_type, item_entries, adjacent_entries, group_entries, noted_entries, entries_with_type, entries_of, entries_of_parts, item_list, IsItemList, Placed, placed_after, is_group_mark, is_group_start, destination, is_heading, is_shown, shown_entries, group_members, heading_members, Texts, term, help_writes, names_writes, command_writes, env_body, env_term, env_writes, flag_env_text, argument_env_text, listed_writes, entry_writes, list_writes, heading_writes, groups_writes, doc_within, usage_line_writes, help_page_writes, IsNestedText, HasNestedText, HasNestedTexts, EachHasNestedTexts, HasNestedHead, HasNestedEntry, KeepsNested, ItemListsAreNested, GroupsAreNested, HelpPagesAreNested}
 use Rattle.bpaf_doc.specs.declared.buffer.Style.TheVariants as style
 use Rattle.bpaf_doc.specs.declared.buffer.Block.{Block}
 use Rattle.bpaf_doc.specs.declared.buffer.Block.TheVariants as block

@@ -1,5 +1,6 @@
 -- The parts of a help page, one after another.
-use Rattle.bpaf_items.proofs.Words.{rules, ◌≡◌, ℕ, Bool, List, ◌++◌, ap, ◌∙◌, refl, subst, Result, arith, OnOk, OnErr, Part, IsWellNested, Write, inside, with_writes, Tree, Head, head, head_of, Entry, item_list, Texts, doc_within, groups_writes, help_page_writes, usage_line_writes, KeepsNested, footer_writes, front_writes, Leaves}
+use Rattle.std.specs.Prelude.{◌++◌, ◌≡◌}
+use Rattle.bpaf_items.proofs.Words.{rules, ℕ, Bool, List, ap, ◌∙◌, refl, subst, Result, arith, OnOk, OnErr, Part, IsWellNested, Write, inside, with_writes, Tree, Head, head, head_of, Entry, item_list, Texts, doc_within, groups_writes, help_page_writes, usage_line_writes, KeepsNested, footer_writes, front_writes, Leaves}
 use Rattle.bpaf_doc.specs.declared.buffer.Block.TheVariants as block
 use Rattle.bpaf_meta.specs.declared.meta_help.Info.{Info, the_lemmas}
 use Rattle.bpaf_items.proofs.Page.Leaving.{leaves_third}

@@ -1,5 +1,6 @@
 -- A list that grows begins with what it was.
-use Rattle.bpaf_items.proofs.Words.{◌≡◌, List, [], ◌++◌, ap, sym, ◌∙◌, append_assoc, append-nil, arith, flat_map, Option, if◌then◌else◌, ◌∷◌, None, option_or, flat_map-append, Tree, Leaf, HiTy, Entry, entry_of_item, item_entries, item_list, IsItemList, is_listed, IsFront}
+use Rattle.std.specs.Prelude.{if◌then◌else◌, ◌++◌, ◌∷◌, ◌≡◌}
+use Rattle.bpaf_items.proofs.Words.{List, [], ap, sym, ◌∙◌, append_assoc, append-nil, arith, flat_map, Option, None, option_or, flat_map-append, Tree, Leaf, HiTy, Entry, entry_of_item, item_entries, item_list, IsItemList, is_listed, IsFront}
 
 pub front_whole : {X : Type 0} (xs : List X) → IsFront xs xs
 front_whole xs = ([], sym (append-nil xs))

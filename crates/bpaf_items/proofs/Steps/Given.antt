@@ -1,5 +1,6 @@
 -- Going through a list and keeping the block that was started last gives the entries of a heading.
-use Rattle.bpaf_items.proofs.Words.{◌≡◌, Bool, List, [], ◌∷◌, ◌++◌, map, refl, ap, arith, if◌then◌else◌, filter, cond, Option, Some, None, ◌+◌, not, position, prefix_len, length-map, HiTy, Entry, Placed, same_type, type_of, is_mark, last_that, placed_after, is_given_after, is_given, items_of_type, state_after, is_given_within, is_given_in, given_from}
+use Rattle.std.specs.Prelude.{if◌then◌else◌, ◌++◌, ◌+◌, ◌∷◌, ◌≡◌}
+use Rattle.bpaf_items.proofs.Words.{Bool, List, [], map, refl, ap, arith, filter, cond, Option, Some, None, not, position, prefix_len, length-map, HiTy, Entry, Placed, same_type, type_of, is_mark, last_that, placed_after, is_given_after, is_given, items_of_type, state_after, is_given_within, is_given_in, given_from}
 use Rattle.bpaf_items.specs.declared.meta_help.given.State.{State}
 use Rattle.bpaf_items.specs.declared.meta_help.given.State.TheVariants.{Outside}
 use Rattle.bpaf_items.proofs.Listing.Pushes.{last_that-push}

@@ -1,5 +1,6 @@
 -- Where an entry of an item list falls, and which entries are shown. Both depend on the entries before it.
-use Rattle.bpaf_items.specs.Words.{ℕ, Bool, true, false, not, ◌&&◌, ◌||◌, if◌then◌else◌, List, [], ◌∷◌, ◌++◌, map, filter, count_by, nat_lt, ◌==◌, Option, Some, None, is_some, option_map_or, list_any, last_or, after_last, range_with_len, Part, Leaf, any, positional, command, flag, argument}
+use Rattle.std.specs.Prelude.{if◌then◌else◌, ◌&&◌, ◌++◌, ◌==◌, ◌||◌, ◌∷◌}
+use Rattle.bpaf_items.specs.Words.{ℕ, Bool, true, false, not, List, [], map, filter, count_by, nat_lt, Option, Some, None, is_some, option_map_or, list_any, last_or, after_last, range_with_len, Part, Leaf, any, positional, command, flag, argument}
 use Rattle.bpaf_items.specs.declared.meta_help.entry.HiTy.{HiTy}
 use Rattle.bpaf_items.specs.contracts.meta_help.entry.HiTyPartialEq.TheImpl as type_eq
 use Rattle.bpaf_items.specs.Listing.ItemList.{Entry, listed, note, group_start, group_end, adjacent_start, adjacent_stop, type_of_item}

@@ -1,5 +1,6 @@
 -- How a list tells two items apart, which of two keys comes first, and what a key feeds a hasher.
-use Rattle.bpaf_items.specs.Words.{◌≡◌, ℕ, Bool, List, [], ◌∷◌, ◌++◌, flat_map, Option, Some, None, IsTrue, ◌↔◌, nat_eq, option_eq, option_cmp, nat_cmp, on, then_cmp, eq_of_both, eq_by_cmp, slice_cmp, IsTotalOrder, Ordering, Part, Text, Start, End, same_text, same_document, document_cmp, Name, short, long, both, Leaf, any, positional, command, flag, argument}
+use Rattle.std.specs.Prelude.{◌++◌, ◌↔◌, ◌∷◌, ◌≡◌}
+use Rattle.bpaf_items.specs.Words.{ℕ, Bool, List, [], flat_map, Option, Some, None, IsTrue, nat_eq, option_eq, option_cmp, nat_cmp, on, then_cmp, eq_of_both, eq_by_cmp, slice_cmp, IsTotalOrder, Ordering, Part, Text, Start, End, same_text, same_document, document_cmp, Name, short, long, both, Leaf, any, positional, command, flag, argument}
 use Rattle.std.specs.Hash as fed
 use Rattle.bpaf_items.specs.Listing.ItemList.{Entry, listed}
 

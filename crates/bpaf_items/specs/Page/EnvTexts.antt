@@ -1,5 +1,6 @@
 -- A map from the names of environment variables to the texts that a page shows for them.
-use Rattle.bpaf_items.specs.Words.{◌≡◌, ◌≢◌, ℕ, List, Option, Some, None, if◌then◌else◌, same_text}
+use Rattle.std.specs.Prelude.{if◌then◌else◌, ◌≡◌, ◌≢◌}
+use Rattle.bpaf_items.specs.Words.{ℕ, List, Option, Some, None, same_text}
 use Rattle.std.specs.Map.{lookup}
 
 -- the text for a name, if the map has one

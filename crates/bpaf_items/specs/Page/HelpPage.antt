@@ -1,5 +1,6 @@
 -- The entries of a list under their groups and headings, and the help page.
-use Rattle.bpaf_items.specs.Words.{ℕ, Bool, true, List, [], ◌∷◌, ◌++◌, flat_map, Option, Some, None, codes, Part, Write, plain, emphasis, inside, doc_writes, path_writes, Tree, Head, head, usage_writes}
+use Rattle.std.specs.Prelude.{◌++◌, ◌∷◌}
+use Rattle.bpaf_items.specs.Words.{ℕ, Bool, true, List, [], flat_map, Option, Some, None, codes, Part, Write, plain, emphasis, inside, doc_writes, path_writes, Tree, Head, head, usage_writes}
 use Rattle.bpaf_doc.specs.declared.buffer.Block.{Block}
 use Rattle.bpaf_doc.specs.declared.buffer.Block.TheVariants as block
 use Rattle.bpaf_items.specs.declared.meta_help.entry.HiTy.{HiTy}

@@ -1,6 +1,7 @@
 -- Which items are listed, and what `items_of_ty` gives as it goes through a list and keeps the block that was started
 -- last.
-use Rattle.bpaf_items.specs.Words.{Bool, true, false, not, ◌&&◌, if◌then◌else◌, List, [], ◌∷◌, None, Leaf, positional}
+use Rattle.std.specs.Prelude.{if◌then◌else◌, ◌&&◌, ◌∷◌}
+use Rattle.bpaf_items.specs.Words.{Bool, true, false, not, List, [], None, Leaf, positional}
 use Rattle.bpaf_items.specs.declared.meta_help.entry.HiTy.{HiTy}
 use Rattle.bpaf_items.specs.declared.meta_help.given.State.{State}
 use Rattle.bpaf_items.specs.declared.meta_help.given.State.TheVariants.{Outside, Group, Adjacent}

@@ -1,5 +1,6 @@
 -- Groups, and the entries outside them, taken from the front of a list.
-use Rattle.bpaf_items.specs.Words.{◌≡◌, ℕ, ◌+◌, ◌<◌, ◌≤◌, Bool, List, [], ◌∷◌, ◌++◌, length, drop, Option, Some, None, position, Part, Write, start, end, emphasis, with_writes}
+use Rattle.std.specs.Prelude.{◌++◌, ◌+◌, ◌<◌, ◌∷◌, ◌≡◌, ◌≤◌}
+use Rattle.bpaf_items.specs.Words.{ℕ, Bool, List, [], length, drop, Option, Some, None, position, Part, Write, start, end, emphasis, with_writes}
 use Rattle.bpaf_doc.specs.declared.buffer.Block.TheVariants as block
 use Rattle.bpaf_items.specs.Listing.ItemList.{Entry}
 use Rattle.bpaf_items.specs.Listing.Falls.{is_group_end, outside_groups}

@@ -1,5 +1,6 @@
 -- The parts of a help page, and what is shown of the environment variable of an item.
-use Rattle.bpaf_items.specs.Words.{ℕ, List, [], ◌∷◌, ◌++◌, Option, codes, Write, start, plain, emphasis, inside, Tree, Head, head}
+use Rattle.std.specs.Prelude.{◌++◌, ◌∷◌}
+use Rattle.bpaf_items.specs.Words.{ℕ, List, [], Option, codes, Write, start, plain, emphasis, inside, Tree, Head, head}
 use Rattle.bpaf_doc.specs.declared.buffer.Block.TheVariants as block
 use Rattle.bpaf_items.specs.declared.meta_help.writes.Shown.{Shown}
 use Rattle.bpaf_items.specs.declared.meta_help.writes.Shown.TheVariants.{IsSet, Value}

@@ -1,5 +1,6 @@
 -- What is remembered of the entries of a list so far, and what the next one writes.
-use Rattle.bpaf_items.specs.Words.{◌≡◌, ℕ, Bool, true, false, not, ◌||◌, if◌then◌else◌, flat_map, fold, nat_eq, List, [], ◌∷◌, AllByRecursion, IsDistinct, list_any, Write, Leaf}
+use Rattle.std.specs.Prelude.{if◌then◌else◌, ◌||◌, ◌∷◌, ◌≡◌}
+use Rattle.bpaf_items.specs.Words.{ℕ, Bool, true, false, not, flat_map, fold, nat_eq, List, [], AllByRecursion, IsDistinct, list_any, Write, Leaf}
 use Rattle.std.specs.Hash.FoldHasher as folding
 use Rattle.bpaf_items.specs.declared.meta_help.key.ItemKey.{ItemKey}
 use Rattle.bpaf_items.specs.Listing.ItemList.{Entry, listed}

@@ -1,4 +1,5 @@
-use Rattle.bpaf_items.proofs.Words.{◌≡◌, ◌++◌, drop, map, items_of_type, given_from, entry_at}
+use Rattle.std.specs.Prelude.{◌++◌, ◌≡◌}
+use Rattle.bpaf_items.proofs.Words.{drop, map, items_of_type, given_from, entry_at}
 use Rattle.bpaf_items.proofs.meta_help.groups.given.Given as goal
 
 abbrev pub invariant-loop-entry : goal.invariant-loop-entry

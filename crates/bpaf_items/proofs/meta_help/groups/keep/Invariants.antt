@@ -1,4 +1,5 @@
-use Rattle.bpaf_items.proofs.Words.{◌≡◌, ◌≤◌, ◌++◌, length, map, take, is_adjacent_start, is_adjacent_stop, kept_entries, entry_at, entry_of}
+use Rattle.std.specs.Prelude.{◌++◌, ◌≡◌, ◌≤◌}
+use Rattle.bpaf_items.proofs.Words.{length, map, take, is_adjacent_start, is_adjacent_stop, kept_entries, entry_at, entry_of}
 use Rattle.bpaf_items.proofs.Listing.Pushes.{since_start}
 use Rattle.bpaf_items.proofs.meta_help.groups.keep.Given as goal
 

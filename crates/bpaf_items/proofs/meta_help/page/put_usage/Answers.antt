@@ -1,4 +1,5 @@
-use Rattle.bpaf_items.proofs.Words.{◌∷◌, [], ◌++◌, map, rules, string_bytes, end, start, tree_of, Grows-then, Grows-by, usage_line_writes}
+use Rattle.std.specs.Prelude.{◌++◌, ◌∷◌}
+use Rattle.bpaf_items.proofs.Words.{[], map, rules, string_bytes, end, start, tree_of, Grows-then, Grows-by, usage_line_writes}
 use Rattle.bpaf_doc.specs.declared.buffer.Block.TheVariants as block
 use Rattle.bpaf_items.proofs.Page.Leaving.{leaves_then}
 use Rattle.bpaf_items.proofs.meta_help.page.put_usage.Goals as goal

@@ -1,4 +1,5 @@
-use Rattle.bpaf_items.proofs.Words.{true, ◌∷◌, [], ◌++◌, ◌∙◌, map, rules, string_bytes, end, path_writes, tree_of, usage_writes, usage_start}
+use Rattle.std.specs.Prelude.{◌++◌, ◌∷◌}
+use Rattle.bpaf_items.proofs.Words.{true, [], ◌∙◌, map, rules, string_bytes, end, path_writes, tree_of, usage_writes, usage_start}
 use Rattle.bpaf_doc.specs.declared.buffer.Block.TheVariants as block
 use Rattle.bpaf_items.proofs.Page.Leaving.{leaves_then, written_then}
 use Rattle.bpaf_items.proofs.meta_help.page.put_usage_line.Goals as goal

@@ -1,4 +1,5 @@
-use Rattle.bpaf_items.proofs.Words.{rules, ◌∷◌, [], ◌++◌, start, end, Grows-then, Grows-by, pieces_write}
+use Rattle.std.specs.Prelude.{◌++◌, ◌∷◌}
+use Rattle.bpaf_items.proofs.Words.{rules, [], start, end, Grows-then, Grows-by, pieces_write}
 use Rattle.bpaf_items.proofs.Page.Leaving.{leaves_then}
 use Rattle.bpaf_items.proofs.meta_help.pieces.put_inside.Goals as goal
 

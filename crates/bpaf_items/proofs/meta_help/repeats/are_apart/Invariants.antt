@@ -1,4 +1,5 @@
-use Rattle.bpaf_items.proofs.Words.{◌≡◌, map, take, flat_map, entry_hash, entry_at}
+use Rattle.std.specs.Prelude.{◌≡◌}
+use Rattle.bpaf_items.proofs.Words.{map, take, flat_map, entry_hash, entry_at}
 use Rattle.bpaf_items.proofs.meta_help.repeats.are_apart.Given as goal
 
 abbrev pub invariant-loop-entry : goal.invariant-loop-entry

@@ -1,4 +1,5 @@
-use Rattle.bpaf_items.proofs.Words.{◌≡◌, Some, false, List, ◌++◌, ◌+◌, ◌∙◌, ◌⊎◌, ap, sym, subst, refl, drop, length, map, arith, rules, Box, OnOk, IfOk, at_drop_more, Tree, optional, required, many, subsection, custom_usage, strict, tree_of, trees_of, OnOk-map, front_type, first_front_type, adjacent_entries, group_entries, entries_of, entries_of_parts, entry_of}
+use Rattle.std.specs.Prelude.{◌++◌, ◌+◌, ◌≡◌, ◌⊎◌}
+use Rattle.bpaf_items.proofs.Words.{Some, false, List, ◌∙◌, ap, sym, subst, refl, drop, length, map, arith, rules, Box, OnOk, IfOk, at_drop_more, Tree, optional, required, many, subsection, custom_usage, strict, tree_of, trees_of, OnOk-map, front_type, first_front_type, adjacent_entries, group_entries, entries_of, entries_of_parts, entry_of}
 use Rattle.bpaf_doc.specs.declared.buffer.Doc.{Doc}
 use Rattle.bpaf_meta.specs.declared.item.Item.{the_lemmas}
 use Rattle.bpaf_meta.specs.declared.meta.Meta.{Meta}

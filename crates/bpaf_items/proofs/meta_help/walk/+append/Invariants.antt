@@ -1,4 +1,5 @@
-use Rattle.bpaf_items.proofs.Words.{◌≡◌, ◌++◌, drop, map, option_or, trees_of, entries_of_parts, first_front_type, IsFront, entry_of}
+use Rattle.std.specs.Prelude.{◌++◌, ◌≡◌}
+use Rattle.bpaf_items.proofs.Words.{drop, map, option_or, trees_of, entries_of_parts, first_front_type, IsFront, entry_of}
 use Rattle.bpaf_items.proofs.meta_help.walk.+append.Given as goal
 
 abbrev pub invariant-append_parts-loop-part : goal.invariant-append_parts-loop-part

@@ -1,4 +1,5 @@
-use Rattle.bpaf_items.proofs.Words.{◌≡◌, ◌-◌, drop, length, given_from, entry_of}
+use Rattle.std.specs.Prelude.{◌-◌, ◌≡◌}
+use Rattle.bpaf_items.proofs.Words.{drop, length, given_from, entry_of}
 use Rattle.bpaf_items.proofs.meta_help.given.HelpItemsIterIterator.next.Given as goal
 
 abbrev pub invariant-loop-self : goal.invariant-loop-self

@@ -1,4 +1,5 @@
-use Rattle.bpaf_items.proofs.Words.{◌++◌, map, ap, ◌∙◌, subst, outside_groups, texts_in, group_lists, headings_writes, items_of_type, Leaves, entry_at, entry_of}
+use Rattle.std.specs.Prelude.{◌++◌}
+use Rattle.bpaf_items.proofs.Words.{map, ap, ◌∙◌, subst, outside_groups, texts_in, group_lists, headings_writes, items_of_type, Leaves, entry_at, entry_of}
 use Rattle.bpaf_items.proofs.Page.GroupSteps.{all_writes}
 use Rattle.bpaf_items.proofs.Page.Leaving.{leaves_then}
 use Rattle.bpaf_items.proofs.meta_help.writes.Writer.put_all.Goals as goal

@@ -1,4 +1,5 @@
-use Rattle.bpaf_items.proofs.Words.{◌≡◌, ◌∷◌, [], ◌++◌, ◌∙◌, false, ap, subst, option_copied, plain, body, env_body, env_term, env_text, texts_in, shown_text, Leaves}
+use Rattle.std.specs.Prelude.{◌++◌, ◌∷◌, ◌≡◌}
+use Rattle.bpaf_items.proofs.Words.{[], ◌∙◌, false, ap, subst, option_copied, plain, body, env_body, env_term, env_text, texts_in, shown_text, Leaves}
 use Rattle.bpaf_items.proofs.Page.Leaving.{leaves_then}
 use Rattle.bpaf_items.proofs.meta_help.writes.Writer.put_env.Goals as goal
 

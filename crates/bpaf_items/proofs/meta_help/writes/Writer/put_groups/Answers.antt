@@ -1,4 +1,5 @@
-use Rattle.bpaf_items.proofs.Words.{map, ap, sym, ◌∙◌, ◌++◌, subst, with_writes, Grows-then, outside_groups, HasPairedGroups, texts_in, group_lists, entry_at}
+use Rattle.std.specs.Prelude.{◌++◌}
+use Rattle.bpaf_items.proofs.Words.{map, ap, sym, ◌∙◌, subst, with_writes, Grows-then, outside_groups, HasPairedGroups, texts_in, group_lists, entry_at}
 use Rattle.bpaf_items.proofs.Page.GroupSteps.{left_behind}
 use Rattle.bpaf_items.proofs.meta_help.writes.Writer.put_groups.Goals as goal
 

@@ -1,4 +1,5 @@
-use Rattle.bpaf_items.proofs.Words.{◌≡◌, ◌++◌, length, map, with_writes, outside_groups, HasPairedGroups, texts_in, group_lists, entry_at, entry_of}
+use Rattle.std.specs.Prelude.{◌++◌, ◌≡◌}
+use Rattle.bpaf_items.proofs.Words.{length, map, with_writes, outside_groups, HasPairedGroups, texts_in, group_lists, entry_at, entry_of}
 use Rattle.bpaf_doc.specs.Buffer.Growth.{Grows}
 use Rattle.bpaf_items.proofs.meta_help.writes.Writer.put_groups.Given as goal
 

@@ -1,4 +1,5 @@
-use Rattle.bpaf_items.proofs.Words.{◌+◌, rules, map, take, sym, subst, drop, Grows-then, Grows-by, texts_in, list_writes, Remembers, entry_at}
+use Rattle.std.specs.Prelude.{◌+◌}
+use Rattle.bpaf_items.proofs.Words.{rules, map, take, sym, subst, drop, Grows-then, Grows-by, texts_in, list_writes, Remembers, entry_at}
 use Rattle.bpaf_items.proofs.Page.Leaving.{map_around, map_next}
 use Rattle.bpaf_items.proofs.Page.Repeating.{list_next}
 use Rattle.bpaf_items.proofs.meta_help.writes.Writer.put_list.Goals as goal

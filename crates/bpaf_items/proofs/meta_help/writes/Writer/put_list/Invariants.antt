@@ -1,4 +1,5 @@
-use Rattle.bpaf_items.proofs.Words.{◌≡◌, ◌≤◌, length, map, take, with_writes, texts_in, list_writes, Remembers, entry_at}
+use Rattle.std.specs.Prelude.{◌≡◌, ◌≤◌}
+use Rattle.bpaf_items.proofs.Words.{length, map, take, with_writes, texts_in, list_writes, Remembers, entry_at}
 use Rattle.bpaf_items.proofs.meta_help.writes.Writer.put_list.Given as goal
 
 abbrev pub invariant-loop-entry : goal.invariant-loop-entry

@@ -1,4 +1,5 @@
-use Rattle.bpaf_items.proofs.Words.{◌++◌, option_copied, text_of, env_writes, help_writes, term, texts_in, shown_text, pieces_write}
+use Rattle.std.specs.Prelude.{◌++◌}
+use Rattle.bpaf_items.proofs.Words.{option_copied, text_of, env_writes, help_writes, term, texts_in, shown_text, pieces_write}
 use Rattle.bpaf_items.proofs.Page.Leaving.{leaves_then}
 use Rattle.bpaf_items.proofs.meta_help.writes.Writer.put_named.Goals as goal
 

@@ -1,4 +1,5 @@
-use Rattle.bpaf_items.proofs.Words.{rules, ◌≡◌, map, subst, sym, string_bytes, with_writes, head_of, tree_of, Grows-then, Grows-by, HasPairedGroups, texts_in, groups_writes, front_writes, Leaves, entry_of}
+use Rattle.std.specs.Prelude.{◌≡◌}
+use Rattle.bpaf_items.proofs.Words.{rules, map, subst, sym, string_bytes, with_writes, head_of, tree_of, Grows-then, Grows-by, HasPairedGroups, texts_in, groups_writes, front_writes, Leaves, entry_of}
 use Rattle.bpaf_items.proofs.Listing.TakenOut.{groups_are_taken_out}
 use Rattle.bpaf_items.proofs.Page.PageSteps.{footer_is, page_leaves}
 use Rattle.bpaf_items.proofs.meta_help.writes.Writer.put_page.Goals as goal

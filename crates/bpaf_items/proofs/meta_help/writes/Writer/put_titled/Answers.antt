@@ -1,4 +1,5 @@
-use Rattle.bpaf_items.proofs.Words.{◌<◌, ◌++◌, length, map, rules, subst, Grows-then, Grows-by, texts_in, list_writes, heading_end, title_front, Leaves, entry_at}
+use Rattle.std.specs.Prelude.{◌++◌, ◌<◌}
+use Rattle.bpaf_items.proofs.Words.{length, map, rules, subst, Grows-then, Grows-by, texts_in, list_writes, heading_end, title_front, Leaves, entry_at}
 use Rattle.bpaf_items.proofs.Page.GroupSteps.{heading_is}
 use Rattle.bpaf_items.proofs.Page.Leaving.{leaves_then}
 use Rattle.bpaf_items.proofs.meta_help.writes.Writer.put_titled.Goals as goal
