@@ -1,3 +1,4 @@
 pub mod Listing
 pub mod Page
 pub mod Steps
+pub mod Words

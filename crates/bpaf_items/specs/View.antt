@@ -1,9 +1,5 @@
 -- The content of an entry of a list, a key, a map of texts and an answer.
-use Rattle.std.specs.Prelude.{[], Result, Ok, Err}
-use Rattle.std.specs.Borrow.{Bor}
-use Rattle.std.specs.Option.{option_copied}
-use Rattle.bpaf_meta.specs.Content.{any, positional, command, flag, argument}
-use Rattle.bpaf_meta.specs.View.{name_of, text_of, leaf_of, tree_of, head_of}
+use Rattle.bpaf_items.specs.Words.{[], Result, Ok, Err, Bor, option_copied, any, positional, command, flag, argument, name_of, text_of, leaf_of, tree_of, head_of}
 use Rattle.bpaf_items.specs.declared.meta_help.entry.HelpItem.{HelpItem}
 use Rattle.bpaf_items.specs.declared.meta_help.entry.HelpItem.TheVariants as entry
 use Rattle.bpaf_items.specs.declared.meta_help.key.ItemKey.{ItemKey}

@@ -5,6 +5,7 @@ ghost use Rattle.bpaf_meta.specs.View.{head_of, tree_of};
 ghost use Rattle.bpaf_items.specs.Listing.ItemList.{item_list};
 ghost use Rattle.bpaf_items.specs.Page.EnvTexts.{no_texts};
 ghost use Rattle.bpaf_items.specs.Page.HelpPage.{groups_writes};
+ghost use Rattle.bpaf_items.specs.View.{entry_of};
 ghost use Rattle.bpaf_help.specs.Chapters.{if_many, manual_name, synopsis_line, synopsis_writes};
 ghost use Rattle.bpaf_help.specs.Steps.{manual_front, manual_part, path_title};
 ghost use Rattle.bpaf_help.specs.View.{chapter_of};
@@ -160,7 +161,7 @@ fn listing<'a, A: Allocator, B: Allocator>(
     meta: &'a Meta<B>,
     help: &'a Meta<B>,
 ) -> Result<HelpItems<'a, B, A>, AllocError>
-    ensures { IfOk result (λ items. items ≡ item_list (tree_of meta.now) ++ item_list (tree_of help.now)) }
+    ensures { IfOk result (λ items. map entry_of items ≡ item_list (tree_of meta.now) ++ item_list (tree_of help.now)) }
 {
     let mut items: HelpItems<'a, B, A> = HelpItems::new(alloc);
     items.append_meta(meta)?;

@@ -1,13 +1,6 @@
 -- How the marks of an item list stand: each start before its stop, and no group within a group.
-use Rattle.std.proofs.lemmas.Grind.{common_steps}
-use Rattle.std.proofs.Common.{◌≡◌, ℕ, ◌+◌, Bool, true, false, List, [], ◌∷◌, ◌++◌, refl, sym, subst, arith}
-use Rattle.std.specs.Prelude.{if◌then◌else◌, flat_map, count_by, Option, Some, None}
-use Rattle.bpaf_doc.specs.Buffer.Parts.{Part}
-use Rattle.bpaf_meta.specs.Content.{Tree, and_of, or_of, optional, required, adjacent, item, many, subsection, suffix, skip, custom_usage, strict, Trees, no_trees, tree, Leaf, positional}
-use Rattle.std.proofs.lemmas.List.Sums.{sum_by-append, sum_by-cons}
-use Rattle.bpaf_items.specs.declared.meta_help.entry.HiTy.{HiTy}
-use Rattle.bpaf_items.specs.Listing.ItemList.{Entry, note, group_start, group_end, adjacent_start, adjacent_stop, front_type, item_entries, adjacent_entries, group_entries, noted_entries, entries_with_type, entries_of, entries_of_parts, item_list, IsItemList}
-use Rattle.bpaf_items.specs.Listing.Falls.{is_mark, is_adjacent_start, is_adjacent_stop}
+use Rattle.std.specs.Prelude.{if◌then◌else◌, ◌++◌, ◌+◌, ◌∷◌, ◌≡◌}
+use Rattle.bpaf_items.proofs.Words.{common_steps, ℕ, Bool, true, false, List, [], refl, sym, subst, arith, flat_map, count_by, Option, Some, None, Part, Tree, and_of, or_of, optional, required, adjacent, item, many, subsection, suffix, skip, custom_usage, strict, Trees, no_trees, tree, Leaf, positional, sum_by-append, sum_by-cons, HiTy, Entry, note, group_start, group_end, adjacent_start, adjacent_stop, front_type, item_entries, adjacent_entries, group_entries, noted_entries, entries_with_type, entries_of, entries_of_parts, item_list, IsItemList, is_mark, is_adjacent_start, is_adjacent_stop}
 
 -- nothing; an entry that is not a mark; an adjacent block; a group, where groups are allowed; two joined
 pub data Blocks : (groups : Bool) → List Entry → Type 0 where

@@ -1,12 +1,6 @@
 -- What the walk over the entries outside groups gives is what falls under a heading.
-use Rattle.std.proofs.lemmas.Grind.{common_steps}
-use Rattle.std.proofs.Common.{◌≡◌, Bool, true, false, not, List, [], ◌∷◌, ◌++◌, map, refl, sym, ap, ◌∙◌, append-nil, arith}
-use Rattle.std.specs.Prelude.{filter, Option, Some, None}
-use Rattle.std.specs.List.{last_or}
-use Rattle.bpaf_items.specs.declared.meta_help.entry.HiTy.{HiTy}
-use Rattle.bpaf_items.specs.Listing.ItemList.{Entry, group_start, adjacent_start}
-use Rattle.bpaf_items.specs.Listing.Falls.{Placed, placed_after, is_adjacent_mark, is_mark, is_in_group, last_that, outside_groups, heading_after, group_destination, heading_destination, destination, is_heading, is_given_after, is_given}
-use Rattle.bpaf_items.specs.Listing.ListLaws.{HeadingsAgree}
+use Rattle.std.specs.Prelude.{◌++◌, ◌∷◌, ◌≡◌}
+use Rattle.bpaf_items.proofs.Words.{common_steps, Bool, true, false, not, List, [], map, refl, sym, ap, ◌∙◌, append-nil, arith, filter, Option, Some, None, last_or, HiTy, Entry, group_start, adjacent_start, Placed, placed_after, is_adjacent_mark, is_mark, is_in_group, last_that, outside_groups, heading_after, group_destination, heading_destination, destination, is_heading, is_given_after, is_given, HeadingsAgree}
 use Rattle.bpaf_items.proofs.Listing.Placing.{entry, two_kept, outside_groups-push}
 
 -- outside groups each mark is an adjacent one

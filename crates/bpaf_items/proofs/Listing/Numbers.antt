@@ -1,14 +1,7 @@
 -- The group that an entry of an item list falls under is one of those that the list has.
-use Rattle.std.proofs.Common.{◌≡◌, ℕ, ◌+◌, ◌-◌, ◌<◌, ◌≤◌, false, List, [], ◌∷◌, ◌++◌, length, refl, sym, ap, ◌∙◌, subst, append_assoc, arith}
-use Rattle.std.specs.Prelude.{count_by, All, Contains, Option}
-use Rattle.std.specs.List.{list_any, range_with_len}
-use Rattle.std.proofs.lemmas.Bool.{or_parts}
-use Rattle.std.proofs.lemmas.List.Elements.{All-nil, All-cons, All-append, All-same}
+use Rattle.std.specs.Prelude.{◌++◌, ◌+◌, ◌-◌, ◌<◌, ◌∷◌, ◌≡◌, ◌≤◌}
+use Rattle.bpaf_items.proofs.Words.{ℕ, false, List, [], length, refl, sym, ap, ◌∙◌, subst, append_assoc, arith, count_by, All, Contains, Option, list_any, range_with_len, or_parts, All-nil, All-cons, All-append, All-same, Entry, group_start, group_end, Placed, placed_after, group, is_group_mark, is_group_start, is_group_open, is_in_group, heading_after, destination, HasPairedGroups, empty, outer, whole, FallsUnderWritten}
 use Rattle.std.proofs.lemmas.List.FromFn.{length-range_with_len, get_or-range_with_len}
-use Rattle.bpaf_items.specs.Listing.ItemList.{Entry, group_start, group_end}
-use Rattle.bpaf_items.specs.Listing.Falls.{Placed, placed_after, group, is_group_mark, is_group_start, is_group_open, is_in_group, heading_after, destination}
-use Rattle.bpaf_items.specs.Listing.Groups.{HasPairedGroups, empty, outer, whole}
-use Rattle.bpaf_items.specs.Listing.ListLaws.{FallsUnderWritten}
 use Rattle.bpaf_items.proofs.Listing.Placing.{placed_after-append}
 use Rattle.bpaf_items.proofs.Listing.Blocks.{count-append, item_list_blocks}
 use Rattle.bpaf_items.proofs.Listing.PairedGroups.{blocks_paired, closed_outside, closed_after, count_same, number_inner, number_opened, open_same}

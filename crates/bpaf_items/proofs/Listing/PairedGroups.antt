@@ -1,16 +1,6 @@
 -- The groups of an item list, one after another, and what falls under each.
-use Rattle.std.proofs.Common.{◌≡◌, ℕ, ◌+◌, ◌≤◌, ◌==◌, Bool, true, false, ◌&&◌, ◌||◌, ◌⊎◌, inl, inr, List, [], ◌∷◌, ◌++◌, map, refl, sym, ap, ◌∙◌, subst, append_assoc, append-nil, arith}
-use Rattle.std.specs.Prelude.{if◌then◌else◌, filter, count_by, All}
-use Rattle.std.specs.List.{list_any}
-use Rattle.std.proofs.Math.Bool.{and-false}
-use Rattle.std.proofs.lemmas.Bool.{eqb-true, ne_eqb, or_parts}
-use Rattle.std.proofs.lemmas.List.Elements.{All-nil, All-cons, All-head, All-tail, All-map, All-filter}
-use Rattle.std.proofs.lemmas.List.Folds.{list_any-append}
-use Rattle.bpaf_doc.specs.Buffer.Parts.{Part}
-use Rattle.bpaf_items.specs.declared.meta_help.entry.HiTy.{HiTy}
-use Rattle.bpaf_items.specs.Listing.ItemList.{Entry, group_start, group_end, adjacent_start, adjacent_stop}
-use Rattle.bpaf_items.specs.Listing.Falls.{Placed, placed_after, lacks_help, is_mark, is_group_mark, is_group_start, is_group_end, is_adjacent_mark, is_group_open, is_in_group, destination, is_group}
-use Rattle.bpaf_items.specs.Listing.Groups.{HasPairedGroups, empty, outer, whole, stays}
+use Rattle.std.specs.Prelude.{if◌then◌else◌, ◌&&◌, ◌++◌, ◌+◌, ◌==◌, ◌||◌, ◌∷◌, ◌≡◌, ◌≤◌, ◌⊎◌}
+use Rattle.bpaf_items.proofs.Words.{ℕ, Bool, true, false, inl, inr, List, [], map, refl, sym, ap, ◌∙◌, subst, append_assoc, append-nil, arith, filter, count_by, All, list_any, and-false, eqb-true, ne_eqb, or_parts, All-nil, All-cons, All-head, All-tail, All-map, All-filter, list_any-append, Part, HiTy, Entry, group_start, group_end, adjacent_start, adjacent_stop, Placed, placed_after, lacks_help, is_mark, is_group_mark, is_group_start, is_group_end, is_adjacent_mark, is_group_open, is_in_group, destination, is_group, HasPairedGroups, empty, outer, whole, stays}
 use Rattle.bpaf_items.proofs.Listing.Placing.{entry, chosen-append, two_kept}
 use Rattle.bpaf_items.proofs.Listing.Blocks.{Blocks, none, plain, block, grouped, joined}
 use Rattle.bpaf_items.proofs.Listing.Pushes.{count-push, open-push}

@@ -1,22 +1,15 @@
 -- Entries with those before them, one entry after another.
-use Rattle.std.proofs.Common.{◌≡◌, Bool, not, List, [], ◌∷◌, ◌++◌, map, refl, sym, ap, ◌∙◌, append_assoc, append-nil, arith}
-use Rattle.std.specs.Prelude.{if◌then◌else◌, filter}
-use Rattle.std.proofs.lemmas.List.{map-append}
-use Rattle.std.proofs.lemmas.List.Elements.{filter-append}
-use Rattle.bpaf_items.specs.Listing.ItemList.{Entry}
-use Rattle.bpaf_items.specs.Listing.Falls.{Placed, placed, placed_after, is_in_group, outside_groups}
+use Rattle.std.specs.Prelude.{if◌then◌else◌, ◌++◌, ◌∷◌, ◌≡◌}
+use Rattle.bpaf_items.proofs.Words.{Bool, not, List, [], map, refl, sym, ap, ◌∙◌, append_assoc, append-nil, arith, filter, map-append, filter-append, Entry, Placed, placed, placed_after, is_in_group, outside_groups}
 
 -- two lists: the second stands after the first
 pub placed_after-append : (before es fs : List Entry) → placed_after before (es ++ fs) ≡ placed_after before es ++ placed_after (before ++ es) fs
 placed_after-append before [] fs = ap (λ b. placed_after b fs) (sym (append-nil before))
 placed_after-append before (e ∷ es) fs = grind (arith, placed_after-append (before ++ e ∷ []) es fs, append_assoc)
 
-pub placed-append : (es fs : List Entry) → placed (es ++ fs) ≡ placed es ++ placed_after es fs
-placed-append es fs = placed_after-append [] es fs
-
 -- one more entry stands with all the others before it
 pub placed-push : (es : List Entry) (e : Entry) → placed (es ++ e ∷ []) ≡ placed es ++ (es, e) ∷ []
-placed-push es e = placed-append es (e ∷ [])
+placed-push es e = placed_after-append [] es (e ∷ [])
 
 -- the entries themselves
 pub placed_entries : (before es : List Entry) → map (λ p. p.1) (placed_after before es) ≡ es
@@ -37,8 +30,5 @@ two_kept a b e before other ps qs h7 h8 = grind arith
 pub kept_map : (b : Bool) (p : Placed) → map (λ q. q.1) (if b then p ∷ [] else []) ≡ (if b then p.1 ∷ [] else [])
 kept_map b p = grind arith
 
-pub outside_groups-append : (es fs : List Entry) → outside_groups (es ++ fs) ≡ outside_groups es ++ map (λ p. p.1) (filter (λ p. not (is_in_group p)) (placed_after es fs))
-outside_groups-append es fs = chosen-append (λ p. not (is_in_group p)) [] es fs
-
 pub outside_groups-push : (es : List Entry) (e : Entry) → outside_groups (es ++ e ∷ []) ≡ outside_groups es ++ (if not (is_in_group (es, e)) then e ∷ [] else [])
-outside_groups-push es e = outside_groups-append es (e ∷ []) ∙ ap (λ xs. outside_groups es ++ xs) (kept_map (not (is_in_group (es, e))) (es, e))
+outside_groups-push es e = chosen-append (λ p. not (is_in_group p)) [] es (e ∷ []) ∙ ap (λ xs. outside_groups es ++ xs) (kept_map (not (is_in_group (es, e))) (es, e))

@@ -1,18 +1,11 @@
 -- What a look back sees after one more entry.
-use Rattle.std.proofs.Common.{◌≡◌, ℕ, ◌+◌, Bool, true, false, not, List, [], ◌∷◌, ◌++◌, refl, ap, ◌∙◌, append-nil, arith}
-use Rattle.std.specs.Prelude.{if◌then◌else◌, count_by, Option, Some}
-use Rattle.std.specs.Option.{option_map_or}
-use Rattle.std.specs.List.{last_or, after_last}
-use Rattle.std.proofs.lemmas.List.Elements.{filter-append}
-use Rattle.std.proofs.lemmas.List.Sums.{sum_by_push}
-use Rattle.std.proofs.lemmas.List.{reverse-append, drop-append-le, drop_all, length-append}
-use Rattle.bpaf_items.specs.Listing.ItemList.{Entry}
-use Rattle.bpaf_items.specs.Listing.Falls.{is_group_start, is_group_mark, is_adjacent_start, is_adjacent_mark, last_that, is_group_open, is_in_group, outside_groups}
+use Rattle.std.specs.Prelude.{if◌then◌else◌, ◌++◌, ◌+◌, ◌∷◌, ◌≡◌}
+use Rattle.bpaf_items.proofs.Words.{ℕ, Bool, true, false, not, List, [], refl, ap, ◌∙◌, append-nil, arith, count_by, Option, Some, option_map_or, last_or, after_last, filter-append, sum_by_push, reverse-append, drop-append-le, drop_all, length-append, Entry, is_group_start, is_group_mark, is_adjacent_start, is_adjacent_mark, last_that, is_group_open, is_in_group, outside_groups}
 use Rattle.bpaf_items.proofs.Listing.Placing.{outside_groups-push}
 
-last_or-push : (o : Option Entry) (es : List Entry) (e : Entry) → last_or o (es ++ e ∷ []) ≡ Some e
-last_or-push o [] e = refl
-last_or-push o (x ∷ es) e = last_or-push (Some x) es e
+pub last_or-push : {X : Type 0} (o : Option X) (xs : List X) (x : X) → last_or o (xs ++ x ∷ []) ≡ Some x
+last_or-push o [] x = refl
+last_or-push o (y ∷ xs) x = last_or-push (Some y) xs x
 
 pub last_that-push : (p : Entry → Bool) (es : List Entry) (e : Entry) → last_that p (es ++ e ∷ []) ≡ (if p e then Some e else last_that p es)
 last_that-push p es e = grind (arith, filter-append, last_or-push, append-nil)

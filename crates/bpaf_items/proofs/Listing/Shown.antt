@@ -1,16 +1,7 @@
 -- Each key of a list is shown once, at its first place.
-use Rattle.std.proofs.Common.{◌≡◌, ℕ, ◌+◌, ◌≤◌, Bool, true, false, ◌||◌, List, [], ◌∷◌, ◌++◌, map, length, get_or, refl, sym, ap, ◌∙◌, subst, arith}
-use Rattle.std.specs.Prelude.{if◌then◌else◌, filter, take, count_by, Contains}
-use Rattle.std.specs.List.{list_any}
-use Rattle.std.proofs.Math.Bool.{or-false, or-true}
-use Rattle.std.proofs.lemmas.List.Folds.{list_any-append}
-use Rattle.std.proofs.lemmas.List.Sums.{sum_by-cons, get_or-le-sum_by}
-use Rattle.bpaf_meta.specs.Content.{Leaf}
-use Rattle.bpaf_items.specs.Listing.ItemList.{Entry, listed}
-use Rattle.bpaf_items.specs.Listing.Keys.{key_of, same_key}
+use Rattle.std.specs.Prelude.{if◌then◌else◌, ◌++◌, ◌+◌, ◌||◌, ◌∷◌, ◌≡◌, ◌≤◌}
+use Rattle.bpaf_items.proofs.Words.{ℕ, Bool, true, false, List, [], map, length, get_or, refl, sym, ap, ◌∙◌, subst, arith, filter, take, count_by, Contains, list_any, or-false, or-true, list_any-append, sum_by-cons, get_or-le-sum_by, Leaf, Entry, listed, key_of, same_key, Placed, placed, placed_after, has_key_of, is_shown, shown_places, shown_entries, KeyOnce}
 use Rattle.bpaf_items.specs.Steps.KeyOrder.{keys_equiv}
-use Rattle.bpaf_items.specs.Listing.Falls.{Placed, placed, placed_after, has_key_of, is_shown, shown_places, shown_entries}
-use Rattle.bpaf_items.specs.Listing.ListLaws.{KeyOnce}
 use Rattle.bpaf_items.proofs.Listing.Placing.{chosen-append, placed_entries, kept_map}
 
 -- a list with one more entry shows what it showed, and then that entry where it is shown

@@ -1,15 +1,6 @@
 -- In an item list, what has help or is in no adjacent block falls under a group or a heading.
-use Rattle.std.proofs.Common.{◌≡◌, ◌≢◌, ℕ, ◌+◌, ◌<◌, ◌≤◌, Bool, true, false, not, ◌⊎◌, List, [], ◌∷◌, ◌++◌, refl, sym, ap, ◌∙◌, subst, append_assoc, append-nil, arith}
-use Rattle.std.specs.Prelude.{if◌then◌else◌, IsTrue, All, count_by, Option}
-use Rattle.std.specs.Option.{option_map_or}
-use Rattle.std.proofs.lemmas.Bool.{le-ltb, or_parts, false_from_ne_true}
-use Rattle.std.proofs.lemmas.List.Elements.{All-nil, All-cons, All-append, All-same}
-use Rattle.bpaf_doc.specs.Buffer.Parts.{Part}
-use Rattle.bpaf_meta.specs.Content.{Tree}
-use Rattle.bpaf_items.specs.declared.meta_help.entry.HiTy.{HiTy}
-use Rattle.bpaf_items.specs.Listing.ItemList.{Entry, group_start, group_end, adjacent_start, adjacent_stop}
-use Rattle.bpaf_items.specs.Listing.Falls.{Placed, placed_after, group, nowhere, lacks_help, is_mark, is_group_mark, is_group_start, is_group_end, is_adjacent_start, is_adjacent_stop, is_adjacent_mark, is_group_open, is_in_group, last_that, outside_groups, heading_after, group_destination, heading_destination, destination}
-use Rattle.bpaf_items.specs.Listing.ListLaws.{IsInNoAdjacentBlock, FallsSomewhere}
+use Rattle.std.specs.Prelude.{if◌then◌else◌, ◌++◌, ◌+◌, ◌<◌, ◌∷◌, ◌≡◌, ◌≢◌, ◌≤◌, ◌⊎◌}
+use Rattle.bpaf_items.proofs.Words.{ℕ, Bool, true, false, not, List, [], refl, sym, ap, ◌∙◌, subst, append_assoc, append-nil, arith, IsTrue, All, count_by, Option, option_map_or, le-ltb, or_parts, false_from_ne_true, All-nil, All-cons, All-append, All-same, Part, Tree, HiTy, Entry, group_start, group_end, adjacent_start, adjacent_stop, Placed, placed_after, group, nowhere, lacks_help, is_mark, is_group_mark, is_group_start, is_group_end, is_adjacent_start, is_adjacent_stop, is_adjacent_mark, is_group_open, is_in_group, last_that, outside_groups, heading_after, group_destination, heading_destination, destination, IsInNoAdjacentBlock, FallsSomewhere}
 use Rattle.bpaf_items.proofs.Listing.Placing.{placed_after-append}
 use Rattle.bpaf_items.proofs.Listing.Blocks.{Blocks, none, plain, block, grouped, joined, starts_in, stops_in, even, count-append, item_list_blocks}
 use Rattle.bpaf_items.proofs.Listing.Pushes.{count-push, since_start, since_start-push, open-push, is_block_open, inside-push, block_open-push}

@@ -1,17 +1,7 @@
 -- Groups are taken out of a list one after another.
-use Rattle.std.proofs.Common.{◌≡◌, ℕ, ◌+◌, ◌==◌, Bool, true, false, not, ◌&&◌, ◌||◌, ◌⊎◌, inl, inr, List, [], ◌∷◌, ◌++◌, length, map, refl, sym, ap, ◌∙◌, append_assoc, append-nil, add-one, arith}
-use Rattle.std.specs.Prelude.{if◌then◌else◌, filter, count_by, nat_lt, Some, None}
-use Rattle.std.specs.List.{list_any, position, position_or_len, after_last}
-use Rattle.std.proofs.Math.Bool.{and-true}
+use Rattle.std.specs.Prelude.{if◌then◌else◌, ◌&&◌, ◌++◌, ◌+◌, ◌==◌, ◌||◌, ◌∷◌, ◌≡◌, ◌⊎◌}
+use Rattle.bpaf_items.proofs.Words.{ℕ, Bool, true, false, not, inl, inr, List, [], length, map, refl, sym, ap, ◌∙◌, append_assoc, append-nil, add-one, arith, filter, count_by, nat_lt, Some, None, list_any, position, position_or_len, after_last, and-true, ne_eqb, lt-ltb, le-ltb, or_parts, length-append, list_any-append, Part, HiTy, Entry, group_start, group_end, placed_after, is_group_start, is_group_end, is_group_mark, is_group_open, is_in_group, group_members, outside_groups, find_group, both_places, HasNoGroupMark, HasPairedGroups, empty, outer, whole, stays, kept_entries, HasFirstGroup, HasNoGroup, GroupsAreTakenOut}
 use Rattle.std.proofs.Math.Dec.{eqb-suc-suc}
-use Rattle.std.proofs.lemmas.Bool.{ne_eqb, lt-ltb, le-ltb, or_parts}
-use Rattle.std.proofs.lemmas.List.{length-append}
-use Rattle.std.proofs.lemmas.List.Folds.{list_any-append}
-use Rattle.bpaf_doc.specs.Buffer.Parts.{Part}
-use Rattle.bpaf_items.specs.declared.meta_help.entry.HiTy.{HiTy}
-use Rattle.bpaf_items.specs.Listing.ItemList.{Entry, group_start, group_end}
-use Rattle.bpaf_items.specs.Listing.Falls.{placed_after, is_group_start, is_group_end, is_group_mark, is_group_open, is_in_group, group_members, outside_groups}
-use Rattle.bpaf_items.specs.Listing.Groups.{find_group, both_places, HasNoGroupMark, HasPairedGroups, empty, outer, whole, stays, kept_entries, HasFirstGroup, HasNoGroup, GroupsAreTakenOut}
 use Rattle.bpaf_items.proofs.Listing.Placing.{entry, chosen-append, two_kept}
 use Rattle.bpaf_items.proofs.Listing.Blocks.{item_list_blocks, count-append, count-cons}
 use Rattle.bpaf_items.proofs.Listing.Pushes.{open-push, after_last-push}

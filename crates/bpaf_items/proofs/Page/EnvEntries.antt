@@ -1,14 +1,10 @@
 -- The texts that the entries of a map show.
-use Rattle.std.specs.Option.{option_map}
-use Rattle.std.specs.BTreeMap.{BTreeMap, get_by_text, is_at, Updates}
+use Rattle.std.specs.Prelude.{◌∷◌, ◌≡◌}
+use Rattle.bpaf_items.proofs.Words.{option_map, BTreeMap, get_by_text, is_at, Updates, nat_cmp, arith, ℕ, List, [], Some, map, String, string_bytes, refl, same_text, texts_in, texts_with}
 use Rattle.std.specs.Map.{lookup}
-use Rattle.std.specs.Ordering.{nat_cmp}
 use Rattle.std.specs.Cmp.Lexicographic.{slice_cmp}
 use Rattle.std.specs.String.{string_cmp}
-use Rattle.std.proofs.Common.{arith, ◌≡◌, ℕ, List, [], ◌∷◌, Some, map, String, string_bytes, refl}
 use Rattle.std.proofs.lemmas.Map.Text.{is_eq-slice_cmp, btree_map_updates_text}
-use Rattle.bpaf_doc.specs.Buffer.Equality.{same_text}
-use Rattle.bpaf_items.specs.Page.EnvTexts.{texts_in, texts_with}
 
 module _ {Y Z : Type 0} where
   abbrev pub shown_pair : String Y × String Z → List ℕ × List ℕ

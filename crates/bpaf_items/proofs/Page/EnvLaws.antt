@@ -1,12 +1,11 @@
 -- An insertion into a map of texts.
-use Rattle.std.proofs.Common.{◌≡◌, ◌≢◌, ℕ, false, List, Some, ap, sym, arith, if◌then◌else◌}
+use Rattle.std.specs.Prelude.{if◌then◌else◌, ◌≡◌, ◌≢◌}
+use Rattle.bpaf_items.proofs.Words.{ℕ, false, List, Some, ap, sym, arith, same_text, TextsAreInserted}
 use Rattle.std.proofs.lemmas.Cmp.{nat_list_eq_equiv}
-use Rattle.bpaf_doc.specs.Buffer.Equality.{same_text}
-use Rattle.bpaf_items.specs.Page.EnvTexts.{TextsAreInserted}
-use Rattle.bpaf_items.proofs.Listing.KeyLaws.{text_is}
+use Rattle.bpaf_items.specs.Steps.KeyOrder.{texts_are}
 
 other_text : (xs ys : List ℕ) → xs ≢ ys → same_text xs ys ≡ false
-other_text xs ys h = grind (arith, text_is)
+other_text xs ys h = grind (arith, texts_are)
 
 pub texts_are_inserted : TextsAreInserted
 texts_are_inserted texts name text = record {

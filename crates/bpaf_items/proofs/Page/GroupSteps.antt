@@ -1,23 +1,8 @@
 -- Groups, and entries outside them, taken from the front of a list.
-use Rattle.std.proofs.Common.{get_or, ◌&&◌, ◌≡◌, ℕ, ◌+◌, ◌<◌, ◌≤◌, Bool, true, false, not, List, [], ◌∷◌, ◌++◌, length, map, take, drop, refl, sym, ap, ◌∙◌, subst, append_assoc, add-one, zero, suc, arith}
-use Rattle.std.specs.Prelude.{if◌then◌else◌, filter, flat_map, count_by, nat_lt, Option, Some, None}
-use Rattle.std.specs.Borrow.{Bor}
-use Rattle.std.specs.List.{position, range_with_len}
-use Rattle.std.proofs.Math.Seq.{take-append_seam, drop-append_seam}
-use Rattle.std.proofs.lemmas.List.{map-append, length-append, take-map, drop-map}
-use Rattle.bpaf_doc.specs.Buffer.Parts.{Part}
-use Rattle.bpaf_doc.specs.Buffer.Writes.{Write, with_writes}
-use Rattle.bpaf_meta.proofs.lemmas.Usage.Written.{with_writes-append}
-use Rattle.bpaf_items.specs.declared.meta_help.entry.HiTy.{HiTy}
+use Rattle.std.specs.Prelude.{if◌then◌else◌, ◌&&◌, ◌++◌, ◌+◌, ◌<◌, ◌∷◌, ◌≡◌, ◌≤◌}
+use Rattle.bpaf_items.proofs.Words.{get_or, ℕ, Bool, true, false, not, List, [], length, map, take, drop, refl, sym, ap, ◌∙◌, subst, append_assoc, add-one, zero, suc, arith, filter, flat_map, count_by, nat_lt, Option, Some, None, Bor, position, range_with_len, take-append_seam, drop-append_seam, map-append, length-append, take-map, drop-map, Part, Write, with_writes, with_writes-append, HiTy, Entry, group_start, group_end, placed_after, is_group_start, is_group_end, is_group_mark, is_adjacent_start, is_adjacent_stop, lacks_help, group_members, outside_groups, both_places, HasNoGroupMark, HasPairedGroups, stays, kept_entries, Texts, groups_writes, heading_writes, list_writes, group_lists, group_len, heading_end, headings_writes, items_of_type, len_through, Takes, title_front, entry_at, entry_of}
 use Rattle.bpaf_items.specs.declared.meta_help.entry.HiTy.TheVariants as ty
-use Rattle.bpaf_items.specs.Listing.ItemList.{Entry, group_start, group_end}
 use Rattle.bpaf_items.specs.declared.meta_help.entry.HelpItem.{HelpItem}
-use Rattle.bpaf_items.specs.Listing.Falls.{placed_after, is_group_start, is_group_end, is_group_mark, is_adjacent_start, is_adjacent_stop, lacks_help, group_members, outside_groups}
-use Rattle.bpaf_items.specs.Listing.Groups.{both_places, HasNoGroupMark, HasPairedGroups, stays, kept_entries}
-use Rattle.bpaf_items.specs.Page.EnvTexts.{Texts}
-use Rattle.bpaf_items.specs.Page.HelpPage.{groups_writes, heading_writes, list_writes}
-use Rattle.bpaf_items.specs.Page.Steps.Groups.{group_lists, group_len, heading_end, headings, len_through, Takes, title_front}
-use Rattle.bpaf_items.specs.View.{entry_at, entry_of}
 use Rattle.bpaf_items.proofs.Listing.Placing.{entry, chosen-append, kept_map}
 use Rattle.bpaf_items.proofs.Listing.Blocks.{count-cons}
 use Rattle.bpaf_items.proofs.Listing.Headings.{headings_agree}
@@ -188,5 +173,5 @@ module _ {B : Type 0} where
 
 -- ---- groups and headings
 
-pub all_writes : (included : Bool) (texts : Texts) (es : List Entry) → group_lists included texts es ++ headings included texts (outside_groups es) ≡ groups_writes included texts es
-all_writes included texts es = grind (arith, append_assoc, headings_agree)
+pub all_writes : (included : Bool) (texts : Texts) (es : List Entry) → group_lists included texts es ++ headings_writes included texts (items_of_type (outside_groups es)) ≡ groups_writes included texts es
+all_writes included texts es = λ i. group_lists included texts es ++ headings_writes included texts (λ k. sym (headings_agree es k) i)

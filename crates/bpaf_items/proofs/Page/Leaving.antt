@@ -1,15 +1,7 @@
 -- What calls that write leave, one after another.
-use Rattle.std.specs.Prelude.{◌≡◌, ℕ, ◌+◌, ◌<◌, length, List, [], ◌∷◌, ◌++◌, flat_map, map, take, Result, Ok, Err, OnOk, OnErr}
-use Rattle.std.specs.Borrow.{Bor}
-use Rattle.std.proofs.Common.{ap, sym, ◌∙◌, append-nil, drop, get_or, arith}
-use Rattle.std.proofs.lemmas.Grind.{flat_map-append, common_steps}
-use Rattle.std.proofs.lemmas.List.{drop_more, map-append, take-append-drop, take_more}
-use Rattle.bpaf_doc.specs.declared.buffer.Style.{Style}
-use Rattle.bpaf_doc.specs.Buffer.Parts.{Part}
-use Rattle.bpaf_doc.specs.Buffer.Writes.{Write, with_text, with_writes}
-use Rattle.bpaf_meta.proofs.lemmas.Usage.Written.{with_writes-append, with_text_twice, Grows-then, Grows-call}
+use Rattle.std.specs.Prelude.{◌++◌, ◌+◌, ◌<◌, ◌∷◌, ◌≡◌}
+use Rattle.bpaf_items.proofs.Words.{ℕ, length, List, [], flat_map, map, take, Result, Ok, Err, OnOk, OnErr, Bor, ap, sym, ◌∙◌, append-nil, drop, get_or, arith, flat_map-append, common_steps, drop_more, map-append, take-append-drop, take_more, Style, Part, Write, with_text, with_writes, with_writes-append, with_text_twice, Grows-then, Grows-call, Leaves, joined, piece_writes, pieces_write}
 use Rattle.bpaf_items.specs.declared.meta_help.pieces.Piece.{Piece}
-use Rattle.bpaf_items.specs.Page.Steps.Pieces.{Leaves, joined, piece_writes, pieces_write}
 
 pub map_next : {X Y : Type 0} (f : X → Y) (xs : List X) (i : ℕ) (x : X) → i < length xs → x ≡ get_or xs i x → map f (take (i + 1) xs) ≡ map f (take i xs) ++ f x ∷ []
 map_next f xs i x within is = ap (map f) (take_more xs i x within) ∙ map-append f (take i xs) (get_or xs i x ∷ []) ∙ ap (λ y. map f (take i xs) ++ f y ∷ []) (sym is)

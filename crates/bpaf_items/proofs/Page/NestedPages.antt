@@ -1,31 +1,14 @@
 -- Pages of well-nested texts are well nested.
-use Rattle.std.proofs.Common.{◌≡◌, ℕ, Bool, true, false, ◌⊎◌, inl, inr, List, [], ◌∷◌, ◌++◌, map, refl, sym, ap, ◌∙◌, subst, append_assoc, append-nil, arith}
-use Rattle.std.specs.Prelude.{if◌then◌else◌, filter, flat_map, count_by, All, codes, Option, Some, None}
-use Rattle.std.proofs.lemmas.Bool.{or_parts}
-use Rattle.std.specs.List.{list_any, range_with_len}
-use Rattle.std.proofs.lemmas.Grind.{flat_map-append, common_steps}
-use Rattle.std.proofs.lemmas.List.Elements.{All-nil, All-cons, All-append, All-push, All-head, All-tail}
-use Rattle.bpaf_doc.specs.declared.buffer.Style.{Style}
+use Rattle.std.specs.Prelude.{if◌then◌else◌, ◌++◌, ◌∷◌, ◌≡◌, ◌⊎◌}
+use Rattle.bpaf_items.proofs.Words.{ℕ, Bool, true, false, inl, inr, List, [], map, refl, sym, ap, ◌∙◌, subst, append_assoc, append-nil, arith, filter, flat_map, count_by, All, codes, Option, Some, None, or_parts, list_any, range_with_len, flat_map-append, common_steps, All-nil, All-cons, All-append, All-push, All-head, All-tail, Style, Part, IsWellNested, nothing, Write, text, with_write, with_writes, document_of, doc_writes, em_doc_writes, path_writes, inside, Name, both, Tree, and_of, or_of, optional, required, adjacent, item, many, subsection, suffix, skip, custom_usage, strict, Trees, no_trees, tree, Leaf, any, positional, command, flag, argument, Head, head, metavar_writes, usage_writes, with_writes-append, HiTy, Entry, listed, note, group_start, group_end, adjacent_start, adjacent_stop, front_type, item_entries, adjacent_entries, group_entries, noted_entries, entries_with_type, entries_of, entries_of_parts, item_list, IsItemList, Placed, placed_after, is_group_mark, is_group_start, destination, is_heading, is_shown, shown_entries, group_members, heading_members, Texts, term, help_writes, names_writes, command_writes, env_body, env_term, env_writes, flag_env_text, argument_env_text, listed_writes, entry_writes, list_writes, heading_writes, groups_writes, doc_within, usage_line_writes, help_page_writes, IsNestedText, HasNestedText, HasNestedTexts, EachHasNestedTexts, HasNestedHead, HasNestedEntry, KeepsNested, ItemListsAreNested, GroupsAreNested, HelpPagesAreNested}
 use Rattle.bpaf_doc.specs.declared.buffer.Style.TheVariants as style
 use Rattle.bpaf_doc.specs.declared.buffer.Block.{Block}
 use Rattle.bpaf_doc.specs.declared.buffer.Block.TheVariants as block
-use Rattle.bpaf_doc.specs.Buffer.Parts.{Part, IsWellNested, nothing}
-use Rattle.bpaf_doc.specs.Buffer.Writes.{Write, text, with_write, with_writes, document_of, doc_writes, em_doc_writes, path_writes, inside}
 use Rattle.bpaf_doc.proofs.lemmas.Buffer.Nesting.{IsWellNested-with_text, IsWellNested-in_block, IsWellNested-inside, IsWellNested-em_doc, IsWellNested-path}
-use Rattle.bpaf_meta.specs.Content.{Name, both, Tree, and_of, or_of, optional, required, adjacent, item, many, subsection, suffix, skip, custom_usage, strict, Trees, no_trees, tree, Leaf, any, positional, command, flag, argument, Head, head}
 use Rattle.bpaf_meta.specs.Usage.Nested.{HasNestedDoc, HasNestedDocs, EachHasNestedDocs}
-use Rattle.bpaf_meta.specs.Usage.Writes.{metavar_writes, usage_writes}
 use Rattle.bpaf_meta.specs.Meta.Normal.{normalized}
-use Rattle.bpaf_meta.proofs.lemmas.Usage.Written.{with_writes-append}
 use Rattle.bpaf_meta.proofs.lemmas.Usage.Nested.{normalized_nested, metavar_keeps, form_keeps}
-use Rattle.bpaf_items.specs.declared.meta_help.entry.HiTy.{HiTy}
 use Rattle.bpaf_items.specs.declared.meta_help.entry.HiTy.TheVariants as ty
-use Rattle.bpaf_items.specs.Listing.ItemList.{Entry, listed, note, group_start, group_end, adjacent_start, adjacent_stop, front_type, item_entries, adjacent_entries, group_entries, noted_entries, entries_with_type, entries_of, entries_of_parts, item_list, IsItemList}
-use Rattle.bpaf_items.specs.Listing.Falls.{Placed, placed_after, is_group_mark, is_group_start, destination, is_heading, is_shown, shown_entries, group_members, heading_members}
-use Rattle.bpaf_items.specs.Page.EnvTexts.{Texts}
-use Rattle.bpaf_items.specs.Page.EntryWrites.{term, help_writes, names_writes, command_writes, env_body, env_term, env_writes, flag_env_text, argument_env_text, listed_writes, entry_writes}
-use Rattle.bpaf_items.specs.Page.HelpPage.{list_writes, heading_writes, groups_writes, doc_within, usage_line_writes, help_page_writes}
-use Rattle.bpaf_items.specs.Page.NestedTexts.{IsNestedText, HasNestedText, HasNestedTexts, EachHasNestedTexts, HasNestedHead, HasNestedEntry, KeepsNested, ItemListsAreNested, GroupsAreNested, HelpPagesAreNested}
 use Rattle.bpaf_items.proofs.Listing.Placing.{entry, chosen-append}
 use Rattle.bpaf_items.proofs.Listing.Blocks.{item_list_blocks}
 use Rattle.bpaf_items.proofs.Listing.Headings.{group_no_heading}
@@ -240,11 +223,12 @@ heading_keeps included texts title es k h = titled_keeps included texts title (h
 
 groups_keep : (included : Bool) (texts : Texts) (es : List Entry) → IsItemList es → Nested es → Keeps (groups_writes included texts es)
 groups_keep included texts es is h =
-    both_keep (both_keep (both_keep
+    both_keep
     (each_keeps (λ n. Unit {0}) (λ n. list_writes included texts (group_members es n)) (λ n one. group_keeps included texts es is h n) (range_with_len 1 (count_by is_group_start es)) (λ i n l. tt))
-    (heading_keeps included texts (codes "Available positional items:") es ty.Positional h))
+    (both_keep (both_keep
+    (heading_keeps included texts (codes "Available positional items:") es ty.Positional h)
     (heading_keeps included texts (codes "Available options:") es ty.Flag h))
-    (heading_keeps included texts (codes "Available commands:") es ty.Command h)
+    (heading_keeps included texts (codes "Available commands:") es ty.Command h))
 
 pub groups_are_nested : GroupsAreNested
 groups_are_nested included texts es is h = (groups_keep included texts es is h).nested

@@ -1,17 +1,8 @@
 -- The parts of a help page, one after another.
-use Rattle.std.proofs.Common.{rules, ◌≡◌, ℕ, Bool, List, ◌++◌, ap, ◌∙◌, refl, subst, Result, arith, OnOk, OnErr}
-use Rattle.bpaf_doc.specs.Buffer.Parts.{Part, IsWellNested}
-use Rattle.bpaf_doc.specs.Buffer.Writes.{Write, inside, with_writes}
+use Rattle.std.specs.Prelude.{◌++◌, ◌≡◌}
+use Rattle.bpaf_items.proofs.Words.{rules, ℕ, Bool, List, ap, ◌∙◌, refl, subst, Result, arith, OnOk, OnErr, Part, IsWellNested, Write, inside, with_writes, Tree, Head, head, head_of, Entry, item_list, Texts, doc_within, groups_writes, help_page_writes, usage_line_writes, KeepsNested, footer_writes, front_writes, Leaves}
 use Rattle.bpaf_doc.specs.declared.buffer.Block.TheVariants as block
-use Rattle.bpaf_meta.specs.Content.{Tree, Head, head}
-use Rattle.bpaf_meta.specs.View.{head_of}
 use Rattle.bpaf_meta.specs.declared.meta_help.Info.{Info, the_lemmas}
-use Rattle.bpaf_items.specs.Listing.ItemList.{Entry, item_list}
-use Rattle.bpaf_items.specs.Page.EnvTexts.{Texts}
-use Rattle.bpaf_items.specs.Page.HelpPage.{doc_within, groups_writes, help_page_writes, usage_line_writes}
-use Rattle.bpaf_items.specs.Page.NestedTexts.{KeepsNested}
-use Rattle.bpaf_items.specs.Page.Steps.Pages.{footer_writes, front_writes}
-use Rattle.bpaf_items.specs.Page.Steps.Pieces.{Leaves}
 use Rattle.bpaf_items.proofs.Page.Leaving.{leaves_third}
 
 pub footer_is : {A : Type 0} (i : Info A) → doc_within block.Block i.footer ≡ footer_writes (head_of i)

@@ -1,41 +1,19 @@
 -- What is remembered of the entries so far, after one more.
-use Rattle.std.proofs.Common.{◌≡◌, ℕ, Bool, true, false, not, ◌||◌, ◌&&◌, ◌==◌, List, [], ◌∷◌, ◌++◌, Option, Some, None, refl, sym, ap, ◌∙◌, append-nil, subst, arith, length, suc, ◌≤◌}
-use Rattle.std.specs.Prelude.{flat_map, fold, nat_eq, Result, Ok, Err, IfOk}
-use Rattle.std.specs.List.{AllByRecursion, IsDistinct, dedup, dedup_from, list_any, last_or}
+use Rattle.std.specs.Prelude.{◌&&◌, ◌++◌, ◌==◌, ◌||◌, ◌∷◌, ◌≡◌, ◌≤◌}
+use Rattle.bpaf_items.proofs.Words.{ℕ, Bool, true, false, not, List, [], Option, Some, None, refl, sym, ap, ◌∙◌, append-nil, subst, arith, length, suc, flat_map, fold, nat_eq, Result, Ok, Err, IfOk, AllByRecursion, IsDistinct, dedup, dedup_from, list_any, last_or, is_eq, match_ordering, nat_cmp, ordering_then, is_at, or-false, or-true, eq-eqb, or_parts, flat_map-append, common_steps, list_any-append, Part, with_writes, Leaf, with_writes-append, Entry, listed, Key, key_cmp, key_of, entry_key, same_key, is_mark, has_key_of, is_mark_or_new, is_shown, Texts, list_writes, AreApart, AreHashed, Hashed, IsHashed, PutsKey, Remembers, entry_hash, has_key, is_last_shown, key_hash, shown_writes, key_in}
 use Rattle.std.specs.List.Sorted.{IsPermutation, IsSorted, IsStrictlySortedBy}
 use Rattle.std.specs.Hash.FoldHasher as folding
 use Rattle.std.specs.declared.cmp.Ordering.{Ordering}
 use Rattle.std.specs.declared.cmp.Ordering.TheVariants.{Less, Equal, Greater}
-use Rattle.std.specs.Ordering.{is_eq, match_ordering, nat_cmp, ordering_then}
 use Rattle.std.specs.Cmp.{both_tied, nat_cmp_total, nat_eq_equiv, unsigned_ties}
-use Rattle.std.specs.BTreeMap.{is_at}
 use Rattle.std.specs.BTreeSet.{insert_key}
-use Rattle.std.proofs.Math.Bool.{or-false, or-true}
-use Rattle.std.proofs.lemmas.Bool.{eq-eqb, or_parts}
-use Rattle.std.proofs.lemmas.Grind.{flat_map-append, common_steps}
-use Rattle.std.proofs.lemmas.List.Folds.{list_any-append}
 use Rattle.std.proofs.lemmas.List.Kept.{IsStrictlySortedBy-dedup}
 use Rattle.std.proofs.lemmas.List.Sorted.{IsPermutation-sym}
 use Rattle.std.proofs.lemmas.Map.Keys.{IsDistinct-IsPermutation, IsDistinct-from_sorted, IsDistinct-head, IsDistinct-tail}
-use Rattle.bpaf_doc.specs.Buffer.Parts.{Part}
-use Rattle.bpaf_doc.specs.Buffer.Writes.{with_writes}
-use Rattle.bpaf_meta.specs.Content.{Leaf}
-use Rattle.bpaf_meta.proofs.lemmas.Usage.Written.{with_writes-append}
-use Rattle.bpaf_items.specs.Listing.ItemList.{Entry, listed}
-use Rattle.bpaf_items.specs.Listing.Keys.{Key, key_cmp, key_of, entry_key, same_key}
-use Rattle.bpaf_items.specs.Steps.KeyOrder.{keys_equiv, keys_tied}
-use Rattle.bpaf_items.specs.Steps.KeyFed.{key_fed}
-use Rattle.bpaf_items.specs.Listing.Falls.{is_mark, has_key_of, is_mark_or_new, is_shown}
-use Rattle.bpaf_items.specs.Page.EnvTexts.{Texts}
-use Rattle.bpaf_items.specs.Page.HelpPage.{list_writes}
-use Rattle.bpaf_items.specs.Page.Steps.Repeats.{AreApart, AreHashed, Hashed, IsHashed, PutsKey, Remembers, entry_hash, has_key, is_last_shown, key_hash, shown_writes}
-use Rattle.bpaf_items.specs.View.{key_in}
+use Rattle.bpaf_items.specs.Steps.KeyOrder.{keys_equiv, keys_tied, key_fed}
 use Rattle.bpaf_items.proofs.Listing.Placing.{placed-push}
+use Rattle.bpaf_items.proofs.Listing.Pushes.{last_or-push}
 use Rattle.bpaf_items.proofs.Listing.Shown.{shown-push}
-
-last_or-push : {X : Type 0} (o : Option X) (xs : List X) (x : X) → last_or o (xs ++ x ∷ []) ≡ Some x
-last_or-push o [] x = refl
-last_or-push o (y ∷ xs) x = last_or-push (Some y) xs x
 
 last_shown-push : (before : List Entry) (e : Entry) → is_last_shown (before ++ e ∷ []) ≡ is_mark_or_new (before, e)
 last_shown-push before e = grind (arith, placed-push, last_or-push)

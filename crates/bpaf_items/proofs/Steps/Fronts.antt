@@ -1,13 +1,6 @@
 -- A list that grows begins with what it was.
-use Rattle.std.proofs.Common.{◌≡◌, List, [], ◌++◌, ap, sym, ◌∙◌, append_assoc, append-nil, arith, flat_map, Option}
-use Rattle.std.specs.Prelude.{if◌then◌else◌, ◌∷◌, None}
-use Rattle.std.specs.Option.{option_or}
-use Rattle.std.proofs.lemmas.Grind.{flat_map-append}
-use Rattle.bpaf_meta.specs.Content.{Tree, Leaf}
-use Rattle.bpaf_items.specs.declared.meta_help.entry.HiTy.{HiTy}
-use Rattle.bpaf_items.specs.Listing.ItemList.{Entry, entry_of_item, item_entries, item_list, IsItemList}
-use Rattle.bpaf_items.specs.Steps.Given.{is_listed}
-use Rattle.bpaf_items.specs.Steps.Growth.{IsFront}
+use Rattle.std.specs.Prelude.{if◌then◌else◌, ◌++◌, ◌∷◌, ◌≡◌}
+use Rattle.bpaf_items.proofs.Words.{List, [], ap, sym, ◌∙◌, append_assoc, append-nil, arith, flat_map, Option, None, option_or, flat_map-append, Tree, Leaf, HiTy, Entry, entry_of_item, item_entries, item_list, IsItemList, is_listed, IsFront}
 
 pub front_whole : {X : Type 0} (xs : List X) → IsFront xs xs
 front_whole xs = ([], sym (append-nil xs))

@@ -1,14 +1,8 @@
 -- Going through a list and keeping the block that was started last gives the entries of a heading.
-use Rattle.std.proofs.Common.{◌≡◌, Bool, List, [], ◌∷◌, ◌++◌, map, refl, ap, arith}
-use Rattle.std.specs.Prelude.{if◌then◌else◌, filter, cond, Option, Some, None, ◌+◌, not}
-use Rattle.std.specs.List.{position, prefix_len}
-use Rattle.std.proofs.lemmas.List.{length-map}
-use Rattle.bpaf_items.specs.declared.meta_help.entry.HiTy.{HiTy}
+use Rattle.std.specs.Prelude.{if◌then◌else◌, ◌++◌, ◌+◌, ◌∷◌, ◌≡◌}
+use Rattle.bpaf_items.proofs.Words.{Bool, List, [], map, refl, ap, arith, filter, cond, Option, Some, None, not, position, prefix_len, length-map, HiTy, Entry, Placed, same_type, type_of, is_mark, last_that, placed_after, is_given_after, is_given, items_of_type, state_after, is_given_within, is_given_in, given_from}
 use Rattle.bpaf_items.specs.declared.meta_help.given.State.{State}
 use Rattle.bpaf_items.specs.declared.meta_help.given.State.TheVariants.{Outside}
-use Rattle.bpaf_items.specs.Listing.ItemList.{Entry}
-use Rattle.bpaf_items.specs.Listing.Falls.{Placed, same_type, type_of, is_mark, last_that, placed_after, is_given_after, is_given, items_of_type}
-use Rattle.bpaf_items.specs.Steps.Given.{state_after, is_given_within, is_given_in, given_from}
 use Rattle.bpaf_items.proofs.Listing.Pushes.{last_that-push}
 
 -- the block of a last mark
@@ -25,17 +19,17 @@ within_alike m k e = grind arith
 given_alike : (m : Option Entry) (k : HiTy) (e : Entry) → is_given_in (state_of m) k e ≡ (if is_mark e then same_type (type_of e) k else is_given_after m k e)
 given_alike m k e = ap (λ b. if is_mark e then same_type (type_of e) k else b) (within_alike m k e)
 
-module _ (k : HiTy) where
-  given_step : (b : Bool) (before : List Entry) (e : Entry) (rest : List Entry) (ps : List Placed) → rest ≡ map (λ p. p.1) ps
-      → (if b then e ∷ rest else rest) ≡ map (λ p. p.1) (if b then (before, e) ∷ ps else ps)
-  given_step b before e rest ps h5 = grind arith
+module _ {X : Type 0} (f : X → Entry) (k : HiTy) where
+  given_step : (b : Bool) (before : List Entry) (x : X) (rest : List X) (ps : List Placed) → map f rest ≡ map (λ p. p.1) ps
+      → map f (if b then x ∷ rest else rest) ≡ map (λ p. p.1) (if b then (before, f x) ∷ ps else ps)
+  given_step b before x rest ps h5 = grind arith
 
-  given_after : (before es : List Entry) → given_from (state_of (last_that is_mark before)) k es ≡ map (λ p. p.1) (filter (is_given k) (placed_after before es))
+  given_after : (before : List Entry) (xs : List X) → map f (given_from f (state_of (last_that is_mark before)) k xs) ≡ map (λ p. p.1) (filter (is_given k) (placed_after before (map f xs)))
   given_after before [] = refl
-  given_after before (e ∷ es) = grind (arith, given_after (before ++ e ∷ []) es, state_push, last_that-push, given_alike, given_step)
+  given_after before (x ∷ xs) = grind (arith, given_after (before ++ f x ∷ []) xs, state_push, last_that-push, given_alike, given_step)
 
-pub given_of_type : (k : HiTy) (es : List Entry) → given_from Outside k es ≡ items_of_type es k
-given_of_type k es = given_after k [] es
+  pub given_of_type : (xs : List X) → map f (given_from f Outside k xs) ≡ items_of_type (map f xs) k
+  given_of_type xs = given_after [] xs
 
 -- the first place that passes, of a list seen through a function
 prefix_len-map : {X Y : Type 0} (p : Y → Bool) (f : X → Y) (xs : List X) → prefix_len (λ x. p (f x)) xs ≡ prefix_len p (map f xs)

@@ -1,16 +1,7 @@
 -- A block's first mark, which has its place before its type is known; and a tree without a front type, which lists
 -- nothing.
-use Rattle.std.proofs.Common.{◌≡◌, ℕ, suc, ◌<◌, Bool, true, false, List, [], ◌∷◌, ◌++◌, map, take, drop, length, refl, sym, ap, ◌∙◌, append_assoc, append-nil, arith}
-use Rattle.std.specs.Prelude.{slice_set, Option, None}
-use Rattle.std.specs.List.{swap_remove}
-use Rattle.std.specs.Option.{option_or}
-use Rattle.std.proofs.Math.Seq.{take-append_seam, set-append_seam, get_or-append_seam}
-use Rattle.std.proofs.lemmas.List.{append_cancel_left, length-set, set-append_left, take-append-drop, map-append, length-append}
-use Rattle.bpaf_doc.specs.Buffer.Parts.{Part}
-use Rattle.bpaf_meta.specs.Content.{Tree, and_of, or_of, optional, required, adjacent, item, many, subsection, suffix, skip, custom_usage, strict, Trees, no_trees, tree}
-use Rattle.bpaf_items.specs.declared.meta_help.entry.HiTy.{HiTy}
-use Rattle.bpaf_items.specs.Listing.ItemList.{Entry, front_type, first_front_type, adjacent_entries, group_entries, noted_entries, entries_with_type, entries_of, entries_of_parts}
-use Rattle.bpaf_items.specs.Steps.Growth.{IsFront}
+use Rattle.std.specs.Prelude.{◌++◌, ◌<◌, ◌∷◌, ◌≡◌}
+use Rattle.bpaf_items.proofs.Words.{ℕ, suc, Bool, true, false, List, [], map, take, drop, length, refl, sym, ap, ◌∙◌, append_assoc, append-nil, arith, slice_set, Option, None, swap_remove, option_or, take-append_seam, set-append_seam, get_or-append_seam, append_cancel_left, length-set, set-append_left, take-append-drop, map-append, length-append, Part, Tree, and_of, or_of, optional, required, adjacent, item, many, subsection, suffix, skip, custom_usage, strict, Trees, no_trees, tree, HiTy, Entry, front_type, first_front_type, adjacent_entries, group_entries, noted_entries, entries_with_type, entries_of, entries_of_parts, IsFront}
 use Rattle.bpaf_items.proofs.Steps.Fronts.{none_first, none_second, front_then}
 
 mutual

@@ -1,11 +1,8 @@
 -- Where an entry of an item list falls, and which entries are shown. Both depend on the entries before it.
-use Rattle.std.specs.Prelude.{ℕ, Bool, true, false, not, ◌&&◌, ◌||◌, if◌then◌else◌, List, [], ◌∷◌, ◌++◌, map, filter, count_by, nat_lt, ◌==◌, Option, Some, None, is_some}
-use Rattle.std.specs.Option.{option_map_or}
-use Rattle.std.specs.List.{list_any, last_or, after_last, range_with_len}
+use Rattle.std.specs.Prelude.{if◌then◌else◌, ◌&&◌, ◌++◌, ◌==◌, ◌||◌, ◌∷◌}
+use Rattle.bpaf_items.specs.Words.{ℕ, Bool, true, false, not, List, [], map, filter, count_by, nat_lt, Option, Some, None, is_some, option_map_or, list_any, last_or, after_last, range_with_len, Part, Leaf, any, positional, command, flag, argument}
 use Rattle.bpaf_items.specs.declared.meta_help.entry.HiTy.{HiTy}
 use Rattle.bpaf_items.specs.contracts.meta_help.entry.HiTyPartialEq.TheImpl as type_eq
-use Rattle.bpaf_doc.specs.Buffer.Parts.{Part}
-use Rattle.bpaf_meta.specs.Content.{Leaf, any, positional, command, flag, argument}
 use Rattle.bpaf_items.specs.Listing.ItemList.{Entry, listed, note, group_start, group_end, adjacent_start, adjacent_stop, type_of_item}
 use Rattle.bpaf_items.specs.Listing.Keys.{key_of, same_key}
 
@@ -148,9 +145,13 @@ is_mark_or_new (before, listed l) = not (list_any (has_key_of l) before)
 is_mark_or_new (before, note d k) = false
 is_mark_or_new (before, e) = true
 
+-- the last of some entries is a mark or an item whose key is new
+abbrev pub is_last_shown : List Entry → Bool
+is_last_shown before = option_map_or is_mark_or_new (last_or None (placed before)) false
+
 -- shown once: a mark; an item whose key is new; a note directly after a mark or a shown item
 abbrev pub is_shown : Placed → Bool
-is_shown (before, note d k) = option_map_or is_mark_or_new (last_or None (placed before)) false
+is_shown (before, note d k) = is_last_shown before
 is_shown p = is_mark_or_new p
 
 -- the places of one group or heading that are shown, and the entries there

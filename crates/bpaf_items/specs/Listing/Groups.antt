@@ -1,7 +1,6 @@
 -- The groups of a list, taken out one after another.
-use Rattle.std.specs.Prelude.{◌≡◌, ℕ, ◌+◌, Bool, false, not, ◌&&◌, ◌⊎◌, List, [], ◌∷◌, ◌++◌, length, map, filter, count_by, Option, Some, None}
-use Rattle.std.specs.List.{list_any, position}
-use Rattle.bpaf_doc.specs.Buffer.Parts.{Part}
+use Rattle.std.specs.Prelude.{◌&&◌, ◌++◌, ◌+◌, ◌∷◌, ◌≡◌, ◌⊎◌}
+use Rattle.bpaf_items.specs.Words.{ℕ, Bool, false, not, List, [], length, map, filter, count_by, Option, Some, None, list_any, position, Part}
 use Rattle.bpaf_items.specs.declared.meta_help.entry.HiTy.{HiTy}
 use Rattle.bpaf_items.specs.Listing.ItemList.{Entry, group_start, group_end, IsItemList}
 use Rattle.bpaf_items.specs.Listing.Falls.{Placed, placed, is_group_start, is_group_end, is_group_mark, lacks_help, is_adjacent_in_group, group_members, outside_groups}

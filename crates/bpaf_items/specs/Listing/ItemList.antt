@@ -1,10 +1,8 @@
 -- The item list of a tree: its items in order, between the marks of groups and of adjacent blocks.
-use Rattle.std.specs.Prelude.{◌≡◌, Bool, true, false, List, [], ◌∷◌, ◌++◌, flat_map, Option, Some, None}
-use Rattle.std.specs.Option.{option_or}
-use Rattle.bpaf_doc.specs.Buffer.Parts.{Part}
+use Rattle.std.specs.Prelude.{◌++◌, ◌∷◌, ◌≡◌}
+use Rattle.bpaf_items.specs.Words.{Bool, true, false, List, [], flat_map, Option, Some, None, option_or, Part, Tree, and_of, or_of, optional, required, adjacent, item, many, subsection, suffix, skip, custom_usage, strict, Trees, no_trees, tree, Leaf, any, positional, command, flag, argument}
 use Rattle.bpaf_items.specs.declared.meta_help.entry.HiTy.{HiTy}
 use Rattle.bpaf_items.specs.declared.meta_help.entry.HiTy.TheVariants as ty
-use Rattle.bpaf_meta.specs.Content.{Tree, and_of, or_of, optional, required, adjacent, item, many, subsection, suffix, skip, custom_usage, strict, Trees, no_trees, tree, Leaf, any, positional, command, flag, argument}
 
 -- the content of a `HelpItem`: an item, the start or the end of a group or of an adjacent block, or a note
 -- (`DecorSuffix`)
@@ -16,14 +14,12 @@ pub data Entry : Type 0 where
   adjacent_start : Tree → HiTy → Entry
   adjacent_stop : HiTy → Entry
 
--- the heading of an item
+-- the heading of an item: an Any that may stand anywhere is listed with the flags
 abbrev pub type_of_item : Leaf → HiTy
-type_of_item (any m true h) = ty.Flag
 type_of_item (any m false h) = ty.Positional
 type_of_item (positional m h) = ty.Positional
 type_of_item (command n c h t i) = ty.Command
-type_of_item (flag n s e h) = ty.Flag
-type_of_item (argument n s m e h) = ty.Flag
+type_of_item l = ty.Flag
 
 -- the front type: an item's type; for an And or an Or the first that a part has; none for Skip; else that of the inner
 -- tree
@@ -48,11 +44,9 @@ abbrev mutual
 
 -- an item as a list shows it: its list of short names is left out
 abbrev pub entry_of_item : Leaf → Entry
-entry_of_item (any m a h) = listed (any m a h)
-entry_of_item (positional m h) = listed (positional m h)
-entry_of_item (command n c h t i) = listed (command n c h t i)
 entry_of_item (flag n s e h) = listed (flag n [] e h)
 entry_of_item (argument n s m e h) = listed (argument n [] m e h)
+entry_of_item l = listed l
 
 -- a positional without help is not listed
 abbrev pub item_entries : Leaf → List Entry

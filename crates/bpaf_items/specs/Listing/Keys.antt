@@ -1,13 +1,7 @@
--- How a list tells two items apart, and which of two keys comes first.
-use Rattle.std.specs.Prelude.{◌≡◌, ℕ, Bool, List, [], Option, Some, None, IsTrue, ◌↔◌, nat_eq}
-use Rattle.std.specs.Option.{option_eq, option_cmp}
-use Rattle.std.specs.Ordering.{nat_cmp, on, then_cmp, eq_of_both, eq_by_cmp}
-use Rattle.std.specs.Cmp.Lexicographic.{slice_cmp}
-use Rattle.std.specs.Cmp.{IsTotalOrder}
-use Rattle.std.specs.declared.cmp.Ordering.{Ordering}
-use Rattle.bpaf_doc.specs.Buffer.Parts.{Part}
-use Rattle.bpaf_doc.specs.Buffer.Equality.{same_text, same_document, document_cmp}
-use Rattle.bpaf_meta.specs.Content.{Name, short, long, both, Leaf, any, positional, command, flag, argument}
+-- How a list tells two items apart, which of two keys comes first, and what a key feeds a hasher.
+use Rattle.std.specs.Prelude.{◌++◌, ◌↔◌, ◌∷◌, ◌≡◌}
+use Rattle.bpaf_items.specs.Words.{ℕ, Bool, List, [], flat_map, Option, Some, None, IsTrue, nat_eq, option_eq, option_cmp, nat_cmp, on, then_cmp, eq_of_both, eq_by_cmp, slice_cmp, IsTotalOrder, Ordering, Part, Text, Start, End, same_text, same_document, document_cmp, Name, short, long, both, Leaf, any, positional, command, flag, argument}
+use Rattle.std.specs.Hash as fed
 use Rattle.bpaf_items.specs.Listing.ItemList.{Entry, listed}
 
 -- the four classes of keys; a positional and a command share one
@@ -57,22 +51,18 @@ key_class (argument_key n m h) = 4
 -- the metavar of an Any
 abbrev pub key_document : Key → List Part
 key_document (any_key m h) = m
-key_document (word_key m h) = []
-key_document (flag_key n h) = []
-key_document (argument_key n m h) = []
+key_document k = []
 
 abbrev pub key_name : Key → Option Name
-key_name (any_key m h) = None
-key_name (word_key m h) = None
 key_name (flag_key n h) = Some n
 key_name (argument_key n m h) = Some n
+key_name k = None
 
 -- the metavar of a positional or an argument, or the name of a command
 abbrev pub key_text : Key → List ℕ
-key_text (any_key m h) = []
 key_text (word_key m h) = m
-key_text (flag_key n h) = []
 key_text (argument_key n m h) = m
+key_text k = []
 
 abbrev pub key_help : Key → Option (List Part)
 key_help (any_key m h) = h
@@ -113,6 +103,32 @@ key_cmp = then_cmp (on key_class nat_cmp)
     (then_cmp (on key_document document_cmp)
     (then_cmp (on key_name (option_cmp name_cmp))
     (then_cmp (on key_text (slice_cmp nat_cmp)) (on key_help help_cmp))))
+
+-- ---- what a key feeds a hasher: its texts, and of its documents the texts without the marks
+
+abbrev pub part_input : Part → List (List ℕ)
+part_input (Text bytes s) = bytes ∷ []
+part_input (Start b) = []
+part_input (End b) = []
+
+abbrev pub document_input : List Part → List (List ℕ)
+document_input = flat_map part_input
+
+abbrev pub help_input : Option (List Part) → List (List ℕ)
+help_input None = []
+help_input (Some d) = document_input d
+
+-- the long name where there is one
+abbrev pub name_input : Name → List (List ℕ)
+name_input (short c) = fed.char c
+name_input (long n) = n ∷ []
+name_input (both c n) = n ∷ []
+
+abbrev pub key_input : Key → List (List ℕ)
+key_input (any_key m h) = document_input m ++ help_input h
+key_input (word_key m h) = (m ∷ []) ++ help_input h
+key_input (flag_key n h) = name_input n ++ help_input h
+key_input (argument_key n m h) = name_input n ++ (m ∷ []) ++ help_input h
 
 -- ---- laws
 

@@ -1,7 +1,7 @@
 -- What holds of item lists: where their entries fall, and what is shown of them.
-use Rattle.std.specs.Prelude.{◌≡◌, ◌≢◌, ℕ, ◌≤◌, ◌⊎◌, ◌↔◌, IsTrue, not, List, filter, take, count_by, All, Contains}
+use Rattle.std.specs.Prelude.{◌↔◌, ◌≡◌, ◌≢◌, ◌≤◌, ◌⊎◌}
+use Rattle.bpaf_items.specs.Words.{ℕ, IsTrue, not, List, filter, take, count_by, All, Contains, Leaf}
 use Rattle.bpaf_items.specs.declared.meta_help.entry.HiTy.{HiTy}
-use Rattle.bpaf_meta.specs.Content.{Leaf}
 use Rattle.bpaf_items.specs.Listing.ItemList.{Entry, listed, IsItemList}
 use Rattle.bpaf_items.specs.Listing.Falls.{same_type, Placed, placed, is_adjacent_start, is_adjacent_stop, lacks_help, destination, group, nowhere, group_numbers, outside_groups, heading_members, items_of_type, has_key_of, shown_places, shown_entries}
 

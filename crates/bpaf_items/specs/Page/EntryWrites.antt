@@ -1,12 +1,9 @@
 -- What each entry of a list writes.
-use Rattle.std.specs.Prelude.{ℕ, Bool, true, false, List, [], ◌∷◌, ◌++◌, Option, Some, None, codes, encode_utf8}
+use Rattle.std.specs.Prelude.{◌++◌, ◌∷◌}
+use Rattle.bpaf_items.specs.Words.{ℕ, Bool, true, false, List, [], Option, Some, None, codes, encode_utf8, Part, Write, start, end, plain, literal, inside, doc_writes, em_doc_writes, Name, short, long, both, Leaf, any, positional, command, flag, argument, metavar_writes, usage_writes}
 use Rattle.bpaf_doc.specs.declared.buffer.Block.TheVariants as block
-use Rattle.bpaf_doc.specs.Buffer.Parts.{Part}
-use Rattle.bpaf_doc.specs.Buffer.Writes.{Write, start, end, plain, literal, inside, doc_writes, em_doc_writes}
-use Rattle.bpaf_meta.specs.Content.{Name, short, long, both, Leaf, any, positional, command, flag, argument}
 use Rattle.bpaf_items.specs.Listing.ItemList.{Entry, listed, note, group_start, group_end, adjacent_start, adjacent_stop}
 use Rattle.bpaf_meta.specs.Names.{short_text, long_text}
-use Rattle.bpaf_meta.specs.Usage.Writes.{metavar_writes, usage_writes}
 use Rattle.bpaf_items.specs.Page.EnvTexts.{Texts}
 
 -- T{..} and B{..}

@@ -1,7 +1,7 @@
 -- A map from the names of environment variables to the texts that a page shows for them.
-use Rattle.std.specs.Prelude.{◌≡◌, ◌≢◌, ℕ, List, Option, Some, None, if◌then◌else◌}
+use Rattle.std.specs.Prelude.{if◌then◌else◌, ◌≡◌, ◌≢◌}
+use Rattle.bpaf_items.specs.Words.{ℕ, List, Option, Some, None, same_text}
 use Rattle.std.specs.Map.{lookup}
-use Rattle.bpaf_doc.specs.Buffer.Equality.{same_text}
 
 -- the text for a name, if the map has one
 abbrev pub Texts : Type 0

@@ -1,11 +1,9 @@
 -- The entries of a list under their groups and headings, and the help page.
-use Rattle.std.specs.Prelude.{ℕ, Bool, true, List, [], ◌∷◌, ◌++◌, flat_map, Option, Some, None, codes}
+use Rattle.std.specs.Prelude.{◌++◌, ◌∷◌}
+use Rattle.bpaf_items.specs.Words.{ℕ, Bool, true, List, [], flat_map, Option, Some, None, codes, Part, Write, plain, emphasis, inside, doc_writes, path_writes, Tree, Head, head, usage_writes}
 use Rattle.bpaf_doc.specs.declared.buffer.Block.{Block}
 use Rattle.bpaf_doc.specs.declared.buffer.Block.TheVariants as block
-use Rattle.bpaf_doc.specs.Buffer.Parts.{Part}
-use Rattle.bpaf_doc.specs.Buffer.Writes.{Write, plain, emphasis, inside, doc_writes, path_writes}
-use Rattle.bpaf_meta.specs.Content.{Tree, Head, head}
-use Rattle.bpaf_meta.specs.Usage.Writes.{usage_writes}
+use Rattle.bpaf_items.specs.declared.meta_help.entry.HiTy.{HiTy}
 use Rattle.bpaf_items.specs.declared.meta_help.entry.HiTy.TheVariants as ty
 use Rattle.bpaf_items.specs.Listing.ItemList.{Entry, item_list}
 use Rattle.bpaf_items.specs.Listing.Falls.{group_members, group_numbers, heading_members, shown_entries}
@@ -22,13 +20,20 @@ heading_writes include texts title [] = []
 heading_writes include texts title (e ∷ es) = inside block.Block (inside block.Section2 (emphasis title ∷ [])
     ++ inside block.DefinitionList (list_writes include texts (e ∷ es)))
 
+-- the groups of a list, in order
+abbrev pub group_lists : (include_env : Bool) → Texts → List Entry → List Write
+group_lists include texts es = flat_map (λ n. list_writes include texts (group_members es n)) (group_numbers es)
+
+-- the three headings, over the entries of each type
+abbrev pub headings_writes : (include_env : Bool) → Texts → (HiTy → List Entry) → List Write
+headings_writes include texts members =
+    heading_writes include texts (codes "Available positional items:") (members ty.Positional)
+    ++ heading_writes include texts (codes "Available options:") (members ty.Flag)
+    ++ heading_writes include texts (codes "Available commands:") (members ty.Command)
+
 -- `write_help_item_groups`: the groups in order, and then the three headings
 abbrev pub groups_writes : (include_env : Bool) → Texts → List Entry → List Write
-groups_writes include texts es =
-    flat_map (λ n. list_writes include texts (group_members es n)) (group_numbers es)
-    ++ heading_writes include texts (codes "Available positional items:") (heading_members es ty.Positional)
-    ++ heading_writes include texts (codes "Available options:") (heading_members es ty.Flag)
-    ++ heading_writes include texts (codes "Available commands:") (heading_members es ty.Command)
+groups_writes include texts es = group_lists include texts es ++ headings_writes include texts (heading_members es)
 
 -- a document between the marks of a block, if there is one
 abbrev pub doc_within : Block → Option (List Part) → List Write

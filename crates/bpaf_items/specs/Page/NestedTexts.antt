@@ -1,10 +1,8 @@
 -- The documents that help pages write are well nested.
-use Rattle.std.specs.Prelude.{ℕ, Bool, ⊤, List, All, Option, Some, None}
-use Rattle.bpaf_doc.specs.Buffer.Parts.{Part, IsWellNested}
-use Rattle.bpaf_doc.specs.Buffer.Writes.{Write, with_writes, document_of}
-use Rattle.bpaf_meta.specs.Content.{Tree, and_of, or_of, optional, required, adjacent, item, many, subsection, suffix, skip, custom_usage, strict, Trees, no_trees, tree, Leaf, any, positional, command, flag, argument, Head, head}
+use Rattle.bpaf_items.specs.Words.{ℕ, Bool, ⊤, List, All, Option, Some, None, Part, IsWellNested, Write, with_writes, document_of, Tree, and_of, or_of, optional, required, adjacent, item, many, subsection, suffix, skip, custom_usage, strict, Trees, no_trees, tree, Leaf, any, Head, head}
 use Rattle.bpaf_meta.specs.Usage.Nested.{HasNestedDocs}
-use Rattle.bpaf_items.specs.Listing.ItemList.{Entry, listed, note, group_start, group_end, adjacent_start, adjacent_stop, item_list, IsItemList}
+use Rattle.bpaf_items.specs.Listing.ItemList.{Entry, listed, note, group_start, adjacent_start, item_list, IsItemList}
+use Rattle.bpaf_items.specs.Listing.Falls.{help_of}
 use Rattle.bpaf_items.specs.Page.EnvTexts.{Texts}
 use Rattle.bpaf_items.specs.Page.HelpPage.{groups_writes, help_page_writes}
 
@@ -18,10 +16,7 @@ IsNestedText (Some d) = IsWellNested d
 -- the metavar of an Any, and the help
 abbrev pub HasNestedText : Leaf → Type 0
 HasNestedText (any m a h) = IsWellNested m × IsNestedText h
-HasNestedText (positional m h) = IsNestedText h
-HasNestedText (command n c h t i) = IsNestedText h
-HasNestedText (flag n s e h) = IsNestedText h
-HasNestedText (argument n s m e h) = IsNestedText h
+HasNestedText l = IsNestedText (help_of l)
 
 -- the texts of the items, and the documents of each Subsection, Suffix and CustomUsage, without commands' own trees
 abbrev mutual
@@ -53,9 +48,8 @@ abbrev pub HasNestedEntry : Entry → Type 0
 HasNestedEntry (listed l) = HasNestedText l
 HasNestedEntry (note d k) = IsWellNested d
 HasNestedEntry (group_start d k) = IsWellNested d
-HasNestedEntry (group_end k) = ⊤
 HasNestedEntry (adjacent_start t k) = HasNestedDocs t
-HasNestedEntry (adjacent_stop k) = ⊤
+HasNestedEntry e = ⊤
 
 -- ---- laws
 

@@ -1,8 +1,6 @@
 -- What a call for a page returns, by its content.
-use Rattle.std.specs.Prelude.{◌≡◌, ℕ, Bool, List}
-use Rattle.bpaf_doc.specs.Buffer.Parts.{Part}
-use Rattle.bpaf_doc.specs.Buffer.Writes.{document_of}
-use Rattle.bpaf_meta.specs.Content.{Tree, Leaf, Head}
+use Rattle.std.specs.Prelude.{◌≡◌}
+use Rattle.bpaf_items.specs.Words.{ℕ, Bool, List, Part, document_of, Tree, Leaf, Head}
 use Rattle.bpaf_meta.specs.Meta.Misplaced.{IsWellPlaced, IsFirstMisplaced}
 use Rattle.bpaf_items.specs.Page.EnvTexts.{Texts}
 use Rattle.bpaf_items.specs.Page.HelpPage.{help_page_writes}

@@ -1,5 +1,4 @@
 -- What the private functions that write pages say. This is internal.
-pub mod Envs
 pub mod Groups
 pub mod Pages
 pub mod Pieces

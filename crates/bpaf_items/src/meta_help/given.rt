@@ -26,23 +26,24 @@ pub enum State {
 }
 
 impl<'a, 's, A: Allocator> Model for HelpItemsIter<'a, 's, A> {
-    ghost use Rattle.std.specs.Prelude.{List, drop, map};
-    ghost use Rattle.bpaf_items.specs.Listing.ItemList.{Entry};
-    ghost use Rattle.bpaf_items.specs.Steps.Stored.{entries_code};
+    ghost use Rattle.std.specs.Prelude.{List, drop};
+    ghost use Rattle.std.specs.Coded.{codes};
+    ghost use Rattle.bpaf_items.specs.declared.meta_help.entry.HelpItem.{HelpItem};
+    ghost use Rattle.bpaf_items.specs.Steps.Codes.{info_code, tree_code};
+
+    ghost Value = { List (HelpItem A) };
+
+    ghost coded = { Prim.hlevel (codes, tree_code A.code, info_code A.code) };
+
     ghost use Rattle.bpaf_items.specs.Steps.Given.{given_from};
     ghost use Rattle.bpaf_items.specs.View.{entry_of};
 
-    ghost Value = { List Entry };
-
-    ghost coded = { entries_code };
-
-    ghost view = { λ left. given_from left.state left.ty (map entry_of (drop left.at left.items.now)) };
+    ghost view = { λ left. given_from entry_of left.state left.ty (drop left.at left.items.now) };
 }
 
 impl<'a, 's, A: Allocator> HelpItemsIter<'a, 's, A> {
-    #[tactic(auto, using(crate::proofs::Steps::Given::given_of_type))]
     pub(crate) fn over(items: &'s [HelpItem<'a, A>], ty: HiTy) -> HelpItemsIter<'a, 's, A>
-        ensures { result ≡ items_of_type (map entry_of items.now) ty }
+        ensures { map entry_of result ≡ items_of_type (map entry_of items.now) ty }
     {
         HelpItemsIter {
             items,
@@ -55,11 +56,10 @@ impl<'a, 's, A: Allocator> HelpItemsIter<'a, 's, A> {
 
 impl<'a, 's, A: Allocator> Iterator for HelpItemsIter<'a, 's, A> {
     ghost use Rattle.std.specs.Iterator.{YieldsFirstBy, item_count};
-    ghost use Rattle.bpaf_items.specs.View.{entry_of};
 
     type Item = &'s HelpItem<'a, A>;
 
-    ghost next_gives = { YieldsFirstBy (λ item. entry_of item.now) (λ left. left) };
+    ghost next_gives = { YieldsFirstBy (λ item. item.now) (λ left. left) };
 
     ghost remaining = { item_count (λ left. left) };
 

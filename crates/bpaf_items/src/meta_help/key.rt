@@ -4,8 +4,8 @@ ghost use Rattle.std.specs.Option.{option_copied};
 ghost use Rattle.std.specs.Ordering.{ordering_then};
 ghost use Rattle.bpaf_meta.specs.View.{name_of};
 ghost use Rattle.bpaf_doc.specs.Buffer.View.{part_of};
-ghost use Rattle.bpaf_items.specs.Listing.Keys.{help_cmp, name_cmp, same_help, same_name};
-ghost use Rattle.bpaf_items.specs.Listing.KeyInput.{document_input, help_input, name_input, part_input};
+ghost use Rattle.bpaf_items.specs.Listing.Keys.{document_input, help_cmp, help_input, name_cmp, name_input, part_input};
+ghost use Rattle.bpaf_items.specs.Listing.Keys.{same_help, same_name};
 
 use bpaf_doc::buffer::{Doc, Part};
 use bpaf_meta::item::ShortLong;
@@ -138,8 +138,8 @@ impl<'a, A: Allocator> Ord for ItemKey<'a, A> {
 }
 
 impl<'a, A: Allocator> Hash for ItemKey<'a, A> {
-    ghost use Rattle.bpaf_items.specs.Listing.KeyInput.{key_input};
-    ghost use Rattle.bpaf_items.specs.Steps.KeyFed.{key_fed};
+    ghost use Rattle.bpaf_items.specs.Listing.Keys.{key_input};
+    ghost use Rattle.bpaf_items.specs.Steps.KeyOrder.{key_fed};
     ghost use Rattle.bpaf_items.specs.View.{key_in};
 
     ghost hash_input = { λ key. key_input (key_in key) };

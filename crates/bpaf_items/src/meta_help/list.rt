@@ -26,15 +26,17 @@ pub struct HelpItems<'a, A: Allocator = Global, L: Allocator = Global> {
 
 impl<'a, A: Allocator, L: Allocator> Model for HelpItems<'a, A, L> {
     ghost use Rattle.std.specs.Prelude.{List, map};
-    ghost use Rattle.bpaf_items.specs.Listing.ItemList.{Entry, IsItemList};
-    ghost use Rattle.bpaf_items.specs.Steps.Stored.{entries_code};
+    ghost use Rattle.std.specs.Coded.{codes};
+    ghost use Rattle.bpaf_items.specs.declared.meta_help.entry.HelpItem.{HelpItem};
+    ghost use Rattle.bpaf_items.specs.Steps.Codes.{info_code, tree_code};
+    ghost use Rattle.bpaf_items.specs.Listing.ItemList.{IsItemList};
     ghost use Rattle.bpaf_items.specs.View.{entry_of};
 
-    ghost Value = { List Entry };
+    ghost Value = { List (HelpItem A) };
 
-    ghost coded = { entries_code };
+    ghost coded = { Prim.hlevel (codes, tree_code A.code, info_code A.code) };
 
-    ghost view = { λ list. map entry_of list.items.items };
+    ghost view = { λ list. list.items.items };
 
     ghost invariant = { λ list. IsItemList (map entry_of list.items.items) };
 }
@@ -57,7 +59,7 @@ impl<'a, A: Allocator, L: Allocator> HelpItems<'a, A, L> {
 
     /// Appends the item list of a tree. After `AllocError` the list is as it was.
     pub fn append_meta(&mut self, meta: &'a Meta<A>) -> Result<(), AllocError>
-        ensures ok { OnOk result (self.new ≡ self.old ++ item_list (tree_of meta.now)) }
+        ensures ok { OnOk result (map entry_of self.new ≡ map entry_of self.old ++ item_list (tree_of meta.now)) }
         ensures err { OnErr result (self.new ≡ self.old) }
     {
         let count = self.items.len();
@@ -72,8 +74,8 @@ impl<'a, A: Allocator, L: Allocator> HelpItems<'a, A, L> {
 
     /// The entries, in order.
     pub fn items(&self) -> &[HelpItem<'a, A>]
-        ensures entries { map entry_of result.now ≡ self.now }
-        ensures listed { IsItemList self.now }
+        ensures entries { result.now ≡ self.now }
+        ensures listed { IsItemList (map entry_of self.now) }
     {
         self.items.as_slice()
     }
@@ -81,7 +83,7 @@ impl<'a, A: Allocator, L: Allocator> HelpItems<'a, A, L> {
     /// The places from the first start of a group to the first end of one; `None` unless the list has both.
     pub fn find_group(&self) -> Option<RangeInclusive<usize>>
         ensures places { option_map (λ range. (range_inclusive_start range, range_inclusive_end range)) result
-            ≡ find_group self.now }
+            ≡ find_group (map entry_of self.now) }
         ensures whole { IfSome result (λ range. range_inclusive_exhausted range ≡ false) }
     {
         let start = group_start_place(self.items())?;
@@ -94,7 +96,7 @@ impl<'a, A: Allocator, L: Allocator> HelpItems<'a, A, L> {
     /// block, if it has help, and otherwise it is left out; and in all other cases by its own type. A note counts as an
     /// item with help. It takes no memory.
     pub fn items_of_ty(&self, ty: HiTy) -> HelpItemsIter<'a, '_, A>
-        ensures { result ≡ items_of_type self.now ty }
+        ensures { map entry_of result ≡ items_of_type (map entry_of self.now) ty }
     {
         HelpItemsIter::over(self.items(), ty)
     }

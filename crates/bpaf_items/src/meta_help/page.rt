@@ -36,9 +36,9 @@ pub fn write_help_item_groups<A: Allocator, B: Allocator + Copy, L: Allocator + 
     texts: &EnvTexts<C>,
 ) -> Result<(), AllocError>
     ensures ok { OnOk result (doc.new ≡ with_writes doc.old
-        (groups_writes include_env (texts_in texts.now) items.entry)) }
+        (groups_writes include_env (texts_in texts.now) (map entry_of items.entry))) }
     ensures err { OnErr result (doc.new ≡ doc.old) }
-    ensures nested { All HasNestedEntry items.entry → IsWellNested doc.old → IsWellNested doc.new }
+    ensures nested { All HasNestedEntry (map entry_of items.entry) → IsWellNested doc.old → IsWellNested doc.new }
 {
     let writer = Writer {
         include_env,
@@ -158,7 +158,7 @@ fn listing<'a, A: Allocator + Copy, B: Allocator>(
     parser: &'a Meta<B>,
     help: &'a Meta<B>,
 ) -> Result<HelpItems<'a, B, A>, AllocError>
-    ensures { IfOk result (λ items. items ≡ item_list (tree_of parser.now) ++ item_list (tree_of help.now)) }
+    ensures { IfOk result (λ items. map entry_of items ≡ item_list (tree_of parser.now) ++ item_list (tree_of help.now)) }
 {
     let mut items: HelpItems<'a, B, A> = HelpItems::new(alloc);
     items.append_meta(parser)?;

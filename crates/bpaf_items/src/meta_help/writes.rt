@@ -8,7 +8,7 @@ ghost use Rattle.bpaf_items.specs.View.{entry_of};
 ghost use Rattle.bpaf_items.specs.Page.EntryWrites.{body, command_writes, entry_writes, env_body, env_term, env_text};
 ghost use Rattle.bpaf_items.specs.Page.EntryWrites.{env_writes, help_writes, listed_writes, term};
 ghost use Rattle.bpaf_items.specs.Page.EnvTexts.{texts_in};
-ghost use Rattle.bpaf_items.specs.Page.Steps.Envs.{shown_text};
+ghost use Rattle.bpaf_items.specs.Page.Steps.Pages.{shown_text};
 ghost use Rattle.bpaf_items.specs.Page.Steps.Pieces.{Leaves, joined, piece_writes, pieces_write};
 
 use crate::meta_help::entry::HelpItem;

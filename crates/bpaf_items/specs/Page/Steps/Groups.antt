@@ -1,26 +1,12 @@
 -- Groups, and the entries outside them, taken from the front of a list.
-use Rattle.std.specs.Prelude.{◌≡◌, ℕ, ◌+◌, ◌<◌, ◌≤◌, Bool, List, [], ◌∷◌, ◌++◌, length, drop, flat_map, Option, Some, None, codes}
-use Rattle.std.specs.List.{position}
-use Rattle.bpaf_doc.specs.Buffer.Parts.{Part}
+use Rattle.std.specs.Prelude.{◌++◌, ◌+◌, ◌<◌, ◌∷◌, ◌≡◌, ◌≤◌}
+use Rattle.bpaf_items.specs.Words.{ℕ, Bool, List, [], length, drop, Option, Some, None, position, Part, Write, start, end, emphasis, with_writes}
 use Rattle.bpaf_doc.specs.declared.buffer.Block.TheVariants as block
-use Rattle.bpaf_doc.specs.Buffer.Writes.{Write, start, end, emphasis, with_writes}
-use Rattle.bpaf_items.specs.declared.meta_help.entry.HiTy.TheVariants as ty
 use Rattle.bpaf_items.specs.Listing.ItemList.{Entry}
-use Rattle.bpaf_items.specs.Listing.Falls.{is_group_end, group_members, group_numbers, items_of_type, outside_groups}
+use Rattle.bpaf_items.specs.Listing.Falls.{is_group_end, outside_groups}
 use Rattle.bpaf_items.specs.Listing.Groups.{HasPairedGroups}
 use Rattle.bpaf_items.specs.Page.EnvTexts.{Texts}
-use Rattle.bpaf_items.specs.Page.HelpPage.{list_writes, heading_writes}
-
--- the groups of a list, in order
-abbrev pub group_lists : (include_env : Bool) → Texts → List Entry → List Write
-group_lists include texts es = flat_map (λ n. list_writes include texts (group_members es n)) (group_numbers es)
-
--- the three headings over entries outside groups
-abbrev pub headings : (include_env : Bool) → Texts → List Entry → List Write
-headings include texts es =
-    heading_writes include texts (codes "Available positional items:") (items_of_type es ty.Positional)
-    ++ heading_writes include texts (codes "Available options:") (items_of_type es ty.Flag)
-    ++ heading_writes include texts (codes "Available commands:") (items_of_type es ty.Command)
+use Rattle.bpaf_items.specs.Page.HelpPage.{group_lists}
 
 -- a heading's title, up to where its list starts; and the end of the list and the heading
 abbrev pub title_front : List ℕ → List Write

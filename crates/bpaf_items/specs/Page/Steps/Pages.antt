@@ -1,8 +1,10 @@
--- The parts of a help page.
-use Rattle.std.specs.Prelude.{ℕ, List, [], ◌∷◌, ◌++◌, codes}
+-- The parts of a help page, and what is shown of the environment variable of an item.
+use Rattle.std.specs.Prelude.{◌++◌, ◌∷◌}
+use Rattle.bpaf_items.specs.Words.{ℕ, List, [], Option, codes, Write, start, plain, emphasis, inside, Tree, Head, head}
 use Rattle.bpaf_doc.specs.declared.buffer.Block.TheVariants as block
-use Rattle.bpaf_doc.specs.Buffer.Writes.{Write, start, plain, emphasis, inside}
-use Rattle.bpaf_meta.specs.Content.{Tree, Head, head}
+use Rattle.bpaf_items.specs.declared.meta_help.writes.Shown.{Shown}
+use Rattle.bpaf_items.specs.declared.meta_help.writes.Shown.TheVariants.{IsSet, Value}
+use Rattle.bpaf_items.specs.Page.EntryWrites.{argument_env_text, flag_env_text}
 use Rattle.bpaf_items.specs.Page.HelpPage.{doc_within, usage_line_writes}
 
 -- above the list
@@ -17,3 +19,8 @@ footer_writes (head descr header footer usage own) = doc_within block.Block foot
 -- before the path of a usage line
 abbrev pub usage_start : List Write
 usage_start = emphasis (codes "Usage") ∷ plain (codes ": ") ∷ start block.Mono ∷ []
+
+-- of a variable, by its name and the text for it
+abbrev pub shown_text : Shown → List ℕ → Option (List ℕ) → List ℕ
+shown_text IsSet = flag_env_text
+shown_text Value = argument_env_text

@@ -1,11 +1,7 @@
 -- Pieces that are written into a document, and what a call that may fail leaves there.
-use Rattle.std.specs.Prelude.{◌≡◌, ℕ, true, List, [], ◌∷◌, ◌++◌, Result, OnOk, encode_utf8}
-use Rattle.std.specs.Borrow.{Bor}
-use Rattle.bpaf_doc.specs.Buffer.Parts.{Part}
+use Rattle.std.specs.Prelude.{◌++◌, ◌∷◌, ◌≡◌}
+use Rattle.bpaf_items.specs.Words.{ℕ, true, List, [], Result, OnOk, encode_utf8, Bor, Part, Write, start, end, text, literal, doc_writes, em_doc_writes, with_writes, name_of, tree_of, metavar_writes, usage_writes}
 use Rattle.bpaf_doc.specs.Buffer.Growth.{Grows}
-use Rattle.bpaf_doc.specs.Buffer.Writes.{Write, start, end, text, literal, doc_writes, em_doc_writes, with_writes}
-use Rattle.bpaf_meta.specs.View.{name_of, tree_of}
-use Rattle.bpaf_meta.specs.Usage.Writes.{metavar_writes, usage_writes}
 use Rattle.bpaf_items.specs.Page.EntryWrites.{names_writes}
 use Rattle.bpaf_items.specs.declared.meta_help.pieces.Piece.{Piece}
 use Rattle.bpaf_items.specs.declared.meta_help.pieces.Piece.TheVariants as piece

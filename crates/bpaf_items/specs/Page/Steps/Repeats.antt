@@ -1,15 +1,11 @@
 -- What is remembered of the entries of a list so far, and what the next one writes.
-use Rattle.std.specs.Prelude.{◌≡◌, ℕ, Bool, true, false, not, ◌||◌, if◌then◌else◌, flat_map, fold, nat_eq, List, [], ◌∷◌, None}
+use Rattle.std.specs.Prelude.{if◌then◌else◌, ◌||◌, ◌∷◌, ◌≡◌}
+use Rattle.bpaf_items.specs.Words.{ℕ, Bool, true, false, not, flat_map, fold, nat_eq, List, [], AllByRecursion, IsDistinct, list_any, Write, Leaf}
 use Rattle.std.specs.Hash.FoldHasher as folding
-use Rattle.std.specs.Option.{option_map_or}
-use Rattle.std.specs.List.{AllByRecursion, IsDistinct, list_any, last_or}
-use Rattle.bpaf_doc.specs.Buffer.Writes.{Write}
-use Rattle.bpaf_meta.specs.Content.{Leaf}
 use Rattle.bpaf_items.specs.declared.meta_help.key.ItemKey.{ItemKey}
 use Rattle.bpaf_items.specs.Listing.ItemList.{Entry, listed}
-use Rattle.bpaf_items.specs.Listing.Keys.{Key, key_of, same_key}
-use Rattle.bpaf_items.specs.Listing.KeyInput.{key_input}
-use Rattle.bpaf_items.specs.Listing.Falls.{placed, has_key_of, is_mark_or_new, is_shown}
+use Rattle.bpaf_items.specs.Listing.Keys.{Key, key_input, key_of, same_key}
+use Rattle.bpaf_items.specs.Listing.Falls.{has_key_of, is_last_shown, is_shown}
 use Rattle.bpaf_items.specs.Page.EnvTexts.{Texts}
 use Rattle.bpaf_items.specs.Page.EntryWrites.{entry_writes}
 use Rattle.bpaf_items.specs.View.{key_in}
@@ -40,10 +36,6 @@ pub record PutsKey {B : Type 0} (keys after : List (Hashed B)) (key : Key) (is_n
   pub hashed : AreHashed after
 
 -- ---- what is remembered
-
--- the last of some entries is a mark or a shown item
-abbrev pub is_last_shown : List Entry → Bool
-is_last_shown before = option_map_or is_mark_or_new (last_or None (placed before)) false
 
 -- the hash of an entry that is an item
 abbrev pub entry_hash : Entry → List ℕ

@@ -1,6 +1,5 @@
-use Rattle.std.proofs.Common.{◌+◌, rules, map, take}
-use Rattle.bpaf_items.specs.Listing.Falls.{is_adjacent_start, is_adjacent_stop, is_group_start}
-use Rattle.bpaf_items.specs.View.{entry_at, entry_of}
+use Rattle.std.specs.Prelude.{◌+◌}
+use Rattle.bpaf_items.proofs.Words.{rules, map, take, is_adjacent_start, is_adjacent_stop, is_group_start, entry_at, entry_of}
 use Rattle.bpaf_items.proofs.Page.GroupSteps.{few, kept_next, since_next}
 use Rattle.bpaf_items.proofs.Page.Leaving.{map_next}
 use Rattle.bpaf_items.proofs.meta_help.groups.keep.Goals as goal

@@ -1,7 +1,5 @@
-use Rattle.std.proofs.Common.{◌≡◌, ◌≤◌, ◌++◌, length, map, take}
-use Rattle.bpaf_items.specs.Listing.Falls.{is_adjacent_start, is_adjacent_stop}
-use Rattle.bpaf_items.specs.Listing.Groups.{kept_entries}
-use Rattle.bpaf_items.specs.View.{entry_at, entry_of}
+use Rattle.std.specs.Prelude.{◌++◌, ◌≡◌, ◌≤◌}
+use Rattle.bpaf_items.proofs.Words.{length, map, take, is_adjacent_start, is_adjacent_stop, kept_entries, entry_at, entry_of}
 use Rattle.bpaf_items.proofs.Listing.Pushes.{since_start}
 use Rattle.bpaf_items.proofs.meta_help.groups.keep.Given as goal
 

@@ -1,5 +1,5 @@
 use Rattle.std.proofs.Common.{◌≡◌, fold}
-use Rattle.bpaf_items.specs.Listing.KeyInput.{document_input}
+use Rattle.bpaf_items.specs.Listing.Keys.{document_input}
 use Rattle.bpaf_items.proofs.meta_help.key.feed_document.Given as goal
 
 abbrev pub invariant-loop-part : goal.invariant-loop-part

@@ -1,9 +1,4 @@
-use Rattle.std.proofs.Common.{◌∙◌, rules}
-use Rattle.std.proofs.lemmas.Iterator.{YieldsList-from_slice}
-use Rattle.std.proofs.lemmas.Iterator.Search.{position_from_yields_List}
-use borrow.Author.Tests.{tests}
-use Rattle.bpaf_items.specs.Listing.Falls.{is_group_start}
-use Rattle.bpaf_items.specs.View.{entry_of}
+use Rattle.bpaf_items.proofs.Words.{◌∙◌, rules, YieldsList-from_slice, position_from_yields_List, tests, is_group_start, entry_of}
 use Rattle.bpaf_items.proofs.Steps.Given.{position-map}
 use Rattle.bpaf_items.proofs.meta_help.list.group_start_place.Goals as goal
 

@@ -1,10 +1,5 @@
-use Rattle.std.proofs.Common.{map, rules, subst, string_bytes}
+use Rattle.bpaf_items.proofs.Words.{map, rules, subst, string_bytes, inside, tree_of, Grows-then, Grows-by, doc_within, usage_line_writes, Leaves}
 use Rattle.bpaf_doc.specs.declared.buffer.Block.TheVariants as block
-use Rattle.bpaf_doc.specs.Buffer.Writes.{inside}
-use Rattle.bpaf_meta.specs.View.{tree_of}
-use Rattle.bpaf_meta.proofs.lemmas.Usage.Written.{Grows-then, Grows-by}
-use Rattle.bpaf_items.specs.Page.HelpPage.{doc_within, usage_line_writes}
-use Rattle.bpaf_items.specs.Page.Steps.Pieces.{Leaves}
 use Rattle.bpaf_items.proofs.Page.Leaving.{leaves_third}
 use Rattle.bpaf_items.proofs.Page.PageSteps.{front_is}
 use Rattle.bpaf_items.proofs.meta_help.page.put_front.Goals as goal

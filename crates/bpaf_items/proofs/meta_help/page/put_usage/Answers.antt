@@ -1,9 +1,6 @@
-use Rattle.std.proofs.Common.{◌∷◌, [], ◌++◌, map, rules, string_bytes}
+use Rattle.std.specs.Prelude.{◌++◌, ◌∷◌}
+use Rattle.bpaf_items.proofs.Words.{[], map, rules, string_bytes, end, start, tree_of, Grows-then, Grows-by, usage_line_writes}
 use Rattle.bpaf_doc.specs.declared.buffer.Block.TheVariants as block
-use Rattle.bpaf_doc.specs.Buffer.Writes.{end, start}
-use Rattle.bpaf_meta.specs.View.{tree_of}
-use Rattle.bpaf_meta.proofs.lemmas.Usage.Written.{Grows-then, Grows-by}
-use Rattle.bpaf_items.specs.Page.HelpPage.{usage_line_writes}
 use Rattle.bpaf_items.proofs.Page.Leaving.{leaves_then}
 use Rattle.bpaf_items.proofs.meta_help.page.put_usage.Goals as goal
 

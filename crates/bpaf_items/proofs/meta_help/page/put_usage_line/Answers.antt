@@ -1,9 +1,6 @@
-use Rattle.std.proofs.Common.{true, ◌∷◌, [], ◌++◌, ◌∙◌, map, rules, string_bytes}
+use Rattle.std.specs.Prelude.{◌++◌, ◌∷◌}
+use Rattle.bpaf_items.proofs.Words.{true, [], ◌∙◌, map, rules, string_bytes, end, path_writes, tree_of, usage_writes, usage_start}
 use Rattle.bpaf_doc.specs.declared.buffer.Block.TheVariants as block
-use Rattle.bpaf_doc.specs.Buffer.Writes.{end, path_writes}
-use Rattle.bpaf_meta.specs.View.{tree_of}
-use Rattle.bpaf_meta.specs.Usage.Writes.{usage_writes}
-use Rattle.bpaf_items.specs.Page.Steps.Pages.{usage_start}
 use Rattle.bpaf_items.proofs.Page.Leaving.{leaves_then, written_then}
 use Rattle.bpaf_items.proofs.meta_help.page.put_usage_line.Goals as goal
 

@@ -1,6 +1,4 @@
-use Rattle.std.proofs.Common.{rules, take, flat_map, take_all, arith}
-use Rattle.bpaf_meta.proofs.lemmas.Usage.Written.{Grows-then, Grows-by}
-use Rattle.bpaf_items.specs.Page.Steps.Pieces.{piece_writes}
+use Rattle.bpaf_items.proofs.Words.{rules, take, flat_map, take_all, arith, Grows-then, Grows-by, piece_writes}
 use Rattle.bpaf_items.proofs.Page.Leaving.{pieces-all}
 use Rattle.bpaf_items.proofs.meta_help.pieces.put.Goals as goal
 

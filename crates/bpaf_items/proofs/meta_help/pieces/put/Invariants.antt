@@ -1,6 +1,5 @@
-use Rattle.std.proofs.Common.{◌≡◌, ◌≤◌, length, take, flat_map}
-use Rattle.bpaf_doc.specs.Buffer.Writes.{with_writes}
-use Rattle.bpaf_items.specs.Page.Steps.Pieces.{piece_writes}
+use Rattle.std.specs.Prelude.{◌≡◌, ◌≤◌}
+use Rattle.bpaf_items.proofs.Words.{length, take, flat_map, with_writes, piece_writes}
 use Rattle.bpaf_items.proofs.meta_help.pieces.put.Given as goal
 
 abbrev pub invariant-loop-piece : goal.invariant-loop-piece

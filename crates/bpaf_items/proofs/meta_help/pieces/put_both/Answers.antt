@@ -1,7 +1,6 @@
-use Rattle.std.proofs.Common.{rules, ◌∷◌, [], codes}
-use Rattle.bpaf_doc.specs.Buffer.Writes.{literal, plain}
+use Rattle.std.specs.Prelude.{◌∷◌}
+use Rattle.bpaf_items.proofs.Words.{rules, [], codes, literal, plain, Grows-then, Grows-by}
 use Rattle.bpaf_meta.specs.Names.{long_text, short_text}
-use Rattle.bpaf_meta.proofs.lemmas.Usage.Written.{Grows-then, Grows-by}
 use Rattle.bpaf_items.proofs.Page.Leaving.{leaves_call, leaves_third}
 use Rattle.bpaf_items.proofs.meta_help.pieces.put_both.Goals as goal
 

@@ -1,7 +1,5 @@
-use Rattle.std.proofs.Common.{rules, ◌∷◌, [], ◌++◌}
-use Rattle.bpaf_doc.specs.Buffer.Writes.{start, end}
-use Rattle.bpaf_meta.proofs.lemmas.Usage.Written.{Grows-then, Grows-by}
-use Rattle.bpaf_items.specs.Page.Steps.Pieces.{pieces_write}
+use Rattle.std.specs.Prelude.{◌++◌, ◌∷◌}
+use Rattle.bpaf_items.proofs.Words.{rules, [], start, end, Grows-then, Grows-by, pieces_write}
 use Rattle.bpaf_items.proofs.Page.Leaving.{leaves_then}
 use Rattle.bpaf_items.proofs.meta_help.pieces.put_inside.Goals as goal
 

@@ -1,6 +1,5 @@
-use Rattle.std.proofs.Common.{◌≡◌, ◌∷◌, [], rules, ap, sym, ◌∙◌, take, flat_map, take_all}
-use Rattle.bpaf_doc.specs.Buffer.Writes.{text, with_text}
-use Rattle.bpaf_meta.proofs.lemmas.Usage.Written.{Grows-then, Grows-by}
+use Rattle.std.specs.Prelude.{◌∷◌, ◌≡◌}
+use Rattle.bpaf_items.proofs.Words.{[], rules, ap, sym, ◌∙◌, take, flat_map, take_all, text, with_text, Grows-then, Grows-by}
 use Rattle.bpaf_items.proofs.Page.Leaving.{text_next, joined-all}
 use Rattle.bpaf_items.proofs.meta_help.pieces.put_joined.Goals as goal
 

@@ -1,5 +1,5 @@
-use Rattle.std.proofs.Common.{◌≡◌, ◌≤◌, length, take, flat_map}
-use Rattle.bpaf_doc.specs.Buffer.Writes.{with_text}
+use Rattle.std.specs.Prelude.{◌≡◌, ◌≤◌}
+use Rattle.bpaf_items.proofs.Words.{length, take, flat_map, with_text}
 use Rattle.bpaf_items.proofs.meta_help.pieces.put_joined.Given as goal
 
 abbrev pub invariant-loop-text : goal.invariant-loop-text

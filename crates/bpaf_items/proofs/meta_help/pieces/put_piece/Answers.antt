@@ -1,7 +1,5 @@
-use Rattle.std.proofs.Common.{◌∷◌, [], true, encode_utf8}
-use Rattle.bpaf_doc.specs.Buffer.Writes.{start, end, text, literal, doc_writes, em_doc_writes}
-use Rattle.bpaf_meta.specs.View.{tree_of}
-use Rattle.bpaf_meta.specs.Usage.Writes.{usage_writes}
+use Rattle.std.specs.Prelude.{◌∷◌}
+use Rattle.bpaf_items.proofs.Words.{[], true, encode_utf8, start, end, text, literal, doc_writes, em_doc_writes, tree_of, usage_writes}
 use Rattle.bpaf_items.proofs.Page.Leaving.{leaves_call}
 use Rattle.bpaf_items.proofs.meta_help.pieces.put_piece.Goals as goal
 

@@ -1,8 +1,6 @@
-use Rattle.std.proofs.Common.{◌≡◌, ◌∙◌, ap, arith, length, map, subst, take_all, eqb-true, flat_map, nat_eq}
-use Rattle.std.specs.List.{IsDistinct, dedup}
+use Rattle.std.specs.Prelude.{◌≡◌}
+use Rattle.bpaf_items.proofs.Words.{◌∙◌, ap, arith, length, map, subst, take_all, eqb-true, flat_map, nat_eq, IsDistinct, dedup, entry_hash, entry_at}
 use Rattle.std.proofs.lemmas.List.Filters.{dedup_is}
-use Rattle.bpaf_items.specs.Page.Steps.Repeats.{entry_hash}
-use Rattle.bpaf_items.specs.View.{entry_at}
 use Rattle.bpaf_items.proofs.Page.Repeating.{distinct_sorted}
 use Rattle.bpaf_items.proofs.meta_help.repeats.are_apart.Goals as goal
 

@@ -1,6 +1,5 @@
-use Rattle.std.proofs.Common.{◌≡◌, map, take, flat_map}
-use Rattle.bpaf_items.specs.Page.Steps.Repeats.{entry_hash}
-use Rattle.bpaf_items.specs.View.{entry_at}
+use Rattle.std.specs.Prelude.{◌≡◌}
+use Rattle.bpaf_items.proofs.Words.{map, take, flat_map, entry_hash, entry_at}
 use Rattle.bpaf_items.proofs.meta_help.repeats.are_apart.Given as goal
 
 abbrev pub invariant-loop-entry : goal.invariant-loop-entry

@@ -1,17 +1,11 @@
-use Rattle.std.proofs.Common.{◌≡◌, Some, false, List, ◌++◌, ◌+◌, ◌∙◌, ◌⊎◌, ap, sym, subst, refl, drop, length, map, arith, rules, Box}
-use Rattle.std.specs.Prelude.{OnOk, IfOk}
-use Rattle.std.proofs.lemmas.List.{at_drop_more}
+use Rattle.std.specs.Prelude.{◌++◌, ◌+◌, ◌≡◌, ◌⊎◌}
+use Rattle.bpaf_items.proofs.Words.{Some, false, List, ◌∙◌, ap, sym, subst, refl, drop, length, map, arith, rules, Box, OnOk, IfOk, at_drop_more, Tree, optional, required, many, subsection, custom_usage, strict, tree_of, trees_of, OnOk-map, front_type, first_front_type, adjacent_entries, group_entries, entries_of, entries_of_parts, entry_of}
 use Rattle.bpaf_doc.specs.declared.buffer.Doc.{Doc}
-use Rattle.bpaf_meta.specs.Content.{Tree, optional, required, many, subsection, custom_usage, strict}
 use Rattle.bpaf_meta.specs.declared.item.Item.{the_lemmas}
-use Rattle.bpaf_meta.specs.View.{tree_of, trees_of}
 use Rattle.bpaf_meta.specs.declared.meta.Meta.{Meta}
 use Rattle.bpaf_meta.specs.declared.meta.Meta.TheVariants.{Optional, Required, Many, CustomUsage, Strict}
-use Rattle.bpaf_meta.proofs.lemmas.Usage.Written.{OnOk-map}
 use Rattle.bpaf_items.specs.declared.meta_help.entry.HiTy.TheVariants as ty
 use Rattle.bpaf_items.specs.declared.meta_help.entry.HelpItem.TheVariants as entry
-use Rattle.bpaf_items.specs.Listing.ItemList.{front_type, first_front_type, adjacent_entries, group_entries, entries_of, entries_of_parts}
-use Rattle.bpaf_items.specs.View.{entry_of}
 use Rattle.bpaf_items.proofs.Steps.Fronts.{front_whole, front_then, append_turn}
 use Rattle.bpaf_items.proofs.Steps.Kept.{type_turn, ungrouped, unnoted, away_front, closed_front, closed_entries}
 use Rattle.bpaf_items.proofs.meta_help.walk.+append.Goals as goal
@@ -38,21 +32,15 @@ append_parts-loop-part-preserved g t c =
 
 pub append_adjacent-returns-in_default-clause-front : goal.append_adjacent-returns-in_default-clause-front
 append_adjacent-returns-in_default-clause-front g t c =
-    let old = c.args.items.now.items in
-    let at : c.len-at.result ≡ length old = search rules in
-    away_front old c.push.new.items.items c.append.new.items.items c.truncate.new.self.items c.len-at.result (entry.AdjacentStart c.args.inner ty.Flag) at c.in_ok-push.ensures.items c.append.ensures.front c.truncate.ensures.items
+    away_front c.args.items.now.items _ _ _ c.len-at.result _ (search rules) c.in_ok-push.ensures.items c.append.ensures.front c.truncate.ensures.items
 
 pub append_adjacent-returns-in_err-close-clause-front : goal.append_adjacent-returns-in_err-close-clause-front
 append_adjacent-returns-in_err-close-clause-front g t c =
-    let old = c.args.items.now.items in
-    let at : c.len-at.result ≡ length old = search rules in
-    closed_front old c.push.new.items.items c.append.new.items.items c.close.new.items.items c.len-at.result (entry.AdjacentStart c.args.inner ty.Flag) at c.in_ok-push.ensures.items c.append.ensures.front c.close.ensures.front
+    closed_front c.args.items.now.items _ _ _ c.len-at.result _ (search rules) c.in_ok-push.ensures.items c.append.ensures.front c.close.ensures.front
 
 pub append_adjacent-returns-clause-front : goal.append_adjacent-returns-clause-front
 append_adjacent-returns-clause-front g t c =
-    let old = c.args.items.now.items in
-    let at : c.len-at.result ≡ length old = search rules in
-    closed_front old c.push.new.items.items c.append.new.items.items c.close.new.items.items c.len-at.result (entry.AdjacentStart c.args.inner ty.Flag) at c.in_ok-push.ensures.items c.append.ensures.front c.close.ensures.front
+    closed_front c.args.items.now.items _ _ _ c.len-at.result _ (search rules) c.in_ok-push.ensures.items c.append.ensures.front c.close.ensures.front
 
 pub append_adjacent-returns-clause-entries : goal.append_adjacent-returns-clause-entries
 append_adjacent-returns-clause-entries g t c =
@@ -65,21 +53,15 @@ append_adjacent-returns-clause-entries g t c =
 
 pub append_group-returns-in_default-clause-front : goal.append_group-returns-in_default-clause-front
 append_group-returns-in_default-clause-front g t c =
-    let old = c.args.items.now.items in
-    let at : c.len-at.result ≡ length old = search rules in
-    away_front old c.push.new.items.items c.append-2.new.items.items c.truncate.new.self.items c.len-at.result (entry.GroupStart c.args.help ty.Flag) at c.in_ok-push.ensures.items c.append-2.ensures.front c.truncate.ensures.items
+    away_front c.args.items.now.items _ _ _ c.len-at.result _ (search rules) c.in_ok-push.ensures.items c.append-2.ensures.front c.truncate.ensures.items
 
 pub append_group-returns-in_err-close-clause-front : goal.append_group-returns-in_err-close-clause-front
 append_group-returns-in_err-close-clause-front g t c =
-    let old = c.args.items.now.items in
-    let at : c.len-at.result ≡ length old = search rules in
-    closed_front old c.push.new.items.items c.append-2.new.items.items c.close.new.items.items c.len-at.result (entry.GroupStart c.args.help ty.Flag) at c.in_ok-push.ensures.items c.append-2.ensures.front c.close.ensures.front
+    closed_front c.args.items.now.items _ _ _ c.len-at.result _ (search rules) c.in_ok-push.ensures.items c.append-2.ensures.front c.close.ensures.front
 
 pub append_group-returns-clause-front : goal.append_group-returns-clause-front
 append_group-returns-clause-front g t c =
-    let old = c.args.items.now.items in
-    let at : c.len-at.result ≡ length old = search rules in
-    closed_front old c.push.new.items.items c.append-2.new.items.items c.close.new.items.items c.len-at.result (entry.GroupStart c.args.help ty.Flag) at c.in_ok-push.ensures.items c.append-2.ensures.front c.close.ensures.front
+    closed_front c.args.items.now.items _ _ _ c.len-at.result _ (search rules) c.in_ok-push.ensures.items c.append-2.ensures.front c.close.ensures.front
 
 pub append_group-returns-clause-entries : goal.append_group-returns-clause-entries
 append_group-returns-clause-entries g t c =

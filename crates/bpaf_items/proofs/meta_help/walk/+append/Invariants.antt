@@ -1,9 +1,5 @@
-use Rattle.std.proofs.Common.{◌≡◌, ◌++◌, drop, map}
-use Rattle.std.specs.Option.{option_or}
-use Rattle.bpaf_meta.specs.View.{trees_of}
-use Rattle.bpaf_items.specs.Listing.ItemList.{entries_of_parts, first_front_type}
-use Rattle.bpaf_items.specs.Steps.Growth.{IsFront}
-use Rattle.bpaf_items.specs.View.{entry_of}
+use Rattle.std.specs.Prelude.{◌++◌, ◌≡◌}
+use Rattle.bpaf_items.proofs.Words.{drop, map, option_or, trees_of, entries_of_parts, first_front_type, IsFront, entry_of}
 use Rattle.bpaf_items.proofs.meta_help.walk.+append.Given as goal
 
 abbrev pub invariant-append_parts-loop-part : goal.invariant-append_parts-loop-part

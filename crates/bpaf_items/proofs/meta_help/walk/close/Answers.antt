@@ -1,5 +1,5 @@
-use Rattle.std.proofs.Common.{◌≡◌, ◌<◌, length, rules, arith, slice_set}
-use Rattle.bpaf_meta.proofs.lemmas.Usage.Written.{OnOk-map}
+use Rattle.std.specs.Prelude.{◌<◌, ◌≡◌}
+use Rattle.bpaf_items.proofs.Words.{length, rules, arith, slice_set, OnOk-map}
 use Rattle.bpaf_items.proofs.Steps.Fronts.{front_then}
 use Rattle.bpaf_items.proofs.Steps.Kept.{moved_last, moved_front, take_front, with_last}
 use Rattle.bpaf_items.proofs.meta_help.walk.close.Goals as goal

@@ -1,6 +1,4 @@
-use Rattle.std.specs.Option.{option_copied}
-use Rattle.bpaf_items.specs.Page.EntryWrites.{help_writes, term}
-use Rattle.bpaf_items.specs.Page.Steps.Pieces.{pieces_write}
+use Rattle.bpaf_items.proofs.Words.{option_copied, help_writes, term, pieces_write}
 use Rattle.bpaf_items.proofs.Page.Leaving.{leaves_then}
 use Rattle.bpaf_items.proofs.meta_help.writes.put_item.Goals as goal
 

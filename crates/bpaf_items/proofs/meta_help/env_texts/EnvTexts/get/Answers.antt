@@ -1,5 +1,4 @@
-use Rattle.std.proofs.Common.{◌∙◌, sym, ap, string_bytes}
-use Rattle.std.specs.Option.{option_map}
+use Rattle.bpaf_items.proofs.Words.{◌∙◌, sym, ap, string_bytes, option_map}
 use Rattle.bpaf_items.proofs.Page.EnvEntries.{texts_shown}
 use Rattle.bpaf_items.proofs.meta_help.env_texts.EnvTexts.get.Goals as goal
 

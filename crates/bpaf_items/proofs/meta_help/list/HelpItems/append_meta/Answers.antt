@@ -1,6 +1,4 @@
-use Rattle.std.proofs.Common.{map}
-use Rattle.bpaf_meta.specs.View.{tree_of}
-use Rattle.bpaf_items.specs.View.{entry_of}
+use Rattle.bpaf_items.proofs.Words.{map, tree_of, entry_of}
 use Rattle.bpaf_items.proofs.Steps.Fronts.{IsItemList-append}
 use Rattle.bpaf_items.proofs.meta_help.list.HelpItems.append_meta.Goals as goal
 

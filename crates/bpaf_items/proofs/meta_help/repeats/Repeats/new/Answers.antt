@@ -1,5 +1,4 @@
-use Rattle.std.proofs.Common.{map}
-use Rattle.bpaf_items.specs.View.{entry_at}
+use Rattle.bpaf_items.proofs.Words.{map, entry_at}
 use Rattle.bpaf_items.proofs.Page.Repeating.{nothing_seen}
 use Rattle.bpaf_items.proofs.meta_help.repeats.Repeats.new.Goals as goal
 

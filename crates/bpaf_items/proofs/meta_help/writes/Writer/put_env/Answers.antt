@@ -1,10 +1,5 @@
-use Rattle.std.proofs.Common.{◌≡◌, ◌∷◌, [], ◌++◌, ◌∙◌, false, ap, subst}
-use Rattle.std.specs.Option.{option_copied}
-use Rattle.bpaf_doc.specs.Buffer.Writes.{plain}
-use Rattle.bpaf_items.specs.Page.EntryWrites.{body, env_body, env_term, env_text}
-use Rattle.bpaf_items.specs.Page.EnvTexts.{texts_in}
-use Rattle.bpaf_items.specs.Page.Steps.Envs.{shown_text}
-use Rattle.bpaf_items.specs.Page.Steps.Pieces.{Leaves}
+use Rattle.std.specs.Prelude.{◌++◌, ◌∷◌, ◌≡◌}
+use Rattle.bpaf_items.proofs.Words.{[], ◌∙◌, false, ap, subst, option_copied, plain, body, env_body, env_term, env_text, texts_in, shown_text, Leaves}
 use Rattle.bpaf_items.proofs.Page.Leaving.{leaves_then}
 use Rattle.bpaf_items.proofs.meta_help.writes.Writer.put_env.Goals as goal
 

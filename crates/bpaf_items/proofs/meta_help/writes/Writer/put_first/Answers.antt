@@ -1,6 +1,4 @@
-use Rattle.std.proofs.Common.{map, refl, sym, ◌∙◌}
-use Rattle.bpaf_items.specs.Page.EnvTexts.{texts_in}
-use Rattle.bpaf_items.specs.View.{entry_at}
+use Rattle.bpaf_items.proofs.Words.{map, refl, sym, ◌∙◌, texts_in, entry_at}
 use Rattle.bpaf_items.proofs.Page.GroupSteps.{takes_item, takes_marked}
 use Rattle.bpaf_items.proofs.meta_help.writes.Writer.put_first.Goals as goal
 

@@ -1,11 +1,5 @@
-use Rattle.std.proofs.Common.{map, ap, sym, ◌∙◌, ◌++◌, subst}
-use Rattle.bpaf_doc.specs.Buffer.Writes.{with_writes}
-use Rattle.bpaf_meta.proofs.lemmas.Usage.Written.{Grows-then}
-use Rattle.bpaf_items.specs.Listing.Falls.{outside_groups}
-use Rattle.bpaf_items.specs.Listing.Groups.{HasPairedGroups}
-use Rattle.bpaf_items.specs.Page.EnvTexts.{texts_in}
-use Rattle.bpaf_items.specs.Page.Steps.Groups.{group_lists}
-use Rattle.bpaf_items.specs.View.{entry_at}
+use Rattle.std.specs.Prelude.{◌++◌}
+use Rattle.bpaf_items.proofs.Words.{map, ap, sym, ◌∙◌, subst, with_writes, Grows-then, outside_groups, HasPairedGroups, texts_in, group_lists, entry_at}
 use Rattle.bpaf_items.proofs.Page.GroupSteps.{left_behind}
 use Rattle.bpaf_items.proofs.meta_help.writes.Writer.put_groups.Goals as goal
 

@@ -1,11 +1,6 @@
-use Rattle.std.proofs.Common.{◌≡◌, ◌++◌, length, map}
+use Rattle.std.specs.Prelude.{◌++◌, ◌≡◌}
+use Rattle.bpaf_items.proofs.Words.{length, map, with_writes, outside_groups, HasPairedGroups, texts_in, group_lists, entry_at, entry_of}
 use Rattle.bpaf_doc.specs.Buffer.Growth.{Grows}
-use Rattle.bpaf_doc.specs.Buffer.Writes.{with_writes}
-use Rattle.bpaf_items.specs.Listing.Falls.{outside_groups}
-use Rattle.bpaf_items.specs.Listing.Groups.{HasPairedGroups}
-use Rattle.bpaf_items.specs.Page.EnvTexts.{texts_in}
-use Rattle.bpaf_items.specs.Page.Steps.Groups.{group_lists}
-use Rattle.bpaf_items.specs.View.{entry_at, entry_of}
 use Rattle.bpaf_items.proofs.meta_help.writes.Writer.put_groups.Given as goal
 
 abbrev pub invariant-loop-rest : goal.invariant-loop-rest

@@ -1,10 +1,5 @@
-use Rattle.std.proofs.Common.{map, rules, codes}
-use Rattle.bpaf_meta.proofs.lemmas.Usage.Written.{Grows-then, Grows-by}
+use Rattle.bpaf_items.proofs.Words.{map, rules, codes, Grows-then, Grows-by, items_of_type, texts_in, heading_writes, entry_at}
 use Rattle.bpaf_items.specs.declared.meta_help.entry.HiTy.TheVariants as ty
-use Rattle.bpaf_items.specs.Listing.Falls.{items_of_type}
-use Rattle.bpaf_items.specs.Page.EnvTexts.{texts_in}
-use Rattle.bpaf_items.specs.Page.HelpPage.{heading_writes}
-use Rattle.bpaf_items.specs.View.{entry_at}
 use Rattle.bpaf_items.proofs.Page.Leaving.{leaves_third}
 use Rattle.bpaf_items.proofs.meta_help.writes.Writer.put_headings.Goals as goal
 

@@ -1,9 +1,5 @@
-use Rattle.std.proofs.Common.{◌+◌, rules, map, take, sym, subst, drop}
-use Rattle.bpaf_meta.proofs.lemmas.Usage.Written.{Grows-then, Grows-by}
-use Rattle.bpaf_items.specs.Page.EnvTexts.{texts_in}
-use Rattle.bpaf_items.specs.Page.HelpPage.{list_writes}
-use Rattle.bpaf_items.specs.Page.Steps.Repeats.{Remembers}
-use Rattle.bpaf_items.specs.View.{entry_at}
+use Rattle.std.specs.Prelude.{◌+◌}
+use Rattle.bpaf_items.proofs.Words.{rules, map, take, sym, subst, drop, Grows-then, Grows-by, texts_in, list_writes, Remembers, entry_at}
 use Rattle.bpaf_items.proofs.Page.Leaving.{map_around, map_next}
 use Rattle.bpaf_items.proofs.Page.Repeating.{list_next}
 use Rattle.bpaf_items.proofs.meta_help.writes.Writer.put_list.Goals as goal

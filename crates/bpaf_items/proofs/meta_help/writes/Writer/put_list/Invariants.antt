@@ -1,9 +1,5 @@
-use Rattle.std.proofs.Common.{◌≡◌, ◌≤◌, length, map, take}
-use Rattle.bpaf_doc.specs.Buffer.Writes.{with_writes}
-use Rattle.bpaf_items.specs.Page.EnvTexts.{texts_in}
-use Rattle.bpaf_items.specs.Page.HelpPage.{list_writes}
-use Rattle.bpaf_items.specs.Page.Steps.Repeats.{Remembers}
-use Rattle.bpaf_items.specs.View.{entry_at}
+use Rattle.std.specs.Prelude.{◌≡◌, ◌≤◌}
+use Rattle.bpaf_items.proofs.Words.{length, map, take, with_writes, texts_in, list_writes, Remembers, entry_at}
 use Rattle.bpaf_items.proofs.meta_help.writes.Writer.put_list.Given as goal
 
 abbrev pub invariant-loop-entry : goal.invariant-loop-entry

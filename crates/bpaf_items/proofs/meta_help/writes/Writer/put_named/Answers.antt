@@ -1,10 +1,5 @@
-use Rattle.std.proofs.Common.{◌++◌}
-use Rattle.std.specs.Option.{option_copied}
-use Rattle.bpaf_meta.specs.View.{text_of}
-use Rattle.bpaf_items.specs.Page.EntryWrites.{env_writes, help_writes, term}
-use Rattle.bpaf_items.specs.Page.EnvTexts.{texts_in}
-use Rattle.bpaf_items.specs.Page.Steps.Envs.{shown_text}
-use Rattle.bpaf_items.specs.Page.Steps.Pieces.{pieces_write}
+use Rattle.std.specs.Prelude.{◌++◌}
+use Rattle.bpaf_items.proofs.Words.{option_copied, text_of, env_writes, help_writes, term, texts_in, shown_text, pieces_write}
 use Rattle.bpaf_items.proofs.Page.Leaving.{leaves_then}
 use Rattle.bpaf_items.proofs.meta_help.writes.Writer.put_named.Goals as goal
 

@@ -1,10 +1,5 @@
-use Rattle.std.proofs.Common.{◌<◌, ◌++◌, length, map, rules, subst}
-use Rattle.bpaf_meta.proofs.lemmas.Usage.Written.{Grows-then, Grows-by}
-use Rattle.bpaf_items.specs.Page.EnvTexts.{texts_in}
-use Rattle.bpaf_items.specs.Page.HelpPage.{list_writes}
-use Rattle.bpaf_items.specs.Page.Steps.Groups.{heading_end, title_front}
-use Rattle.bpaf_items.specs.Page.Steps.Pieces.{Leaves}
-use Rattle.bpaf_items.specs.View.{entry_at}
+use Rattle.std.specs.Prelude.{◌++◌, ◌<◌}
+use Rattle.bpaf_items.proofs.Words.{length, map, rules, subst, Grows-then, Grows-by, texts_in, list_writes, heading_end, title_front, Leaves, entry_at}
 use Rattle.bpaf_items.proofs.Page.GroupSteps.{heading_is}
 use Rattle.bpaf_items.proofs.Page.Leaving.{leaves_then}
 use Rattle.bpaf_items.proofs.meta_help.writes.Writer.put_titled.Goals as goal
