@@ -192,6 +192,7 @@ fn close<'a, A: Allocator, L: Allocator>(
     ensures front { IsFront (take at items.old.items) items.new.items }
 {
     push(items, first)?;
+    // The last item, which is `first`, comes into the place of the one that is removed.
     let _kept = items.swap_remove(at);
     push(items, last)
 }
