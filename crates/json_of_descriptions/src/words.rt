@@ -37,7 +37,11 @@ fn rows<'a>(words: &FixedWords<'a>) -> [Word<'a>; 15]
         row("contents", english.contents, words.contents),
         row("notes", english.notes, words.notes),
         row("default", english.default, words.default),
-        row("possible_values", english.possible_values, words.possible_values),
+        row(
+            "possible_values",
+            english.possible_values,
+            words.possible_values,
+        ),
         row("env", english.env, words.env),
         row("aliases", english.aliases, words.aliases),
         row("command", english.command, words.command),
