@@ -7,7 +7,8 @@ use Rattle.bpaf_doc.specs.Html.Page.{IsHtmlPageOf, IsHtmlTextPageOf}
 use Rattle.bpaf_doc.specs.Html.Exact.{html_page}
 
 -- The console page of a document of UTF-8 texts and fewer than 2 ^ 59 parts is a layout of it, and so has the ink of
--- what is shown. (The margins of that many parts fit a usize, and no document in memory has more: `Doc::parts`.)
+-- what is shown, with a backquote at each TermRef mark. (The margins of that many parts fit a usize, and no document in
+-- memory has more: `Doc::parts`.)
 abbrev pub IsExactPageLayout : Type 0
 IsExactPageLayout =
     (full : Bool) (width : ℕ) (document : List Part) → HasUtf8Texts document → length document < 2 ^ 59

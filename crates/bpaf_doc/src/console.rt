@@ -26,10 +26,11 @@ impl<A: Allocator> Doc<A> {
     /// The document as a text in `alloc`, in full or in brief, with lines that break before a chunk that would pass
     /// `max_width` columns.
     ///
-    /// Each character of a shown text that is not White_Space is in the result once and in order, with one backquote
-    /// for each mark of a term reference. Lines break where a mark or a break chunk asks for it, and otherwise only
-    /// where a chunk would pass the width. They are indented by the margin in force, which the end of an inline block
-    /// lowers too. `docs/console.md` says each rule, and `console_page` each byte.
+    /// Each character of the shown chunks that is not White_Space is in the result once and in order, with one
+    /// backquote for each mark of a term reference. Lines break where a mark or a break chunk asks for it, after a line
+    /// of code, and otherwise only where a chunk would pass the width. They are indented by the margin in force, which
+    /// the end of each block lowers, also of one whose start pushed none. `docs/console.md` says each rule, and
+    /// `console_page` each byte.
     ///
     /// An `AllocError` says that an allocation failed.
     pub fn render_console<B: Allocator + Copy>(

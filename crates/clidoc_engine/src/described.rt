@@ -175,7 +175,7 @@ pub(crate) fn warnings_in(
     first_lines(global, notation, &plain, &found)
 }
 
-// The lines of warnings. The first are reported, by their places.
+// The lines of warnings. The first of the list are reported, in the order of their places.
 fn first_lines(
     global: Global,
     notation: Notation,

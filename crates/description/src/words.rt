@@ -2,8 +2,8 @@
 ghost use Rattle.std.specs.Prelude.{◌≡◌};
 ghost use Rattle.description.specs.Words.{english, words_said};
 
-/// The words that stand on each page, so that a page is in one language. Each is a title: it has no blanks at its ends
-/// and no colon at its end.
+/// The words that stand on each page, so that a page is in one language. Each is a heading: it has no blanks at its
+/// ends and no colon at its end.
 #[derive(Clone, Copy, Debug)]
 pub struct FixedWords<'a> {
     pub usage: &'a str,

@@ -187,8 +187,8 @@ fn all_below<'p, 'a: 'p, C: Allocator>(
     Ok(lower)
 }
 
-/// The levels below one as they follow it on its page: of the options that ask for help they have the names alone,
-/// since the page says at the first level what these do. An error comes only where an allocation failed.
+/// The levels below one as they follow it on its page: of the options that ask for help they have the names and the
+/// word for the value alone, since the page says at the first level what these do. An error comes only where an allocation failed.
 pub fn all_behind<'p, 'a: 'p, C: Allocator>(
     arena: &'p Bump,
     subject: LevelSubject<'p, 'a, C>,

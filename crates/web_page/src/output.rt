@@ -32,7 +32,7 @@ fn escape_of(byte: u8, in_value: bool) -> Option<&'static str>
     }
 }
 
-// What lies between two references is written at once.
+// What lies between two character references is written at once.
 fn push_escaped<A: Allocator>(
     out: &mut String<A>,
     text: &str,

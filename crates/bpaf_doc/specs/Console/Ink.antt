@@ -1,4 +1,4 @@
--- The ink of a console page in full: that of the document's texts.
+-- The ink of a console page in full: that of the document's texts, with a backquote at each TermRef mark.
 use Rattle.std.specs.Prelude.{◌≡◌}
 use Rattle.bpaf_doc.specs.Words.{ℕ, Bool, true, false, not, List, flat_map, IsTrue, list_any, Part, Text, Start, End, ink, document_ink, HasUtf8Texts, console_ink, is_term_ref, mark_bytes}
 

@@ -85,8 +85,8 @@ is_inked_event _ = false
 abbrev pub is_inked_stretch : Stretch → Bool
 is_inked_stretch stretch = list_any is_inked_event (stretch_events stretch)
 
--- What may come before these stretches: a blank or a newline; a whole chunk, or one without the blanks at its end if a
--- newline follows directly; an event that is not an inked chunk.
+-- What may come before these stretches: a blank or a newline; a whole chunk, or one without the White_Space at its end
+-- if a newline follows directly; an event that is not an inked chunk.
 abbrev pub MayStand : Stretch → List Stretch → Type 0
 MayStand (Gap b) after = (b ≡ byte.blank) ⊎ (b ≡ byte.newline)
 MayStand (Placed e) after =
@@ -237,7 +237,7 @@ pub record KeepsMargin (document : List Part) (stretches : List Stretch) : Type 
       → (IsTrue (not (list_any is_raw_or_ref (events_since_ink before))) ⊎ FollowsBlank before f)
       → column before ≡ margin document f.part
 
--- the blocks whose marks ask for nothing, write nothing and push no margin
+-- the blocks whose marks ask for nothing, write nothing and push no margin (their ends take one away)
 abbrev pub is_silent_block : Block → Bool
 is_silent_block blocks.InlineBlock = true
 is_silent_block blocks.Mono = true
@@ -251,7 +251,7 @@ is_light (Shows k chunk) = is_ordinary chunk && not (is_inked chunk)
 is_light (Opens b) = is_silent_block b
 is_light (Closes b) = is_silent_block b
 
--- such a mark, an ItemTerm end or an ItemBody start
+-- such a mark, or one between a term and its body: an ItemTerm end or an ItemBody start
 abbrev pub is_light_mark : Event → Bool
 is_light_mark (Opens blocks.ItemBody) = true
 is_light_mark (Closes blocks.ItemTerm) = true
@@ -342,9 +342,9 @@ room_of (Closes blocks.TermRef) = 1
 room_of (Opens blocks.ItemBody) = 2
 room_of _ = 0
 
--- Where there is a newline between neighbouring inked chunks, and none is asked for, there is no room without it: the
--- column of the first, its weight, what everything between may add, the columns of the second and, between different
--- texts, the greatest margin are together more than the width.
+-- Where there is a newline between neighbouring inked chunks, and none is asked for, there may be no room without it:
+-- the column of the first, its weight, what everything between may add, the columns of the second and, between
+-- different texts, the greatest margin are together more than the width.
 abbrev pub BreaksForRoom : List Part → ℕ → List Stretch → Type 0
 BreaksForRoom document width stretches =
     (before between : List Stretch) (e f : Place) → AreApart stretches before e between f
