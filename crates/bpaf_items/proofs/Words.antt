@@ -10,7 +10,7 @@ pub use Rattle.bpaf_items.specs.Listing.Keys.{Key, entry_key, key_cmp, key_of, s
 pub use Rattle.bpaf_items.specs.Listing.ListLaws.{FallsSomewhere, FallsUnderWritten, HeadingsAgree, IsInNoAdjacentBlock, KeyOnce}
 pub use Rattle.bpaf_items.specs.Page.EntryWrites.{argument_env_text, body, command_writes, entry_writes, env_body, env_term, env_text, env_writes, flag_env_text, help_writes, listed_writes, names_writes, term}
 pub use Rattle.bpaf_items.specs.Page.EnvTexts.{Texts, TextsAreInserted, texts_in, texts_with}
-pub use Rattle.bpaf_items.specs.Page.HelpPage.{doc_within, group_lists, groups_writes, heading_writes, headings_writes, help_page_writes, list_writes, usage_line_writes}
+pub use Rattle.bpaf_items.specs.Page.HelpPage.{doc_within, group_lists, groups_writes, heading_writes, three_headings, help_page_writes, list_writes, usage_line_writes}
 pub use Rattle.bpaf_items.specs.Page.NestedTexts.{EachHasNestedTexts, GroupsAreNested, HasNestedEntry, HasNestedHead, HasNestedText, HasNestedTexts, HelpPagesAreNested, IsNestedText, ItemListsAreNested, KeepsNested}
 pub use Rattle.bpaf_items.specs.Page.Steps.Groups.{Takes, group_len, heading_end, len_through, title_front}
 pub use Rattle.bpaf_items.specs.Page.Steps.Pages.{footer_writes, front_writes, shown_text, usage_start}

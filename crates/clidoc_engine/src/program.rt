@@ -49,7 +49,7 @@ const NO_NAMES: &str = "clidoc: no options or commands were found in HELP; \
     if the program prints its help on standard error, add 2>&1";
 
 /// What is said after a fault of FILE where HELP has a line as a description does.
-const IS_SWAPPED: &str = "clidoc: HELP stands before FILE, and HELP looks like a description";
+const HELP_IS_FIRST: &str = "clidoc: HELP stands before FILE, and HELP looks like a description";
 
 /// Why a run fails.
 #[derive(Debug, Drop, Error)]
@@ -276,7 +276,7 @@ where
     drop(page);
     match compared {
         Err(Failure::Told(lines)) if is_swapped => {
-            Err(Failure::Told(format!(in global; "{lines}\n{IS_SWAPPED}")?))
+            Err(Failure::Told(format!(in global; "{lines}\n{HELP_IS_FIRST}")?))
         }
         compared => compared,
     }
@@ -284,7 +284,10 @@ where
 
 // Whether a line begins as that of a description with its name.
 fn has_name_key(text: &str) -> bool {
-    text.lines().any(|line| line.starts_with("name ="))
+    text.lines().any(|line| match line.strip_prefix("name") {
+        Some(rest) => rest.trim_start().starts_with('='),
+        None => false,
+    })
 }
 
 // Writes them, and says on standard error where the help text has no name at all.

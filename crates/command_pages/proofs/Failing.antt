@@ -1,5 +1,5 @@
 -- Why a page is not made, and that one that is made has no fault.
-use Rattle.std.proofs.Common.{◌≡◌, ◌⊎◌, inl, inr, arith, refl, IfErr, IfOk, Option, Some, None, Result, Ok, Err}
+use Rattle.std.proofs.Common.{◌≡◌, ◌⊎◌, inl, arith, refl, IfErr, IfOk, Option, Some, None, Result, Ok, Err}
 use Rattle.std.specs.Prelude.{alloc_error}
 use Rattle.web_page.specs.declared.errors.PageError.{PageError}
 use Rattle.web_page.specs.declared.errors.PageError.TheVariants.{Refused}

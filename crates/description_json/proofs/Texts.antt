@@ -1,9 +1,8 @@
 -- What a text gives, by what a reader reads of it.
-use Rattle.std.proofs.Common.{◌≡◌, ℕ, List, [], ◌∷◌, Option, Some, None, sym, ap, ◌∙◌}
+use Rattle.std.proofs.Common.{◌≡◌, ℕ, List, [], ◌∷◌, Some, None}
 use Rattle.json.specs.Json as json
 use Rattle.json.specs.Lex.{tokens}
 use Rattle.json.specs.Token.{Token}
-use Rattle.toml.specs.Data.{Members}
 use Rattle.toml_parser.specs.Strings.{recursion_limit}
 use Rattle.description_json.specs.Tables.{json_table, json_value, top_members}
 

@@ -1,5 +1,5 @@
 -- Where in a JSON text a path comes to be.
-use Rattle.std.specs.Prelude.{◌≡◌, ℕ, List, [], ◌∷◌, ◌++◌, Bool, true, false, ◌||◌, ◌==◌, ◌-◌, length, slice_get, Option, Some, None, is_some, option_and_then}
+use Rattle.std.specs.Prelude.{◌≡◌, ℕ, List, [], ◌∷◌, ◌++◌, Bool, true, false, ◌||◌, ◌==◌, ◌-◌, length, slice_get, Option, Some, is_some, option_and_then}
 use Rattle.std.specs.List.{list_all}
 use Rattle.json.specs.Ascii as ascii
 use Rattle.json.specs.Find.{get, at}

@@ -1,6 +1,5 @@
 -- Why a text gives no table.
 use Rattle.std.specs.Prelude.{◌≡◌, ℕ, List, ◌++◌, ⊤}
-use Rattle.std.specs.Borrow.{Bor}
 use Rattle.description_json.specs.declared.error.JsonError.{JsonError}
 use Rattle.description_json.specs.declared.error.JsonError.TheVariants.{Memory, Content}
 use Rattle.description_json.specs.declared.error.JsonFault.{JsonFault}

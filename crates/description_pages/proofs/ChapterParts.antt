@@ -7,7 +7,7 @@ use Rattle.page_model.specs.View.{block_of, chapter_of, chapters_in, part_of}
 use Rattle.page_model.specs.declared.parts.Chapter.{Chapter, Chapter-F, roll-Chapter, the_lemmas}
 use Rattle.description.specs.Content.{LevelSaid, level, GroupsSaid, no_groups, groups, GroupSaid, group, CommandsSaid, no_commands, commands, CommandSaid, command}
 use Rattle.description.specs.Words.{WordsSaid}
-use Rattle.description_pages.specs.Chapters.{EachLevelHasItsChapter, chapter_from, chapter_if_shown, chapter_with, chapters_in_group, chapters_on, command_chapters, group_chapters, all_alone, each_alone}
+use Rattle.description_pages.specs.Chapters.{EachLevelHasItsChapter, chapter_if_shown, chapter_with, chapters_in_group, chapters_on, command_chapters, group_chapters, all_alone, each_alone}
 use Rattle.description.specs.View.{command_said, level_said}
 use Rattle.description.specs.declared.levels.Command.{Command, out-Command}
 use Rattle.description.proofs.Views.{open-Command}

@@ -1,8 +1,8 @@
 -- The lists of a page have the entries of their rows, each key once.
 use Rattle.std.proofs.Common.{◌≡◌, ◌==◌, ℕ, Bool, true, false, List, [], ◌∷◌, ◌++◌, Option, Some, None, refl, sym, ap, ◌∙◌, subst, append-nil}
-use Rattle.std.specs.Prelude.{flat_map, bytes_eq, not, ◌&&◌, ◌||◌, if◌then◌else◌}
+use Rattle.std.specs.Prelude.{flat_map, bytes_eq, not, ◌||◌, if◌then◌else◌}
 use Rattle.std.specs.Cmp.Lexicographic.{bytes_decides}
-use Rattle.std.specs.List.{list_all, list_any}
+use Rattle.std.specs.List.{list_all}
 use Rattle.std.proofs.lemmas.Bool.{and_from, and_parts, eq-eqb, eqb-true, false≢true}
 use Rattle.std.proofs.lemmas.Grind.{flat_map-append}
 use Rattle.std.proofs.lemmas.List.Folds.{list_any-append}
@@ -10,11 +10,11 @@ use Rattle.page_model.specs.Content.{BlockSaid, EntrySaid}
 use Rattle.description.specs.Content.{NameSaid, short, long, both, OptSaid, TopicSaid, LevelSaid, level, GroupsSaid, no_groups, groups}
 use Rattle.description.specs.Words.{WordsSaid}
 use Rattle.description_pages.specs.Keys.{KeySaid, by_names, by_syntax, by_word, by_command, RowSaid, entries_once, option_key, same_key, same_name, same_value}
-use Rattle.description_pages.specs.Levels.{SubjectSaid, notes_of, texts_of}
+use Rattle.description_pages.specs.Levels.{notes_of, texts_of}
 use Rattle.description_pages.specs.Listed.{AreShownOnce, EachKeyIsListedOnce, HelpOptionsAreListed, are_new, entries_in, grouped_rows, has_key, level_rows, own_option_rows, same_row, unless_empty}
 use Rattle.description_pages.specs.Once.{each_once, new_behind}
-use Rattle.description_pages.specs.Sections.{SectionSaid, argument_section, choice_rows, command_rows, command_section, given_blocks, group_rows, group_section, group_sections, group_title, list_section, list_sections, option_rows, option_rows_of, option_section, text_section, value_rows}
-use Rattle.description_pages.specs.Topics.{is_place, merged, own_section, own_sections, place_of, placed_blocks, topic_blocks}
+use Rattle.description_pages.specs.Sections.{SectionSaid, argument_section, choice_rows, command_rows, command_section, group_rows, group_section, group_sections, group_title, list_section, list_sections, option_rows, option_rows_of, option_section, text_section, value_rows}
+use Rattle.description_pages.specs.Topics.{own_section, own_sections}
 use Rattle.description_pages.specs.declared.levels.Depth.{Depth}
 use Rattle.description_pages.specs.declared.sections.Detail.{Detail}
 

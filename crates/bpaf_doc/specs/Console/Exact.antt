@@ -93,7 +93,7 @@ placed margin slice weight page =
 -- ---- the chunks of a text
 
 -- A Raw chunk, at the margin of its text. Step 1 is skipped where there is no text yet. Otherwise what is asked for is
--- put at its end, and then either (c), where a blank is dropped and what was asked for still is, or the slice is placed.
+-- put at its end, and then comes (c), where a blank is dropped and what was asked for still is, or the slice is placed.
 abbrev pub raw_put : ℕ → ℕ → List ℕ → ℕ → PageSoFar → PageSoFar
 raw_put width margin slice weight page =
     let met : PageSoFar = request_met page in

@@ -1,6 +1,6 @@
 -- Groups, and entries outside them, taken from the front of a list.
 use Rattle.std.specs.Prelude.{if◌then◌else◌, ◌&&◌, ◌++◌, ◌+◌, ◌<◌, ◌∷◌, ◌≡◌, ◌≤◌}
-use Rattle.bpaf_items.proofs.Words.{get_or, ℕ, Bool, true, false, not, List, [], length, map, take, drop, refl, sym, ap, ◌∙◌, subst, append_assoc, add-one, zero, suc, arith, filter, flat_map, count_by, nat_lt, Option, Some, None, Bor, position, range_with_len, take-append_seam, drop-append_seam, map-append, length-append, take-map, drop-map, Part, Write, with_writes, with_writes-append, HiTy, Entry, group_start, group_end, placed_after, is_group_start, is_group_end, is_group_mark, is_adjacent_start, is_adjacent_stop, lacks_help, group_members, outside_groups, both_places, HasNoGroupMark, HasPairedGroups, stays, kept_entries, Texts, groups_writes, heading_writes, list_writes, group_lists, group_len, heading_end, headings_writes, items_of_type, len_through, Takes, title_front, entry_at, entry_of}
+use Rattle.bpaf_items.proofs.Words.{get_or, ℕ, Bool, true, false, not, List, [], length, map, take, drop, refl, sym, ap, ◌∙◌, subst, append_assoc, add-one, zero, suc, arith, filter, flat_map, count_by, nat_lt, Option, Some, None, Bor, position, range_with_len, take-append_seam, drop-append_seam, map-append, length-append, take-map, drop-map, Part, Write, with_writes, with_writes-append, HiTy, Entry, group_start, group_end, placed_after, is_group_start, is_group_end, is_group_mark, is_adjacent_start, is_adjacent_stop, lacks_help, group_members, outside_groups, both_places, HasNoGroupMark, HasPairedGroups, stays, kept_entries, Texts, groups_writes, heading_writes, list_writes, group_lists, group_len, heading_end, three_headings, items_of_type, len_through, Takes, title_front, entry_at, entry_of}
 use Rattle.bpaf_items.specs.declared.meta_help.entry.HiTy.TheVariants as ty
 use Rattle.bpaf_items.specs.declared.meta_help.entry.HelpItem.{HelpItem}
 use Rattle.bpaf_items.proofs.Listing.Placing.{entry, chosen-append, kept_map}
@@ -173,5 +173,5 @@ module _ {B : Type 0} where
 
 -- ---- groups and headings
 
-pub all_writes : (included : Bool) (texts : Texts) (es : List Entry) → group_lists included texts es ++ headings_writes included texts (items_of_type (outside_groups es)) ≡ groups_writes included texts es
-all_writes included texts es = λ i. group_lists included texts es ++ headings_writes included texts (λ k. sym (headings_agree es k) i)
+pub all_writes : (included : Bool) (texts : Texts) (es : List Entry) → group_lists included texts es ++ three_headings included texts (items_of_type (outside_groups es)) ≡ groups_writes included texts es
+all_writes included texts es = λ i. group_lists included texts es ++ three_headings included texts (λ k. sym (headings_agree es k) i)

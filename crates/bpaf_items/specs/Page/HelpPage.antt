@@ -25,15 +25,15 @@ abbrev pub group_lists : (include_env : Bool) → Texts → List Entry → List 
 group_lists include texts es = flat_map (λ n. list_writes include texts (group_members es n)) (group_numbers es)
 
 -- the three headings, over the entries of each type
-abbrev pub headings_writes : (include_env : Bool) → Texts → (HiTy → List Entry) → List Write
-headings_writes include texts members =
+abbrev pub three_headings : (include_env : Bool) → Texts → (HiTy → List Entry) → List Write
+three_headings include texts members =
     heading_writes include texts (codes "Available positional items:") (members ty.Positional)
     ++ heading_writes include texts (codes "Available options:") (members ty.Flag)
     ++ heading_writes include texts (codes "Available commands:") (members ty.Command)
 
 -- `write_help_item_groups`: the groups in order, and then the three headings
 abbrev pub groups_writes : (include_env : Bool) → Texts → List Entry → List Write
-groups_writes include texts es = group_lists include texts es ++ headings_writes include texts (heading_members es)
+groups_writes include texts es = group_lists include texts es ++ three_headings include texts (heading_members es)
 
 -- a document between the marks of a block, if there is one
 abbrev pub doc_within : Block → Option (List Part) → List Write

@@ -48,7 +48,8 @@ keys_tied =
     (λ k l. options_tied same_document document_cmp documents_tied (key_help k) (key_help l)))))
 
 pub keys_equiv : IsEquivalence same_key
-keys_equiv = subst (λ (eq : Key → Key → Bool). IsEquivalence eq) (λ i k l. sym (keys_tied k l) i) (eq_by_cmp_equiv keys_total)
+keys_equiv = subst (λ (eq : Key → Key → Bool). IsEquivalence eq) (λ i k l. sym (keys_tied k l) i)
+    (eq_by_cmp_equiv keys_total)
 
 pub keys_partial : IsPartialOrder same_key (as_partial_cmp key_cmp)
 keys_partial = partial_order_from_agreeing_total key_cmp keys_total (λ k l. refl) keys_tied
@@ -61,7 +62,8 @@ texts_are xs ys = (bytes_decides xs ys).0
 names_are : (n m : Name) → same_name n m ≡ true → n ≡ m
 names_are (short c) (short d) h = ap short ((unsigned_Decides c d).0 (first_so (nat_eq c d) true h))
 names_are (long n) (long m) h = ap long (texts_are n m h)
-names_are (both c n) (both d m) h = cc ((unsigned_Decides c d).0 (first_so (nat_eq c d) _ h), texts_are n m (second_so (nat_eq c d) _ h))
+names_are (both c n) (both d m) h =
+    cc ((unsigned_Decides c d).0 (first_so (nat_eq c d) _ h), texts_are n m (second_so (nat_eq c d) _ h))
 names_are n m h = cc
 
 helps_are : (h i : Option (List Part)) → same_help h i ≡ true → h ≡ i
@@ -78,7 +80,8 @@ keys_are (flag_key m h) (flag_key n i) e =
     cc (names_are m n (first_so (same_name m n) _ e), helps_are h i (second_so (same_name m n) _ e))
 keys_are (argument_key m v h) (argument_key n w i) e =
     let rest = second_so (same_name m n) (same_text v w && same_help h i) e in
-    cc (names_are m n (first_so (same_name m n) _ e), texts_are v w (first_so (same_text v w) _ rest), helps_are h i (second_so (same_text v w) _ rest))
+    cc (names_are m n (first_so (same_name m n) _ e), texts_are v w (first_so (same_text v w) _ rest),
+        helps_are h i (second_so (same_text v w) _ rest))
 keys_are k l e = cc
 
 pub key_fed : (k l : Key) → same_key k l ≡ true → key_input k ≡ key_input l

@@ -7,7 +7,7 @@ ghost use Rattle.bpaf_items.specs.Listing.Falls.{is_adjacent_start, is_adjacent_
 ghost use Rattle.bpaf_items.specs.Listing.Falls.{items_of_type, lacks_help, outside_groups};
 ghost use Rattle.bpaf_items.specs.Listing.Groups.{HasPairedGroups, kept_entries};
 ghost use Rattle.bpaf_items.specs.Page.EnvTexts.{texts_in};
-ghost use Rattle.bpaf_items.specs.Page.HelpPage.{group_lists, groups_writes, heading_writes, headings_writes, list_writes};
+ghost use Rattle.bpaf_items.specs.Page.HelpPage.{group_lists, groups_writes, heading_writes, three_headings, list_writes};
 ghost use Rattle.bpaf_items.specs.Page.Steps.Groups.{Takes, group_len};
 ghost use Rattle.bpaf_items.specs.Page.Steps.Pieces.{Leaves};
 ghost use Rattle.bpaf_items.specs.View.{entry_at, entry_of};
@@ -102,7 +102,7 @@ impl<'t, C: Allocator, L: Allocator + Copy> Writer<'t, C, L> {
         outside: &[&HelpItem<'a, B>],
     ) -> Result<(), AllocError>
         ensures { Leaves result doc.old doc.new
-            (headings_writes self.now.include_env (texts_in self.now.texts.now)
+            (three_headings self.now.include_env (texts_in self.now.texts.now)
             (items_of_type (map entry_at outside.now))) }
     {
         self.put_heading(

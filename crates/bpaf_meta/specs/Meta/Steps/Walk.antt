@@ -1,7 +1,7 @@
 -- The positional check as it goes through a tree. These definitions only lead from the code to `Misplaced`.
 use Rattle.std.specs.Prelude.{◌≡◌, Bool, false, ◌&&◌, ◌||◌, not, if◌then◌else◌, Option, Some, None, Result, Ok, Err, IfSome}
 use Rattle.std.specs.Borrow.{Bor}
-use Rattle.bpaf_meta.specs.Content.{Tree, and_of, or_of, optional, required, adjacent, item, many, subsection, suffix, skip, custom_usage, strict, Trees, no_trees, tree, Leaf, positional, command}
+use Rattle.bpaf_meta.specs.Content.{Tree, and_of, or_of, optional, required, adjacent, item, many, subsection, suffix, skip, custom_usage, strict, Trees, no_trees, tree, Leaf, command}
 use Rattle.bpaf_meta.specs.View.{leaf_of}
 use Rattle.bpaf_meta.specs.declared.item.Item.{Item}
 use Rattle.bpaf_meta.specs.Meta.Misplaced.{is_positional, first_item}

@@ -1,4 +1,4 @@
-use Rattle.std.proofs.Common.{◌≡◌, ◌+◌, ◌-◌, ◌<◌, false, true, Some, None, drop, length, option_map, sym, ap, ◌∙◌, arith}
+use Rattle.std.proofs.Common.{◌≡◌, ◌+◌, ◌-◌, false, drop, option_map, sym, ap, ◌∙◌, arith}
 use Rattle.json.specs.Value as json_view
 use Rattle.toml.specs.View.{members_view, view}
 use Rattle.description_json.specs.Tables.{items_data, members_data}
