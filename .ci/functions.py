@@ -99,23 +99,23 @@ class Reader:
 
 def impl_of(head):
     """The impl that has these words after `impl`."""
-    parameters = head[: behind_angles(head)] if head[0] == "<" else []
+    parameters = head[: after_angles(head)] if head[0] == "<" else []
     own = {word for before, word in zip(parameters, parameters[1:]) if before in ("<", ",", "const")}
     head = head[len(parameters) :]
     depth, type, is_inherent, words = 0, "", True, set()
-    for before, word, behind in zip(["", *head], head, [*head[1:], ""]):
+    for before, word, after in zip(["", *head], head, [*head[1:], ""]):
         depth += (word == "<") - (word == ">" and before != "-")
         if word == "where" and not depth:
             break
         if word == "for" and not depth:
             is_inherent = False
-        elif word.isidentifier() and behind != ":":
+        elif word.isidentifier() and after != ":":
             type = word if not depth else type
             words |= {word} - own - UNNAMED
     return Block(type, is_inherent, words)
 
 
-def behind_angles(words):
+def after_angles(words):
     """How many of these words stand up to the end of the angle brackets that the first one opens."""
     depth = 0
     for at, word in enumerate(words):

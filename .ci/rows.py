@@ -10,8 +10,8 @@ HEAD = """# Rows of the rules
 
 A row is an input with what comes of it. Each has a number here, in the order of the files that hold them, and what runs it in the gate:
 
-- `replay`: so many requests, behind a remark of these words in `crates/replay/stdin`. Their answers are in the golden file `stdout` beside it;
-- the crate `rows`: so many of its equations, behind a comment of these words in its `proofs/`. Each is proved, most by computing;
+- `replay`: so many requests, after a remark of these words in `crates/replay/stdin`. Their answers are in the golden file `stdout` beside it;
+- the crate `rows`: so many of its equations, after a comment of these words in its `proofs/`. Each is proved, most by computing;
 - a test function, which says in its name what holds;
 - a table of rows that a test goes through, listed there with what it shows;
 - a program: what it is run on and its golden file, beside its sources.

@@ -100,11 +100,11 @@ def word_faults(page, text):
     for word in words_of(man.keeps(page)):
         if not word.isascii():
             continue
-        before, found, rest_behind = rest.partition(word)
+        before, found, rest_after = rest.partition(word)
         if not found:
             yield f"groff does not show {word!r}"
             return
-        rest = rest_behind
+        rest = rest_after
 
 
 def of_cmark(node):
@@ -198,7 +198,7 @@ def heading_faults(nodes):
     ranks = [0] + [int(node.kind[1]) for node in nodes if re.fullmatch("h[1-6]", node.kind)]
     for above, below in zip(ranks, ranks[1:]):
         if below > above + 1 and ranks != [0, 1, 3]:
-            yield f"h{below} stands behind h{above}"
+            yield f"h{below} stands after h{above}"
 
 
 def console_faults(page, width):

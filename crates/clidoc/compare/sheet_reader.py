@@ -67,7 +67,7 @@ def glyphs(line, other=False):
                 raise Refused(f"a glyph {name!r}")
             shown.append((SPECIALS[name], font))
         elif sign == "f":
-            font = font_behind(font, next(rest, ""))
+            font = font_after(font, next(rest, ""))
         elif sign == "N":
             shown.append((chr(number_of(rest)), font))
         else:
@@ -77,7 +77,7 @@ def glyphs(line, other=False):
     return shown
 
 
-def font_behind(font, name):
+def font_after(font, name):
     """Bold or italic begins in roman, and ends there."""
     if font == "R" and name in ("B", "I"):
         return name

@@ -14,9 +14,9 @@ use Rattle.clidoc_engine.specs.Words.{Given, given_in, PageSaid, console, html, 
 
 -- ---- the first word, and those after it
 
-pub chosen_otherwise : (terminal : ℕ) (words : List (List ℕ)) (word : List ℕ) (behind : List (List ℕ)) (g : Given) → given_in words ≡ Some g → g.plain ++ g.files ≡ word ∷ behind
-    → ((choice : ChoiceSaid) → ¬ Takes terminal word behind g choice) → (choice : ChoiceSaid) → ¬ ChoosesWork terminal words choice
-chosen_otherwise terminal words word behind g given split none choice h = grind arith
+pub chosen_otherwise : (terminal : ℕ) (words : List (List ℕ)) (word : List ℕ) (after : List (List ℕ)) (g : Given) → given_in words ≡ Some g → g.plain ++ g.files ≡ word ∷ after
+    → ((choice : ChoiceSaid) → ¬ Takes terminal word after g choice) → (choice : ChoiceSaid) → ¬ ChoosesWork terminal words choice
+chosen_otherwise terminal words word after g given split none choice h = grind arith
 
 pub nothing_given : (terminal : ℕ) (words : List (List ℕ)) → given_in words ≡ None → (choice : ChoiceSaid) → ¬ ChoosesWork terminal words choice
 nothing_given terminal words none choice h = grind arith
@@ -24,10 +24,10 @@ nothing_given terminal words none choice h = grind arith
 pub no_word : (terminal : ℕ) (words : List (List ℕ)) (g : Given) → given_in words ≡ Some g → g.plain ≡ [] → (choice : ChoiceSaid) → ¬ ChoosesWork terminal words choice
 no_word terminal words g given none choice h = grind arith
 
-pub chosen : {T : Type 0} (said : T → ChoiceSaid) (terminal : ℕ) (words : List (List ℕ)) (word : List ℕ) (behind : List (List ℕ)) (g : Given) (r : Result T WordFault) → Split words word behind g
-    → IfOk r (λ t. Takes terminal word behind g (said t)) → IfOk r (λ t. ChoosesWork terminal words (said t))
-chosen said terminal words word behind g (Ok t) split h = (word, behind, g, split, h)
-chosen said terminal words word behind g (Err f) split h = tt
+pub chosen : {T : Type 0} (said : T → ChoiceSaid) (terminal : ℕ) (words : List (List ℕ)) (word : List ℕ) (after : List (List ℕ)) (g : Given) (r : Result T WordFault) → Split words word after g
+    → IfOk r (λ t. Takes terminal word after g (said t)) → IfOk r (λ t. ChoosesWork terminal words (said t))
+chosen said terminal words word after g (Ok t) split h = (word, after, g, split, h)
+chosen said terminal words word after g (Err f) split h = tt
 
 -- ---- a word of its own is no other's
 
@@ -52,9 +52,9 @@ unnamed terminal word g e p h = false≢true (sym e ∙ named terminal word g p 
 apart : (word one other : List ℕ) → word ≡ one → word ≡ other → bytes_eq one one ≡ true → bytes_eq other one ≡ false → ⊥
 apart word one other e f same differ = false≢true (sym differ ∙ ap (λ w. bytes_eq w one) (sym f ∙ e) ∙ same)
 
-module _ (terminal : ℕ) (word : List ℕ) (behind : List (List ℕ)) (g : Given) where
+module _ (terminal : ℕ) (word : List ℕ) (after : List (List ℕ)) (g : Given) where
   -- of pages the one in a shell has a word of its own
-  pub taken_page : (p : PageSaid) (file : Option (List ℕ)) → IsPageOf terminal word behind g p file → Takes terminal word behind g (page p file)
+  pub taken_page : (p : PageSaid) (file : Option (List ℕ)) → IsPageOf terminal word after g p file → Takes terminal word after g (page p file)
   taken_page (console form commands width) file h = h
   taken_page (html extent commands title) file h = h
   taken_page (markdown commands depth) file h = h
@@ -64,7 +64,7 @@ module _ (terminal : ℕ) (word : List ℕ) (behind : List (List ℕ)) (g : Give
   taken_page (differences text commands) file h = absurd h.1
 
   -- the first word of a page: that of a completion, that of JSON, or that of another page
-  no_page : is_page_word word ≡ false → word ≢ codes "complete" → word ≢ codes "json" → (p : PageSaid) (file : Option (List ℕ)) → ¬ Takes terminal word behind g (page p file)
+  no_page : is_page_word word ≡ false → word ≢ codes "complete" → word ≢ codes "json" → (p : PageSaid) (file : Option (List ℕ)) → ¬ Takes terminal word after g (page p file)
   no_page e f j (completion shell) file h = f h.0
   no_page e f j in_json file h = j h.0
   no_page e f j (differences text commands) file h = absurd h.1
@@ -73,7 +73,7 @@ module _ (terminal : ℕ) (word : List ℕ) (behind : List (List ℕ)) (g : Give
   no_page e f j (markdown commands depth) file h = unnamed terminal word g e (markdown commands depth) h.1
   no_page e f j (man commands depth title) file h = unnamed terminal word g e (man commands depth title) h.1
 
-  pub only_check : word ≡ codes "check" → ((is_strict : Bool) (file : Option (List ℕ)) → ¬ IsCheck behind g is_strict file) → (choice : ChoiceSaid) → ¬ Takes terminal word behind g choice
+  pub only_check : word ≡ codes "check" → ((is_strict : Bool) (file : Option (List ℕ)) → ¬ IsCheck after g is_strict file) → (choice : ChoiceSaid) → ¬ Takes terminal word after g choice
   only_check e none (page p file) h = no_page (ap is_page_word e) (λ f. apart word (codes "check") (codes "complete") e f refl refl) (λ f. apart word (codes "check") (codes "json") e f refl refl) p file h
   only_check e none (check is_strict file) h = none is_strict file h.1
   only_check e none (all folder title file) h = apart word (codes "check") (codes "all") e h.0 refl refl
@@ -82,7 +82,7 @@ module _ (terminal : ℕ) (word : List ℕ) (behind : List (List ℕ)) (g : Give
   only_check e none help h = h
   only_check e none version h = h
 
-  pub only_all : word ≡ codes "all" → ((folder : List ℕ) (title : TitleGiven) (file : Option (List ℕ)) → ¬ IsAll behind g folder title file) → (choice : ChoiceSaid) → ¬ Takes terminal word behind g choice
+  pub only_all : word ≡ codes "all" → ((folder : List ℕ) (title : TitleGiven) (file : Option (List ℕ)) → ¬ IsAll after g folder title file) → (choice : ChoiceSaid) → ¬ Takes terminal word after g choice
   only_all e none (page p file) h = no_page (ap is_page_word e) (λ f. apart word (codes "all") (codes "complete") e f refl refl) (λ f. apart word (codes "all") (codes "json") e f refl refl) p file h
   only_all e none (check is_strict file) h = apart word (codes "all") (codes "check") e h.0 refl refl
   only_all e none (all folder title file) h = none folder title file h.1
@@ -91,7 +91,7 @@ module _ (terminal : ℕ) (word : List ℕ) (behind : List (List ℕ)) (g : Give
   only_all e none help h = h
   only_all e none version h = h
 
-  pub only_completion : word ≡ codes "complete" → ((shell : Shell) (file : Option (List ℕ)) → ¬ IsComplete behind g shell file) → (choice : ChoiceSaid) → ¬ Takes terminal word behind g choice
+  pub only_completion : word ≡ codes "complete" → ((shell : Shell) (file : Option (List ℕ)) → ¬ IsComplete after g shell file) → (choice : ChoiceSaid) → ¬ Takes terminal word after g choice
   only_completion e none (page (completion shell) file) h = none shell file h.1
   only_completion e none (page (console form commands width) file) h = unnamed terminal word g (ap is_page_word e) (console form commands width) h.1
   only_completion e none (page (html extent commands title) file) h = unnamed terminal word g (ap is_page_word e) (html extent commands title) h.1
@@ -106,7 +106,7 @@ module _ (terminal : ℕ) (word : List ℕ) (behind : List (List ℕ)) (g : Give
   only_completion e none help h = h
   only_completion e none version h = h
 
-  pub only_json : word ≡ codes "json" → ((file : Option (List ℕ)) → ¬ IsJson behind g file) → (choice : ChoiceSaid) → ¬ Takes terminal word behind g choice
+  pub only_json : word ≡ codes "json" → ((file : Option (List ℕ)) → ¬ IsJson after g file) → (choice : ChoiceSaid) → ¬ Takes terminal word after g choice
   only_json e none (page (completion shell) file) h = apart word (codes "json") (codes "complete") e h.0 refl refl
   only_json e none (page (differences text commands) file) h = absurd h.1
   only_json e none (page in_json file) h = none file h.1
@@ -121,7 +121,7 @@ module _ (terminal : ℕ) (word : List ℕ) (behind : List (List ℕ)) (g : Give
   only_json e none help h = h
   only_json e none version h = h
 
-  pub only_draft : word ≡ codes "draft" → ((name file : Option (List ℕ)) → ¬ IsDraft behind g name file) → (choice : ChoiceSaid) → ¬ Takes terminal word behind g choice
+  pub only_draft : word ≡ codes "draft" → ((name file : Option (List ℕ)) → ¬ IsDraft after g name file) → (choice : ChoiceSaid) → ¬ Takes terminal word after g choice
   only_draft e none (page p file) h = no_page (ap is_page_word e) (λ f. apart word (codes "draft") (codes "complete") e f refl refl) (λ f. apart word (codes "draft") (codes "json") e f refl refl) p file h
   only_draft e none (check is_strict file) h = apart word (codes "draft") (codes "check") e h.0 refl refl
   only_draft e none (all folder title file) h = apart word (codes "draft") (codes "all") e h.0 refl refl
@@ -130,7 +130,7 @@ module _ (terminal : ℕ) (word : List ℕ) (behind : List (List ℕ)) (g : Give
   only_draft e none help h = h
   only_draft e none version h = h
 
-  pub only_against : word ≡ codes "against" → ((printed : List ℕ) (commands : List (List ℕ)) (file : Option (List ℕ)) → ¬ IsAgainst behind g printed commands file) → (choice : ChoiceSaid) → ¬ Takes terminal word behind g choice
+  pub only_against : word ≡ codes "against" → ((printed : List ℕ) (commands : List (List ℕ)) (file : Option (List ℕ)) → ¬ IsAgainst after g printed commands file) → (choice : ChoiceSaid) → ¬ Takes terminal word after g choice
   only_against e none (page p file) h = no_page (ap is_page_word e) (λ f. apart word (codes "against") (codes "complete") e f refl refl) (λ f. apart word (codes "against") (codes "json") e f refl refl) p file h
   only_against e none (check is_strict file) h = apart word (codes "against") (codes "check") e h.0 refl refl
   only_against e none (all folder title file) h = apart word (codes "against") (codes "all") e h.0 refl refl
@@ -139,7 +139,7 @@ module _ (terminal : ℕ) (word : List ℕ) (behind : List (List ℕ)) (g : Give
   only_against e none help h = h
   only_against e none version h = h
 
-  pub only_page : word ≢ codes "check" → word ≢ codes "all" → word ≢ codes "complete" → word ≢ codes "json" → word ≢ codes "draft" → word ≢ codes "against" → ((p : PageSaid) (file : Option (List ℕ)) → ¬ IsPageOf terminal word behind g p file) → (choice : ChoiceSaid) → ¬ Takes terminal word behind g choice
+  pub only_page : word ≢ codes "check" → word ≢ codes "all" → word ≢ codes "complete" → word ≢ codes "json" → word ≢ codes "draft" → word ≢ codes "against" → ((p : PageSaid) (file : Option (List ℕ)) → ¬ IsPageOf terminal word after g p file) → (choice : ChoiceSaid) → ¬ Takes terminal word after g choice
   only_page no_check no_all no_completion no_json no_draft no_against none (page (completion shell) file) h = no_completion h.0
   only_page no_check no_all no_completion no_json no_draft no_against none (page in_json file) h = no_json h.0
   only_page no_check no_all no_completion no_json no_draft no_against none (page (differences text commands) file) h = absurd h.1

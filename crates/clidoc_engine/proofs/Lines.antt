@@ -4,7 +4,7 @@ use Rattle.std.specs.List.{list_any}
 use Rattle.std.proofs.Common.{◌∙◌, ap, arith, get_or, zero-add}
 use Rattle.std.proofs.lemmas.List.{take_more}
 use Rattle.std.proofs.lemmas.List.Sums.{sum_by-append}
-use Rattle.clidoc_engine.specs.Places.{begins_character, column_behind, is_newline, last_line, line_behind}
+use Rattle.clidoc_engine.specs.Places.{begins_character, column_after, is_newline, last_line, line_after}
 
 any_last : (front : List ℕ) (byte : ℕ) → is_newline byte ≡ true → list_any is_newline (front ++ byte ∷ []) ≡ true
 any_last [] byte newline = rw newline refl
@@ -33,19 +33,19 @@ count_last p front byte = sum_by-append (λ x. cond (p x) 1 0) front (byte ∷ [
 
 -- ---- what the byte at i does to the place after the front of that length
 
-pub line-newline : (xs : List ℕ) (i : ℕ) → i < length xs → is_newline (get_or xs i 0) ≡ true → line_behind (take (i + 1) xs) ≡ line_behind (take i xs) + 1
+pub line-newline : (xs : List ℕ) (i : ℕ) → i < length xs → is_newline (get_or xs i 0) ≡ true → line_after (take (i + 1) xs) ≡ line_after (take i xs) + 1
 line-newline xs i inside newline = rw (take_more xs i 0 inside, count_last is_newline (take i xs) (get_or xs i 0), newline) (omega arith)
 
-pub line-more : (xs : List ℕ) (i : ℕ) → i < length xs → is_newline (get_or xs i 0) ≡ false → line_behind (take (i + 1) xs) ≡ line_behind (take i xs)
+pub line-more : (xs : List ℕ) (i : ℕ) → i < length xs → is_newline (get_or xs i 0) ≡ false → line_after (take (i + 1) xs) ≡ line_after (take i xs)
 line-more xs i inside other = rw (take_more xs i 0 inside, count_last is_newline (take i xs) (get_or xs i 0), other) (omega arith)
 
-pub column-newline : (xs : List ℕ) (i : ℕ) → i < length xs → is_newline (get_or xs i 0) ≡ true → column_behind (take (i + 1) xs) ≡ 1
+pub column-newline : (xs : List ℕ) (i : ℕ) → i < length xs → is_newline (get_or xs i 0) ≡ true → column_after (take (i + 1) xs) ≡ 1
 column-newline xs i inside newline = rw (take_more xs i 0 inside, last_line-newline (take i xs) (get_or xs i 0) newline) refl
 
 pub column-begins : (xs : List ℕ) (i : ℕ) → i < length xs → is_newline (get_or xs i 0) ≡ false → begins_character (get_or xs i 0) ≡ true
-    → column_behind (take (i + 1) xs) ≡ column_behind (take i xs) + 1
+    → column_after (take (i + 1) xs) ≡ column_after (take i xs) + 1
 column-begins xs i inside other begins = grind (arith, take_more xs i 0 inside, last_line-more (take i xs) (get_or xs i 0) other, count_last begins_character (last_line (take i xs)) (get_or xs i 0))
 
 pub column-goes_on : (xs : List ℕ) (i : ℕ) → i < length xs → is_newline (get_or xs i 0) ≡ false → begins_character (get_or xs i 0) ≡ false
-    → column_behind (take (i + 1) xs) ≡ column_behind (take i xs)
+    → column_after (take (i + 1) xs) ≡ column_after (take i xs)
 column-goes_on xs i inside other goes_on = grind (arith, take_more xs i 0 inside, last_line-more (take i xs) (get_or xs i 0) other, count_last begins_character (last_line (take i xs)) (get_or xs i 0))

@@ -17,7 +17,7 @@ use Rattle.clidoc_engine.specs.declared.notation.Notation.{Notation}
 use Rattle.clidoc_engine.specs.declared.notation.Notation.TheVariants.{Json, Toml}
 use Rattle.clidoc_engine.specs.declared.places.Place.{Place}
 use Rattle.clidoc_engine.specs.Newlines.{without_returns}
-use Rattle.clidoc_engine.specs.Places.{column_behind, line_behind}
+use Rattle.clidoc_engine.specs.Places.{column_after, line_after}
 
 -- ---- its notation, and its table
 
@@ -63,8 +63,8 @@ pub record HasWarnings (count : ℕ) (file text : List ℕ) : Type 0 where
 -- the input is not UTF-8, and the place is that of its first byte that is not part of a character
 pub record IsNoText (input : List ℕ) (place : Place) : Type 0 where
   pub refused : ¬ IsUtf8 input
-  pub line : place.line ≡ line_behind (take (utf8_valid_len input) input)
-  pub column : place.column ≡ column_behind (take (utf8_valid_len input) input)
+  pub line : place.line ≡ line_after (take (utf8_valid_len input) input)
+  pub column : place.column ≡ column_after (take (utf8_valid_len input) input)
 
 -- The text is not TOML, the error has a span in it, and the place is where this span begins. The kit says no more of an error: that
 -- reading this text gave it is only tested.
@@ -72,8 +72,8 @@ pub record IsNoTomlText (text : List ℕ) (place : Place) (error : Error) : Type
   pub refused : parse_document text ≡ None
   pub not_memory : ¬ IsMemory error
   pub within : IsWithin text error
-  pub line : place.line ≡ line_behind (take (span_start error) text)
-  pub column : place.column ≡ column_behind (take (span_start error) text)
+  pub line : place.line ≡ line_after (take (span_start error) text)
+  pub column : place.column ≡ column_after (take (span_start error) text)
 
 -- the text has to be TOML, and is none
 abbrev pub IsNoToml : (file text : List ℕ) → Place → Error → Type 0
@@ -83,10 +83,10 @@ IsNoToml file text place error = (notation_of file text ≡ Toml) × IsNoTomlTex
 pub record IsNoJsonText (text : List ℕ) (place : Place) : Type 0 where
   pub refused : json_table text ≡ None
   pub front : List ℕ
-  pub behind : List ℕ
-  pub whole : text ≡ front ++ behind
-  pub line : place.line ≡ line_behind front
-  pub column : place.column ≡ column_behind front
+  pub after : List ℕ
+  pub whole : text ≡ front ++ after
+  pub line : place.line ≡ line_after front
+  pub column : place.column ≡ column_after front
 
 -- the text has to be JSON, and gives no table
 abbrev pub IsNoJson : (file text : List ℕ) → Place → Type 0

@@ -15,9 +15,9 @@ last_line [] = []
 last_line (byte ∷ bytes) = if list_any is_newline (byte ∷ bytes) then last_line bytes else byte ∷ bytes
 
 -- the line that the front of a text ends in
-abbrev pub line_behind : (front : List ℕ) → ℕ
-line_behind front = 1 + count_by is_newline front
+abbrev pub line_after : (front : List ℕ) → ℕ
+line_after front = 1 + count_by is_newline front
 
 -- the column after it
-abbrev pub column_behind : (front : List ℕ) → ℕ
-column_behind front = 1 + count_by begins_character (last_line front)
+abbrev pub column_after : (front : List ℕ) → ℕ
+column_after front = 1 + count_by begins_character (last_line front)

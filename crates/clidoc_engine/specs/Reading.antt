@@ -4,7 +4,7 @@ use Rattle.clidoc_engine.specs.declared.reading.Given as of_given
 use Rattle.clidoc_engine.specs.declared.reading.Kind as of_kind
 use Rattle.clidoc_engine.specs.declared.reading.Kind.TheVariants as kinds
 use Rattle.clidoc_engine.specs.declared.reading.WordFault.{WordFault}
-use Rattle.clidoc_engine.specs.declared.reading.WordFault.TheVariants.{NoForm, NoSuchForm, FormBehind, NoSuchOption, NoValue, NoColumns, NoFolder, NoShell, NoSuchShell, NoHelp, Twice, TooMany, NotWith, NotAlone, Refused}
+use Rattle.clidoc_engine.specs.declared.reading.WordFault.TheVariants.{NoForm, NoSuchForm, FormAfter, NoSuchOption, NoValue, NoColumns, NoFolder, NoShell, NoSuchShell, NoHelp, Twice, TooMany, NotWith, NotAlone, Refused}
 use Rattle.clidoc_engine.specs.Chosen.{words_said}
 use Rattle.clidoc_engine.specs.declared.reading.Next.{Next}
 use Rattle.clidoc_engine.specs.declared.reading.Next.TheVariants.{Any, Value, File}
@@ -40,7 +40,7 @@ abbrev pub IsRefused : WordFault → Type 0
 IsRefused (Refused error) = ⊤
 IsRefused NoForm = ⊥
 IsRefused (NoSuchForm word) = ⊥
-IsRefused (FormBehind word form) = ⊥
+IsRefused (FormAfter word form) = ⊥
 IsRefused (NoSuchOption word) = ⊥
 IsRefused (NoValue word) = ⊥
 IsRefused (NoColumns word) = ⊥

@@ -95,10 +95,10 @@ pub data Kind : Type 0 where
   unknown : Kind
 
 -- what follows a front of the word
-abbrev pub behind : (front word : List ℕ) → Option (List ℕ)
-behind [] word = Some word
-behind (c ∷ cs) [] = None
-behind (c ∷ cs) (d ∷ ds) = if c == d then behind cs ds else None
+abbrev pub after : (front word : List ℕ) → Option (List ℕ)
+after [] word = Some word
+after (c ∷ cs) [] = None
+after (c ∷ cs) (d ∷ ds) = if c == d then after cs ds else None
 
 -- an option of these, with its value after `=`
 abbrev pub joined_to : Valued → (value : Option (List ℕ)) → (other : Kind) → Kind
@@ -107,7 +107,7 @@ joined_to o None other = other
 
 abbrev pub joined_kind : List Valued → (word : List ℕ) → Kind
 joined_kind [] word = unknown
-joined_kind (o ∷ os) word = joined_to o (behind (option_word o ++ codes "=") word) (joined_kind os word)
+joined_kind (o ∷ os) word = joined_to o (after (option_word o ++ codes "=") word) (joined_kind os word)
 
 -- a word that is not an option by itself
 abbrev pub other_kind : List ℕ → Kind
@@ -239,48 +239,48 @@ shell_word Fish = codes "fish"
 abbrev pub HasNoOption : Given → Type 0
 HasNoOption g = HasNoLevel g × HasNoTitle g × HasOnlyPageOptions g
 
-abbrev pub IsPageOf : (terminal : ℕ) → (word : List ℕ) → (behind : List (List ℕ)) → Given → PageSaid → (file : Option (List ℕ)) → Type 0
-IsPageOf terminal word behind g p file = (behind ≡ option_to_list file) × NamesPage terminal word g p × HasOnlyPageOptions g
+abbrev pub IsPageOf : (terminal : ℕ) → (word : List ℕ) → (after : List (List ℕ)) → Given → PageSaid → (file : Option (List ℕ)) → Type 0
+IsPageOf terminal word after g p file = (after ≡ option_to_list file) × NamesPage terminal word g p × HasOnlyPageOptions g
 
-abbrev pub IsCheck : (behind : List (List ℕ)) → Given → (is_strict : Bool) → (file : Option (List ℕ)) → Type 0
-IsCheck behind g is_strict file = (behind ≡ option_to_list file) × HasNoLevel g × HasNoTitle g × (g.folders ≡ []) × (g.names ≡ []) × IsStrict g.stricts is_strict
+abbrev pub IsCheck : (after : List (List ℕ)) → Given → (is_strict : Bool) → (file : Option (List ℕ)) → Type 0
+IsCheck after g is_strict file = (after ≡ option_to_list file) × HasNoLevel g × HasNoTitle g × (g.folders ≡ []) × (g.names ≡ []) × IsStrict g.stricts is_strict
 
-abbrev pub IsAll : (behind : List (List ℕ)) → Given → (folder : List ℕ) → TitleGiven → (file : Option (List ℕ)) → Type 0
-IsAll behind g folder title file = (behind ≡ option_to_list file) × HasNoLevel g × IsTitle g title × (g.folders ≡ folder ∷ []) × (g.stricts ≡ []) × (g.names ≡ [])
+abbrev pub IsAll : (after : List (List ℕ)) → Given → (folder : List ℕ) → TitleGiven → (file : Option (List ℕ)) → Type 0
+IsAll after g folder title file = (after ≡ option_to_list file) × HasNoLevel g × IsTitle g title × (g.folders ≡ folder ∷ []) × (g.stricts ≡ []) × (g.names ≡ [])
 
-abbrev pub IsComplete : (behind : List (List ℕ)) → Given → Shell → (file : Option (List ℕ)) → Type 0
-IsComplete behind g shell file = (behind ≡ shell_word shell ∷ option_to_list file) × HasNoOption g
+abbrev pub IsComplete : (after : List (List ℕ)) → Given → Shell → (file : Option (List ℕ)) → Type 0
+IsComplete after g shell file = (after ≡ shell_word shell ∷ option_to_list file) × HasNoOption g
 
-abbrev pub IsJson : (behind : List (List ℕ)) → Given → (file : Option (List ℕ)) → Type 0
-IsJson behind g file = (behind ≡ option_to_list file) × HasNoOption g
+abbrev pub IsJson : (after : List (List ℕ)) → Given → (file : Option (List ℕ)) → Type 0
+IsJson after g file = (after ≡ option_to_list file) × HasNoOption g
 
-abbrev pub IsDraft : (behind : List (List ℕ)) → Given → (name file : Option (List ℕ)) → Type 0
-IsDraft behind g name file = (behind ≡ option_to_list file) × HasNoLevel g × HasNoTitle g × (g.folders ≡ []) × (g.stricts ≡ []) × (g.names ≡ option_to_list name)
+abbrev pub IsDraft : (after : List (List ℕ)) → Given → (name file : Option (List ℕ)) → Type 0
+IsDraft after g name file = (after ≡ option_to_list file) × HasNoLevel g × HasNoTitle g × (g.folders ≡ []) × (g.stricts ≡ []) × (g.names ≡ option_to_list name)
 
-abbrev pub IsAgainst : (behind : List (List ℕ)) → Given → (printed : List ℕ) → (commands : List (List ℕ)) → (file : Option (List ℕ)) → Type 0
-IsAgainst behind g printed commands file =
-    (behind ≡ printed ∷ option_to_list file) × (commands ≡ g.commands) × (g.widths ≡ []) × (g.deeps ≡ []) × (g.fragments ≡ []) × HasNoTitle g × HasOnlyPageOptions g
+abbrev pub IsAgainst : (after : List (List ℕ)) → Given → (printed : List ℕ) → (commands : List (List ℕ)) → (file : Option (List ℕ)) → Type 0
+IsAgainst after g printed commands file =
+    (after ≡ printed ∷ option_to_list file) × (commands ≡ g.commands) × (g.widths ≡ []) × (g.deeps ≡ []) × (g.fragments ≡ []) × HasNoTitle g × HasOnlyPageOptions g
 
 -- the word, those after it, and the options choose this work
-abbrev pub Takes : (terminal : ℕ) → (word : List ℕ) → (behind : List (List ℕ)) → Given → ChoiceSaid → Type 0
-Takes terminal word behind g (page (completion shell) file) = (word ≡ codes "complete") × IsComplete behind g shell file
-Takes terminal word behind g (page in_json file) = (word ≡ codes "json") × IsJson behind g file
-Takes terminal word behind g (page p file) = IsPageOf terminal word behind g p file
-Takes terminal word behind g (check is_strict file) = (word ≡ codes "check") × IsCheck behind g is_strict file
-Takes terminal word behind g (all folder title file) = (word ≡ codes "all") × IsAll behind g folder title file
-Takes terminal word behind g (draft name file) = (word ≡ codes "draft") × IsDraft behind g name file
-Takes terminal word behind g (against printed commands file) = (word ≡ codes "against") × IsAgainst behind g printed commands file
-Takes terminal word behind g help = ⊥
-Takes terminal word behind g version = ⊥
+abbrev pub Takes : (terminal : ℕ) → (word : List ℕ) → (after : List (List ℕ)) → Given → ChoiceSaid → Type 0
+Takes terminal word after g (page (completion shell) file) = (word ≡ codes "complete") × IsComplete after g shell file
+Takes terminal word after g (page in_json file) = (word ≡ codes "json") × IsJson after g file
+Takes terminal word after g (page p file) = IsPageOf terminal word after g p file
+Takes terminal word after g (check is_strict file) = (word ≡ codes "check") × IsCheck after g is_strict file
+Takes terminal word after g (all folder title file) = (word ≡ codes "all") × IsAll after g folder title file
+Takes terminal word after g (draft name file) = (word ≡ codes "draft") × IsDraft after g name file
+Takes terminal word after g (against printed commands file) = (word ≡ codes "against") × IsAgainst after g printed commands file
+Takes terminal word after g help = ⊥
+Takes terminal word after g version = ⊥
 
 -- the first word that stands for itself, and all after it: the others, and the files
-pub record Split (words : List (List ℕ)) (word : List ℕ) (behind : List (List ℕ)) (g : Given) : Type 0 where
+pub record Split (words : List (List ℕ)) (word : List ℕ) (after : List (List ℕ)) (g : Given) : Type 0 where
   pub given : given_in words ≡ Some g
-  pub plain : g.plain ++ g.files ≡ word ∷ behind
+  pub plain : g.plain ++ g.files ≡ word ∷ after
   pub first : g.plain ≢ []
 
 abbrev pub ChoosesWork : (terminal : ℕ) → (words : List (List ℕ)) → ChoiceSaid → Type 0
-ChoosesWork terminal words choice = (word : List ℕ) × (behind : List (List ℕ)) × (g : Given) × Split words word behind g × Takes terminal word behind g choice
+ChoosesWork terminal words choice = (word : List ℕ) × (after : List (List ℕ)) × (g : Given) × Split words word after g × Takes terminal word after g choice
 
 -- one word, that is one of these
 abbrev pub is_one_of : (words : List (List ℕ)) → (long short : List ℕ) → Bool

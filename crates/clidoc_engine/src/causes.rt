@@ -2,7 +2,7 @@
 
 use crate::headers::late_header;
 use crate::open::open_at_end;
-use crate::places::{Place, place_behind};
+use crate::places::{Place, place_after};
 use std::alloc::{AllocError, Global};
 
 /// Why a text is not TOML, where an error of the reader does not say it.
@@ -72,7 +72,7 @@ fn is_of_a_line(mark: &str) -> bool {
 fn open_cause(text: &[u8]) -> Cause {
     match open_at_end(text) {
         Some(open) => Cause::Open {
-            place: place_behind(open.before),
+            place: place_after(open.before),
             mark: open.mark,
         },
         None => Cause::Unknown,

@@ -8,7 +8,7 @@ ghost use Rattle.clidoc_engine.specs.Inputs.{TellsTheFirst, count_of};
 use crate::echoed::Echoed;
 use crate::newlines::without_returns;
 use crate::notation::Notation;
-use crate::places::{Place, TOP, place_behind};
+use crate::places::{Place, TOP, place_after};
 use bumpalo::Bump;
 use description::Description;
 use description_hints::{Warning, warnings_of};
@@ -250,7 +250,7 @@ fn place_of(
     path: &[Step<'_>],
 ) -> Result<Option<Place>, AllocError> {
     match text_before(global, notation, text, path)? {
-        Some(before) => Ok(Some(place_behind(before.as_bytes()))),
+        Some(before) => Ok(Some(place_after(before.as_bytes()))),
         None => Ok(None),
     }
 }

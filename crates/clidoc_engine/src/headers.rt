@@ -25,8 +25,8 @@ impl Display for Header<'_> {
 /// The header of an array that stands after this place of the text, and the first before that place whose table is in
 /// one of that array. None where there are no such two.
 pub fn late_header(text: &str, place: usize) -> Option<(Header<'_>, Header<'_>)> {
-    let (before, behind) = text.split_at_checked(place)?;
-    let late = header_in(behind.lines().next()?)?;
+    let (before, after) = text.split_at_checked(place)?;
+    let late = header_in(after.lines().next()?)?;
     for line in before.lines() {
         if let Some(other) = header_in(line) {
             if late.is_of_array && is_below(late.key, other.key) {

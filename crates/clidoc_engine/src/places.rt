@@ -1,7 +1,7 @@
 //! Places in a text.
 
 ghost use Rattle.std.specs.Prelude.{◌≡◌};
-ghost use Rattle.clidoc_engine.specs.Places.{begins_character, column_behind, line_behind};
+ghost use Rattle.clidoc_engine.specs.Places.{begins_character, column_after, line_after};
 
 use std::fmt;
 use std::fmt::Display;
@@ -23,9 +23,9 @@ impl Display for Place {
 }
 
 /// The place after this front of a text. A character that is cut there counts.
-pub fn place_behind(front: &[u8]) -> Place
-    ensures line { result.line ≡ line_behind front.now }
-    ensures column { result.column ≡ column_behind front.now }
+pub fn place_after(front: &[u8]) -> Place
+    ensures line { result.line ≡ line_after front.now }
+    ensures column { result.column ≡ column_after front.now }
 {
     let mut line = 1;
     let mut column = 1;

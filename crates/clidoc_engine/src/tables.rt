@@ -14,7 +14,7 @@ use crate::causes::cause_of;
 use crate::faults::Fault;
 use crate::newlines::without_returns;
 use crate::notation::Notation;
-use crate::places::{Place, place_behind};
+use crate::places::{Place, place_after};
 use description_json::{JsonError, JsonFault};
 use std::alloc::{AllocError, Global};
 use toml::Table;
@@ -61,7 +61,7 @@ fn syntax_fault(global: Global, text: &str, error: toml::de::Error) -> Fault
     };
     match cause_of(global, text, span.start, error.message()) {
         Ok(cause) => Fault::NotToml {
-            place: place_behind(&text.as_bytes()[..span.start]),
+            place: place_after(&text.as_bytes()[..span.start]),
             error,
             cause,
         },
@@ -89,5 +89,5 @@ fn json_table(global: Global, text: &str) -> Result<Table, Fault>
 fn place_of(fault: &JsonFault<'_>) -> Place
     ensures { (text : _) → json_table text ≡ None → IsIn text fault.now → IsNoJsonText text result }
 {
-    place_behind(fault.before.as_bytes())
+    place_after(fault.before.as_bytes())
 }

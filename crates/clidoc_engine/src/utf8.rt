@@ -8,7 +8,7 @@ ghost use Rattle.clidoc_engine.specs.Inputs.{IsNoText};
 ghost use Rattle.clidoc_engine.specs.Steps.{IsOfInput};
 
 use crate::faults::Fault;
-use crate::places::{Place, place_behind};
+use crate::places::{Place, place_after};
 use std::alloc::Allocator;
 use watched::{ReadError, Source, Watched};
 
@@ -52,7 +52,7 @@ fn text_of<A: Allocator>(bytes: Vec<u8, A>) -> Result<String<A>, Place>
         Ok(text) => Ok(text),
         Err(error) => {
             let valid = error.utf8_error().valid_up_to();
-            Err(place_behind(&error.as_bytes()[..valid]))
+            Err(place_after(&error.as_bytes()[..valid]))
         }
     }
 }

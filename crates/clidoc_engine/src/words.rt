@@ -185,8 +185,8 @@ fn with_input<'w, A: Allocator + Copy>(
         → ¬ ChoosesWork terminal (words_said words.now) choice)) }
 {
     let given = given_in(alloc, words)?;
-    let (word, behind) = first_word(alloc, &given.plain, &given.files)?;
-    taken(terminal, word, &behind, given)
+    let (word, after) = first_word(alloc, &given.plain, &given.files)?;
+    taken(terminal, word, &after, given)
 }
 
 // The first of the plain words, and all after it: the others, and the files.
@@ -203,10 +203,10 @@ fn first_word<'w, A: Allocator + Copy>(
     let Some((word, others)) = plain.split_first() else {
         return Err(WordFault::NoForm);
     };
-    let mut behind = Vec::new(alloc);
-    behind.extend_from_slice(others)?;
-    behind.extend_from_slice(files)?;
-    Ok((*word, behind))
+    let mut after = Vec::new(alloc);
+    after.extend_from_slice(others)?;
+    after.extend_from_slice(files)?;
+    Ok((*word, after))
 }
 
 // What the word chooses with those after it and the options.
@@ -214,31 +214,31 @@ fn first_word<'w, A: Allocator + Copy>(
 fn taken<'w, A: Allocator>(
     terminal: usize,
     word: &'w str,
-    behind: &[&'w str],
+    after: &[&'w str],
     given: Given<'w, A>,
 ) -> Result<Choice<'w, A>, WordFault<'w>>
     ensures ok { IfOk result (λ choice.
-        Takes terminal word.now (words_said behind.now) (given_of given.entry) (choice_said choice)) }
+        Takes terminal word.now (words_said after.now) (given_of given.entry) (choice_said choice)) }
     ensures err { IfErr result (λ _. (choice : ChoiceSaid)
-        → ¬ Takes terminal word.now (words_said behind.now) (given_of given.entry) choice) }
+        → ¬ Takes terminal word.now (words_said after.now) (given_of given.entry) choice) }
 {
     match word {
-        "check" => judged(word, behind, given),
-        "all" => all_written(word, behind, given),
-        "complete" => completed(word, behind, given),
-        "json" => as_json(word, behind, given),
-        "draft" => drafted(word, behind, given),
-        "against" => compared(word, behind, given),
-        _ => paged(terminal, word, behind, given),
+        "check" => judged(word, after, given),
+        "all" => all_written(word, after, given),
+        "complete" => completed(word, after, given),
+        "json" => as_json(word, after, given),
+        "draft" => drafted(word, after, given),
+        "against" => compared(word, after, given),
+        _ => paged(terminal, word, after, given),
     }
 }
 
 // The one file, if there is one. The form may take a command.
-fn file_alone<'w>(behind: &[&'w str], takes_command: bool) -> Result<Option<&'w str>, WordFault<'w>>
-    ensures ok { IfOk result (λ file. words_said behind.now ≡ option_to_list (text_of file)) }
-    ensures err { IfErr result (λ _. (file : _) → words_said behind.now ≢ option_to_list file) }
+fn file_alone<'w>(after: &[&'w str], takes_command: bool) -> Result<Option<&'w str>, WordFault<'w>>
+    ensures ok { IfOk result (λ file. words_said after.now ≡ option_to_list (text_of file)) }
+    ensures err { IfErr result (λ _. (file : _) → words_said after.now ≢ option_to_list file) }
 {
-    match behind {
+    match after {
         [] => Ok(None),
         [file] => Ok(Some(*file)),
         [file, word, ..] => Err(too_many(*file, *word, takes_command)),
@@ -256,15 +256,15 @@ fn too_many<'w>(file: &'w str, word: &'w str, takes_command: bool) -> WordFault<
 
 fn judged<'w, A: Allocator>(
     word: &'w str,
-    behind: &[&'w str],
+    after: &[&'w str],
     given: Given<'w, A>,
 ) -> Result<Choice<'w, A>, WordFault<'w>>
     ensures ok { (terminal : _) → IfOk result (λ choice.
-        Takes terminal (codes "check") (words_said behind.now) (given_of given.entry) (choice_said choice)) }
+        Takes terminal (codes "check") (words_said after.now) (given_of given.entry) (choice_said choice)) }
     ensures err { IfErr result (λ _. (strict file : _)
-        → ¬ IsCheck (words_said behind.now) (given_of given.entry) strict file) }
+        → ¬ IsCheck (words_said after.now) (given_of given.entry) strict file) }
 {
-    let file = file_alone(behind, false)?;
+    let file = file_alone(after, false)?;
     check_no_level(&given, word)?;
     check_no_title(&given, word)?;
     check_no_folder(&given, word)?;
@@ -287,15 +287,15 @@ fn strictness_of<'w>(stricts: &[&'w str]) -> Result<bool, WordFault<'w>>
 
 fn all_written<'w, A: Allocator>(
     word: &'w str,
-    behind: &[&'w str],
+    after: &[&'w str],
     given: Given<'w, A>,
 ) -> Result<Choice<'w, A>, WordFault<'w>>
     ensures ok { (terminal : _) → IfOk result (λ choice.
-        Takes terminal (codes "all") (words_said behind.now) (given_of given.entry) (choice_said choice)) }
+        Takes terminal (codes "all") (words_said after.now) (given_of given.entry) (choice_said choice)) }
     ensures err { IfErr result (λ _. (folder title file : _)
-        → ¬ IsAll (words_said behind.now) (given_of given.entry) folder title file) }
+        → ¬ IsAll (words_said after.now) (given_of given.entry) folder title file) }
 {
-    let file = file_alone(behind, false)?;
+    let file = file_alone(after, false)?;
     check_no_level(&given, word)?;
     check_no_strict(&given, word)?;
     check_no_name(&given, word)?;
@@ -321,15 +321,15 @@ fn one_folder<'w>(folders: &[&'w str]) -> Result<&'w str, WordFault<'w>>
 
 fn completed<'w, A: Allocator>(
     word: &'w str,
-    behind: &[&'w str],
+    after: &[&'w str],
     given: Given<'w, A>,
 ) -> Result<Choice<'w, A>, WordFault<'w>>
     ensures ok { (terminal : _) → IfOk result (λ choice.
-        Takes terminal (codes "complete") (words_said behind.now) (given_of given.entry) (choice_said choice)) }
+        Takes terminal (codes "complete") (words_said after.now) (given_of given.entry) (choice_said choice)) }
     ensures err { IfErr result (λ _. (shell file : _)
-        → ¬ IsComplete (words_said behind.now) (given_of given.entry) shell file) }
+        → ¬ IsComplete (words_said after.now) (given_of given.entry) shell file) }
 {
-    let Some((shell, others)) = behind.split_first() else {
+    let Some((shell, others)) = after.split_first() else {
         return Err(WordFault::NoShell);
     };
     let shell = shell_named(*shell)?;
@@ -340,30 +340,30 @@ fn completed<'w, A: Allocator>(
 
 fn as_json<'w, A: Allocator>(
     word: &'w str,
-    behind: &[&'w str],
+    after: &[&'w str],
     given: Given<'w, A>,
 ) -> Result<Choice<'w, A>, WordFault<'w>>
     ensures ok { (terminal : _) → IfOk result (λ choice.
-        Takes terminal (codes "json") (words_said behind.now) (given_of given.entry) (choice_said choice)) }
+        Takes terminal (codes "json") (words_said after.now) (given_of given.entry) (choice_said choice)) }
     ensures err { IfErr result (λ _. (file : _)
-        → ¬ IsJson (words_said behind.now) (given_of given.entry) file) }
+        → ¬ IsJson (words_said after.now) (given_of given.entry) file) }
 {
-    let file = file_alone(behind, false)?;
+    let file = file_alone(after, false)?;
     check_alone(&given, word)?;
     Ok(Choice::Page(Page::Json, file))
 }
 
 fn drafted<'w, A: Allocator>(
     word: &'w str,
-    behind: &[&'w str],
+    after: &[&'w str],
     given: Given<'w, A>,
 ) -> Result<Choice<'w, A>, WordFault<'w>>
     ensures ok { (terminal : _) → IfOk result (λ choice.
-        Takes terminal (codes "draft") (words_said behind.now) (given_of given.entry) (choice_said choice)) }
+        Takes terminal (codes "draft") (words_said after.now) (given_of given.entry) (choice_said choice)) }
     ensures err { IfErr result (λ _. (name file : _)
-        → ¬ IsDraft (words_said behind.now) (given_of given.entry) name file) }
+        → ¬ IsDraft (words_said after.now) (given_of given.entry) name file) }
 {
-    let file = file_alone(behind, false)?;
+    let file = file_alone(after, false)?;
     check_no_level(&given, word)?;
     check_no_title(&given, word)?;
     check_no_folder(&given, word)?;
@@ -374,15 +374,15 @@ fn drafted<'w, A: Allocator>(
 
 fn compared<'w, A: Allocator>(
     word: &'w str,
-    behind: &[&'w str],
+    after: &[&'w str],
     given: Given<'w, A>,
 ) -> Result<Choice<'w, A>, WordFault<'w>>
     ensures ok { (terminal : _) → IfOk result (λ choice.
-        Takes terminal (codes "against") (words_said behind.now) (given_of given.entry) (choice_said choice)) }
+        Takes terminal (codes "against") (words_said after.now) (given_of given.entry) (choice_said choice)) }
     ensures err { IfErr result (λ _. (help commands file : _)
-        → ¬ IsAgainst (words_said behind.now) (given_of given.entry) help commands file) }
+        → ¬ IsAgainst (words_said after.now) (given_of given.entry) help commands file) }
 {
-    let Some((help, others)) = behind.split_first() else {
+    let Some((help, others)) = after.split_first() else {
         return Err(WordFault::NoHelp);
     };
     let file = file_alone(others, true)?;
@@ -427,19 +427,19 @@ fn check_alone<'w, A: Allocator>(given: &Given<'w, A>, word: &'w str) -> Result<
 fn paged<'w, A: Allocator>(
     terminal: usize,
     word: &'w str,
-    behind: &[&'w str],
+    after: &[&'w str],
     given: Given<'w, A>,
 ) -> Result<Choice<'w, A>, WordFault<'w>>
     ensures ok { IfOk result (λ choice.
-        Takes terminal word.now (words_said behind.now) (given_of given.entry) (choice_said choice)) }
+        Takes terminal word.now (words_said after.now) (given_of given.entry) (choice_said choice)) }
     ensures err { IfErr result (λ _. (p file : _)
-        → ¬ IsPageOf terminal word.now (words_said behind.now) (given_of given.entry) p file) }
+        → ¬ IsPageOf terminal word.now (words_said after.now) (given_of given.entry) p file) }
 {
-    let file = match file_alone(behind, true) {
+    let file = match file_alone(after, true) {
         Ok(file) => file,
         Err(fault) => {
             drop(given);
-            return Err(first_fault(word, behind, fault));
+            return Err(first_fault(word, after, fault));
         }
     };
     let options = check_only_page_options(&given, word);
@@ -478,18 +478,18 @@ fn page_named<'w, A: Allocator>(
 }
 
 // The fault of the words after one, or of that one, if it is not a form.
-fn first_fault<'w>(word: &'w str, behind: &[&'w str], fault: WordFault<'w>) -> WordFault<'w> {
+fn first_fault<'w>(word: &'w str, after: &[&'w str], fault: WordFault<'w>) -> WordFault<'w> {
     if is_form(word) {
         return fault;
     }
     drop(fault);
-    no_form(word, behind.first().copied())
+    no_form(word, after.first().copied())
 }
 
 // The fault of a word that is not a form, before this one.
-fn no_form<'w>(word: &'w str, behind: Option<&'w str>) -> WordFault<'w> {
-    match behind {
-        Some(form) if is_form(form) => WordFault::FormBehind { word, form },
+fn no_form<'w>(word: &'w str, after: Option<&'w str>) -> WordFault<'w> {
+    match after {
+        Some(form) if is_form(form) => WordFault::FormAfter { word, form },
         _ => WordFault::NoSuchForm(word),
     }
 }

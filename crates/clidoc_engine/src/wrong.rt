@@ -34,9 +34,9 @@ pub fn line_of(global: Global, fault: &WordFault<'_>) -> Result<String, AllocErr
     match fault {
         WordFault::NoForm => line.push_str("no form")?,
         WordFault::NoSuchForm(word) => put(&mut line, "no form ", word)?,
-        WordFault::FormBehind { word, form } => put_turned(&mut line, word, form)?,
+        WordFault::FormAfter { word, form } => put_turned(&mut line, word, form)?,
         WordFault::NoSuchOption(word) => put(&mut line, "no option ", word)?,
-        WordFault::NoValue(option) => put(&mut line, "no value behind ", valued_word(*option))?,
+        WordFault::NoValue(option) => put(&mut line, "no value after ", valued_word(*option))?,
         WordFault::NoColumns(word) => {
             put(
                 &mut line,

@@ -19,7 +19,7 @@ use Rattle.description_pages.specs.Levels.{SubjectSaid}
 use Rattle.description_pages.specs.Manuals.{manual_below, manual_of}
 use Rattle.description_pages.specs.Markdowns.{markdown_below, markdown_of}
 use Rattle.description_pages.specs.Sections.{joined_names, page_name}
-use Rattle.description_pages.specs.Subjects.{led_to, subjects_behind}
+use Rattle.description_pages.specs.Subjects.{led_to, subjects_after}
 use Rattle.description_pages.specs.declared.levels.Depth.{Depth}
 use Rattle.description_pages.specs.declared.levels.Depth.TheVariants.{Alone, Deep}
 use Rattle.description_pages.specs.declared.sections.Detail.TheVariants as Detail
@@ -77,7 +77,7 @@ title_line d given s = record {
 -- the level itself, and where the page is deep, each level below it after it
 abbrev pub manual_parts : Depth → WordsSaid → SubjectSaid → List PartSaid
 manual_parts Alone fixed s = manual_of fixed s
-manual_parts Deep fixed s = manual_of fixed s ++ flat_map (manual_below fixed) (subjects_behind s)
+manual_parts Deep fixed s = manual_of fixed s ++ flat_map (manual_below fixed) (subjects_after s)
 
 abbrev pub manual_page : DescriptionSaid → Depth → TitleGiven → SubjectSaid → List ℕ
 manual_page d depth given s = man_text (title_line d given s) (manual_parts depth d.words s)
@@ -93,7 +93,7 @@ title_of s = joined_names (codes " ") s.names
 
 abbrev pub markdown_parts : Depth → WordsSaid → SubjectSaid → List PartSaid
 markdown_parts Alone fixed s = markdown_of fixed Alone s
-markdown_parts Deep fixed s = markdown_of fixed Deep s ++ flat_map (markdown_below fixed) (subjects_behind s)
+markdown_parts Deep fixed s = markdown_of fixed Deep s ++ flat_map (markdown_below fixed) (subjects_after s)
 
 abbrev pub markdown_page : Depth → WordsSaid → SubjectSaid → List ℕ
 markdown_page depth fixed s = markdown_text (title_of s) (markdown_parts depth fixed s)

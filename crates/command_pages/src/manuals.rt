@@ -6,7 +6,7 @@ ghost use Rattle.man_page.specs.View.{title_of};
 ghost use Rattle.description.specs.View.{description_said};
 ghost use Rattle.description_pages.specs.LevelsView.{subject_of};
 ghost use Rattle.description_pages.specs.Manuals.{manual_below};
-ghost use Rattle.description_pages.specs.Subjects.{subjects_behind};
+ghost use Rattle.description_pages.specs.Subjects.{subjects_after};
 ghost use Rattle.description.specs.Words.{words_said};
 ghost use Rattle.command_pages.specs.Pages.{MayFailBy, manual_page, manual_page_fault, manual_parts, title_line};
 ghost use Rattle.command_pages.specs.Readings.{IsManualOf};
@@ -17,7 +17,7 @@ use bumpalo::Bump;
 use description::{Description, FixedWords};
 use description_pages::levels::LevelSubject;
 use description_pages::manuals::{manual, push_manual_below};
-use description_pages::subjects::{all_behind, page_name};
+use description_pages::subjects::{all_after, page_name};
 use description_pages::{ArenaParts, Depth};
 use man_page::{TitleLine, manual_page};
 use page_model::PageFault;
@@ -91,9 +91,9 @@ fn push_manuals_below<'p, 'a: 'p>(
     level: LevelSubject<'p, 'a, Global>,
 ) -> Result<(), AllocError>
     ensures { OnOk result (map part_of parts.new.items ≡ map part_of parts.old.items
-        ++ flat_map (manual_below (words_said words.now)) (subjects_behind (subject_of level.entry))) }
+        ++ flat_map (manual_below (words_said words.now)) (subjects_after (subject_of level.entry))) }
 {
-    for below in all_behind(arena, level)? {
+    for below in all_after(arena, level)? {
         push_manual_below(arena, words, parts, below)?;
     }
     Ok(())

@@ -4,7 +4,7 @@ ghost use Rattle.std.specs.Prelude.{◌≡◌, ◌++◌, IfOk, None, OnOk, flat_
 ghost use Rattle.page_model.specs.View.{part_of};
 ghost use Rattle.description_pages.specs.LevelsView.{subject_of};
 ghost use Rattle.description_pages.specs.Markdowns.{markdown_below};
-ghost use Rattle.description_pages.specs.Subjects.{subjects_behind};
+ghost use Rattle.description_pages.specs.Subjects.{subjects_after};
 ghost use Rattle.description.specs.Words.{words_said};
 ghost use Rattle.command_pages.specs.Pages.{MayFailBy, markdown_page, markdown_page_fault, markdown_parts};
 ghost use Rattle.command_pages.specs.Readings.{IsMarkdownOf};
@@ -13,7 +13,7 @@ use bumpalo::Bump;
 use description::FixedWords;
 use description_pages::levels::LevelSubject;
 use description_pages::markdowns::{markdown, push_markdown_below};
-use description_pages::subjects::{all_behind, title};
+use description_pages::subjects::{all_after, title};
 use description_pages::{ArenaParts, Depth};
 use markdown_page::markdown_page;
 use page_model::PageFault;
@@ -66,9 +66,9 @@ fn push_markdowns_below<'p, 'a: 'p>(
     level: LevelSubject<'p, 'a, Global>,
 ) -> Result<(), AllocError>
     ensures { OnOk result (map part_of parts.new.items ≡ map part_of parts.old.items
-        ++ flat_map (markdown_below (words_said words.now)) (subjects_behind (subject_of level.entry))) }
+        ++ flat_map (markdown_below (words_said words.now)) (subjects_after (subject_of level.entry))) }
 {
-    for below in all_behind(arena, level)? {
+    for below in all_after(arena, level)? {
         push_markdown_below(arena, words, parts, below)?;
     }
     Ok(())

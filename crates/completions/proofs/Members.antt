@@ -11,7 +11,7 @@ use Rattle.description.specs.declared.options.Opt.{Opt}
 use Rattle.description.specs.declared.positionals.Positional.{Positional}
 use Rattle.description.proofs.Views.{command_layer, level_layer, open-Command, open-Group, open-Level}
 use Rattle.completions.specs.Content.{EntrySaid}
-use Rattle.completions.specs.Table.{choices_entries, command_entries, command_head_entries, commands_entries, group_entries, groups_entries, level_entries, lone, mark, members_entries, options_entries, places_entries, shown_option, unsaid_places, what_behind}
+use Rattle.completions.specs.Table.{choices_entries, command_entries, command_head_entries, commands_entries, group_entries, groups_entries, level_entries, lone, mark, members_entries, options_entries, places_entries, shown_option, unsaid_places, what_after}
 use Rattle.completions.specs.Written.{Writes, data_text}
 use Rattle.completions.specs.declared.shells.Shell.{Shell}
 use Rattle.completions.proofs.Writing.{put_next, put_none, writes_as, writes_none, writes_then}
@@ -59,17 +59,17 @@ level_put {A} sh l os cs ps s0 s1 s2 s3 s4 s5 s6 io ic ip h1 h2 h3 h4 h5 h6 =
     ∙ sym (ap (λ said. s0 ++ data_text sh (level_entries said)) (open-Level l))
 
 module _ {A : Type 0} (m : Command A) where
-  abbrev behind_head : List EntrySaid → List EntrySaid
-  behind_head head = head ++ level_entries (level_said (out-Command A m).level) ++ mark (codes "end") ∷ []
+  abbrev after_head : List EntrySaid → List EntrySaid
+  after_head head = head ++ level_entries (level_said (out-Command A m).level) ++ mark (codes "end") ∷ []
 
-  command_shown : (out-Command A m).hidden ≡ false → command_entries (command_said m) ≡ behind_head (command_head_entries (command_said m))
+  command_shown : (out-Command A m).hidden ≡ false → command_entries (command_said m) ≡ after_head (command_head_entries (command_said m))
   command_shown h =
       ap command_entries (open-Command m)
-      ∙ ap (λ t. cond t [] (behind_head (command_head_entries (command_layer (out-Command A m))))) h
-      ∙ sym (ap (λ said. behind_head (command_head_entries said)) (open-Command m))
+      ∙ ap (λ t. cond t [] (after_head (command_head_entries (command_layer (out-Command A m))))) h
+      ∙ sym (ap (λ said. after_head (command_head_entries said)) (open-Command m))
 
   pub command_hidden : (out-Command A m).hidden ≡ true → command_entries (command_said m) ≡ []
-  command_hidden h = ap command_entries (open-Command m) ∙ ap (λ t. cond t [] (behind_head (command_head_entries (command_layer (out-Command A m))))) h
+  command_hidden h = ap command_entries (open-Command m) ∙ ap (λ t. cond t [] (after_head (command_head_entries (command_layer (out-Command A m))))) h
 
   pub command_put : (sh : Shell) (end : EntrySaid) (s0 s1 s2 s3 : List ℕ) → (out-Command A m).hidden ≡ false → end ≡ mark (codes "end") → Writes sh s0 s1 (command_head_entries (command_said m)) → Writes sh s1 s2 (level_entries (level_said (out-Command A m).level))
       → Writes sh s2 s3 (end ∷ []) → Writes sh s0 s3 (command_entries (command_said m))
@@ -123,12 +123,12 @@ module _ (sh : Shell) (options : List Opt) (i : ℕ) where
   abbrev members : (what : List ℕ) → List Opt → List EntrySaid
   members what os = members_entries what (map opt_said os)
 
-  pub next_member : (d : Opt) (what later out new whole : List ℕ) → i < length options → later ≡ what_behind what (opt_said (get_or options i d)) → Writes sh out new (shown_option what (opt_said (get_or options i d)))
+  pub next_member : (d : Opt) (what later out new whole : List ℕ) → i < length options → later ≡ what_after what (opt_said (get_or options i d)) → Writes sh out new (shown_option what (opt_said (get_or options i d)))
       → out ++ data_text sh (members_entries what (map opt_said (drop i options))) ≡ whole → new ++ data_text sh (members_entries later (map opt_said (drop (i + 1) options))) ≡ whole
-  next_member d what later out new whole within behind w so_far =
+  next_member d what later out new whole within after w so_far =
       let rest : List Opt = drop (i + 1) options in
       let shown : List EntrySaid = shown_option what (opt_said (get_or options i d)) in
-      put_next sh out new whole (members what (drop i options)) shown (members later rest) (ap (members what) (drop_more options i d within) ∙ ap (λ t. shown ++ members t rest) (sym behind)) w so_far
+      put_next sh out new whole (members what (drop i options)) shown (members later rest) (ap (members what) (drop_more options i d within) ∙ ap (λ t. shown ++ members t rest) (sym after)) w so_far
 
   pub last_member : (what out whole : List ℕ) → length options ≤ i → out ++ data_text sh (members_entries what (map opt_said (drop i options))) ≡ whole → out ≡ whole
   last_member what out whole past so_far = put_none sh out whole (members what (drop i options)) (ap (members what) (drop_all i options past)) so_far

@@ -7,7 +7,7 @@ use Rattle.std.proofs.lemmas.Bool.{and_parts, cases_lt, false≢true}
 use Rattle.std.proofs.lemmas.List.Sums.{prefix_len-le-length, prefix_len_stops}
 use Rattle.std.proofs.lemmas.Str.{IsCharBoundary-before_ascii, IsCharBoundary-end}
 use Rattle.std.proofs.lemmas.List.{drop_all, drop_more, take_all, take_more}
-use Rattle.completions.specs.Syntax.{depth_behind, is_closing, is_gap, is_of_name, is_opening, onto_words, syntax_words, words_in}
+use Rattle.completions.specs.Syntax.{depth_after, is_closing, is_gap, is_of_name, is_opening, onto_words, syntax_words, words_in}
 
 pub are_same : (a b : ℕ) → (a == b) ≡ true → a ≡ b
 are_same a b h = elim (eqb_tells a b) [ inl p ↦ p.1 | inr p ↦ absurd (false≢true (sym p.0 ∙ h)) ]
@@ -41,8 +41,8 @@ by_gap P blank comma bar b h = elim (either (b == 32) (b == 44 || b == 124) h) [
 pub gap_small : (b : ℕ) → is_gap b ≡ true → b < 128
 gap_small b h = by_gap (λ c. c < 128) (omega arith) (omega arith) (omega arith) b h
 
-gap_is_flat : (b : ℕ) → is_gap b ≡ true → depth_behind 0 b ≡ 0
-gap_is_flat b h = by_gap (λ c. depth_behind 0 c ≡ 0) refl refl refl b h
+gap_is_flat : (b : ℕ) → is_gap b ≡ true → depth_after 0 b ≡ 0
+gap_is_flat b h = by_gap (λ c. depth_after 0 c ≡ 0) refl refl refl b h
 
 -- ---- what was passed, and what is left
 
@@ -56,7 +56,7 @@ module _ (bs : List ℕ) (i depth b : ℕ) (within : i < length bs) (at : b ≡ 
   taken : take (i + 1) bs ≡ take i bs ++ b ∷ []
   taken = take_more bs i 0 within ∙ ap (λ x. take i bs ++ x ∷ []) (sym at)
 
-  here : onto_front (take i bs) (onto_words (is_gap b && depth == 0) b (words_in (depth_behind depth b) (drop (i + 1) bs))) ≡ syntax_words bs
+  here : onto_front (take i bs) (onto_words (is_gap b && depth == 0) b (words_in (depth_after depth b) (drop (i + 1) bs))) ≡ syntax_words bs
   here = sym (ap (λ us. onto_front (take i bs) (words_in depth us)) next) ∙ so_far
 
   pub cut_here : (is_gap b && depth == 0) ≡ true → syntax_words bs ≡ take i bs ∷ syntax_words (drop (i + 1) bs)
@@ -64,17 +64,17 @@ module _ (bs : List ℕ) (i depth b : ℕ) (within : i < length bs) (at : b ≡ 
       let both = and_parts (is_gap b) (depth == 0) h in
       let rest : List ℕ = drop (i + 1) bs in
       sym here
-      ∙ ap (λ t. onto_front (take i bs) (onto_words t b (words_in (depth_behind depth b) rest))) h
-      ∙ onto_new (take i bs) (words_in (depth_behind depth b) rest)
-      ∙ ap (λ n. take i bs ∷ words_in (depth_behind n b) rest) (are_same depth 0 both.1)
+      ∙ ap (λ t. onto_front (take i bs) (onto_words t b (words_in (depth_after depth b) rest))) h
+      ∙ onto_new (take i bs) (words_in (depth_after depth b) rest)
+      ∙ ap (λ n. take i bs ∷ words_in (depth_after n b) rest) (are_same depth 0 both.1)
       ∙ ap (λ n. take i bs ∷ words_in n rest) (gap_is_flat b both.0)
 
-  pub cut_later : (is_gap b && depth == 0) ≡ false → CutSoFar bs (i + 1) (depth_behind depth b)
+  pub cut_later : (is_gap b && depth == 0) ≡ false → CutSoFar bs (i + 1) (depth_after depth b)
   cut_later h =
       let rest : List ℕ = drop (i + 1) bs in
-      ap (λ f. onto_front f (words_in (depth_behind depth b) rest)) taken
-      ∙ onto_push (take i bs) b (words_in (depth_behind depth b) rest)
-      ∙ sym (ap (λ t. onto_front (take i bs) (onto_words t b (words_in (depth_behind depth b) rest))) h)
+      ap (λ f. onto_front f (words_in (depth_after depth b) rest)) taken
+      ∙ onto_push (take i bs) b (words_in (depth_after depth b) rest)
+      ∙ sym (ap (λ t. onto_front (take i bs) (onto_words t b (words_in (depth_after depth b) rest))) h)
       ∙ here
 
 pub never_cut : (bs : List ℕ) (i depth : ℕ) → length bs ≤ i → CutSoFar bs i depth → syntax_words bs ≡ bs ∷ []
@@ -83,7 +83,7 @@ never_cut bs i depth h s =
 
 -- ---- how deep it may get
 
-pub depth_small : (depth b i : ℕ) → depth ≤ i → depth_behind depth b ≤ i + 1
+pub depth_small : (depth b i : ℕ) → depth ≤ i → depth_after depth b ≤ i + 1
 depth_small depth b i h = by (is_opening b) (is_closing b) where
   by : (t u : Bool) → cond t (suc depth) (cond u (depth - 1) depth) ≤ i + 1
   by true u = omega arith

@@ -15,22 +15,22 @@ untagged tag (b ∷ text) h =
 pub last_piece : (tag text : List ℕ) → IsSplitOnceResult 96 text None → tagged tag text ≡ text
 last_piece tag text h = untagged tag text (split_parts 96 text None h (omega arith))
 
-pub next_piece : (tag text : List ℕ) (before behind : Bor (List ℕ)) → IsSplitOnceResult 96 text (Some (before, behind)) → tagged tag text ≡ before.now ++ (tag ++ tagged tag behind.now)
-next_piece tag text before behind h =
-    let parts = split_parts 96 text (Some (before, behind)) h (omega arith) in
+pub next_piece : (tag text : List ℕ) (before after : Bor (List ℕ)) → IsSplitOnceResult 96 text (Some (before, after)) → tagged tag text ≡ before.now ++ (tag ++ tagged tag after.now)
+next_piece tag text before after h =
+    let parts = split_parts 96 text (Some (before, after)) h (omega arith) in
     ap (tagged tag) parts.0
-    ∙ flat_map-append (tagged_byte tag) before.now (96 ∷ behind.now)
-    ∙ ap (λ front. front ++ (tag ++ tagged tag behind.now)) (untagged tag before.now parts.1)
+    ∙ flat_map-append (tagged_byte tag) before.now (96 ∷ after.now)
+    ∙ ap (λ front. front ++ (tag ++ tagged tag after.now)) (untagged tag before.now parts.1)
 
-pub piece_shorter : (text : List ℕ) (before behind : Bor (List ℕ)) → IsSplitOnceResult 96 text (Some (before, behind)) → length behind.now < length text
-piece_shorter text before behind h = grind (arith, split_parts, length-append)
+pub piece_shorter : (text : List ℕ) (before after : Bor (List ℕ)) → IsSplitOnceResult 96 text (Some (before, after)) → length after.now < length text
+piece_shorter text before after h = grind (arith, split_parts, length-append)
 
 -- a step of the loop that writes it, and its end
-pub tagged_more : (tag text out new whole : List ℕ) (piece behind : Bor (List ℕ)) → IsSplitOnceResult 96 text (Some (piece, behind)) → new ≡ out ++ (piece.now ++ tag) → out ++ tagged tag text ≡ whole → new ++ tagged tag behind.now ≡ whole
-tagged_more tag text out new whole piece behind h n w =
-    ap (λ x. x ++ tagged tag behind.now) n
-    ∙ append_assoc out (piece.now ++ tag) (tagged tag behind.now)
-    ∙ ap (λ x. out ++ x) (append_assoc piece.now tag (tagged tag behind.now) ∙ sym (next_piece tag text piece behind h))
+pub tagged_more : (tag text out new whole : List ℕ) (piece after : Bor (List ℕ)) → IsSplitOnceResult 96 text (Some (piece, after)) → new ≡ out ++ (piece.now ++ tag) → out ++ tagged tag text ≡ whole → new ++ tagged tag after.now ≡ whole
+tagged_more tag text out new whole piece after h n w =
+    ap (λ x. x ++ tagged tag after.now) n
+    ∙ append_assoc out (piece.now ++ tag) (tagged tag after.now)
+    ∙ ap (λ x. out ++ x) (append_assoc piece.now tag (tagged tag after.now) ∙ sym (next_piece tag text piece after h))
     ∙ w
 
 pub tagged_end : (tag text out new whole : List ℕ) → IsSplitOnceResult 96 text None → new ≡ out ++ text → out ++ tagged tag text ≡ whole → new ≡ whole

@@ -35,8 +35,8 @@ pub put_none : (sh : Shell) (out whole : List ℕ) (all : List EntrySaid) → al
 put_none sh out whole all none so_far = sym (append-nil out) ∙ ap (λ es. out ++ data_text sh es) (sym none) ∙ so_far
 
 -- a text after others
-pub behind_this : (r s t y x : List ℕ) → s ≡ r ++ y → t ≡ s ++ x → t ≡ r ++ (y ++ x)
-behind_this r s t y x h1 h2 = h2 ∙ ap (λ u. u ++ x) h1 ∙ append_assoc r y x
+pub after_this : (r s t y x : List ℕ) → s ≡ r ++ y → t ≡ s ++ x → t ≡ r ++ (y ++ x)
+after_this r s t y x h1 h2 = h2 ∙ ap (λ u. u ++ x) h1 ∙ append_assoc r y x
 
 -- the words of an entry, one after another
 pub entry_put : (sh : Shell) (e : EntrySaid) (s0 s1 s2 s3 s4 s5 s6 s7 s8 s9 : List ℕ) → s1 ≡ s0 ++ codes "    " → s2 ≡ s1 ++ quoted sh e.what → s3 ≡ s2 ++ codes " " → s4 ≡ s3 ++ quoted sh e.text
@@ -51,8 +51,8 @@ entry_put sh e s0 s1 s2 s3 s4 s5 s6 s7 s8 s9 h1 h2 h3 h4 h5 h6 h7 h8 h9 =
     let t2 : List ℕ = codes " " ++ t3 in
     let t1 : List ℕ = quoted sh e.what ++ t2 in
     writes_one sh s0 s9 e
-    (behind_this s0 s1 s9 (codes "    ") t1 h1 (behind_this s1 s2 s9 (quoted sh e.what) t2 h2 (behind_this s2 s3 s9 (codes " ") t3 h3 (behind_this s3 s4 s9 (quoted sh e.text) t4 h4
-    (behind_this s4 s5 s9 (codes " ") t5 h5 (behind_this s5 s6 s9 (quoted sh e.hint) t6 h6 (behind_this s6 s7 s9 (codes " ") t7 h7 (behind_this s7 s8 s9 (quoted sh e.help) t8 h8 h9))))))))
+    (after_this s0 s1 s9 (codes "    ") t1 h1 (after_this s1 s2 s9 (quoted sh e.what) t2 h2 (after_this s2 s3 s9 (codes " ") t3 h3 (after_this s3 s4 s9 (quoted sh e.text) t4 h4
+    (after_this s4 s5 s9 (codes " ") t5 h5 (after_this s5 s6 s9 (quoted sh e.hint) t6 h6 (after_this s6 s7 s9 (codes " ") t7 h7 (after_this s7 s8 s9 (quoted sh e.help) t8 h8 h9))))))))
 
 -- what a text that is put leaves
 pub pushed : {T E : Type 0} (r : Result T E) (new more same : List ℕ) → new ≡ cond (is_ok r) more same → OnOk r (new ≡ more)

@@ -52,13 +52,13 @@ tail shell.Fish = FISH_TAIL.now
 abbrev pub before_data : Shell → (name : List ℕ) → List ℕ
 before_data sh name = first_line sh name ++ tagged (tag name) (head sh)
 
-abbrev pub behind_data : Shell → (name : List ℕ) → List ℕ
-behind_data sh name = tagged (tag name) (tail sh)
+abbrev pub after_data : Shell → (name : List ℕ) → List ℕ
+after_data sh name = tagged (tag name) (tail sh)
 
 -- The data of a script reads, word by word, as the table.
 pub record IsScript (sh : Shell) (d : DescriptionSaid) (script : List ℕ) : Type 0 where
   pub data_part : List ℕ
-  pub whole : script ≡ before_data sh d.name ++ (data_part ++ behind_data sh d.name)
+  pub whole : script ≡ before_data sh d.name ++ (data_part ++ after_data sh d.name)
   pub reads : read sh data_part ≡ Some (table_words d)
 
 -- ---- two scripts
@@ -67,8 +67,8 @@ pub record IsScript (sh : Shell) (d : DescriptionSaid) (script : List ℕ) : Typ
 abbrev pub IsSuffix : List ℕ → Type 0
 IsSuffix suffix = (suffix ≡ []) ⊎ ((word : List ℕ) × (suffix ≡ codes "__" ++ word))
 
-abbrev pub left_behind : (name suffix : List ℕ) → List ℕ
-left_behind name suffix = codes "_clidoc_" ++ (tag name ++ suffix)
+abbrev pub left_after : (name suffix : List ℕ) → List ℕ
+left_after name suffix = codes "_clidoc_" ++ (tag name ++ suffix)
 
 abbrev pub IsByte : ℕ → Type 0
 IsByte b = b < 256
@@ -76,4 +76,4 @@ IsByte b = b < 256
 -- the scripts of two programs define nothing under one name
 abbrev pub ScriptsDoNotMeet : Type 0
 ScriptsDoNotMeet =
-    (a b v w : List ℕ) → All IsByte a → All IsByte b → IsSuffix v → IsSuffix w → left_behind a v ≡ left_behind b w → a ≡ b
+    (a b v w : List ℕ) → All IsByte a → All IsByte b → IsSuffix v → IsSuffix w → left_after a v ≡ left_after b w → a ≡ b

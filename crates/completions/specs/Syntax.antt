@@ -29,8 +29,8 @@ is_dash b = b == 45
 -- ---- words
 
 -- how deep in brackets a place is after a byte. A closing one without an opening one is ignored
-abbrev pub depth_behind : (depth : ℕ) → ℕ → ℕ
-depth_behind depth b = if is_opening b then suc depth else if is_closing b then depth - 1 else depth
+abbrev pub depth_after : (depth : ℕ) → ℕ → ℕ
+depth_after depth b = if is_opening b then suc depth else if is_closing b then depth - 1 else depth
 
 -- a byte is left out where the text is cut, otherwise it belongs to the first word
 abbrev pub onto_words : (is_cut : Bool) → ℕ → List (List ℕ) → List (List ℕ)
@@ -39,7 +39,7 @@ onto_words false b ws = onto_first b ws
 
 abbrev pub words_in : (depth : ℕ) → List ℕ → List (List ℕ)
 words_in depth [] = [] ∷ []
-words_in depth (b ∷ bs) = onto_words (is_gap b && depth == 0) b (words_in (depth_behind depth b) bs)
+words_in depth (b ∷ bs) = onto_words (is_gap b && depth == 0) b (words_in (depth_after depth b) bs)
 
 abbrev pub syntax_words : List ℕ → List (List ℕ)
 syntax_words text = words_in 0 text
@@ -52,8 +52,8 @@ is_of_name b = not (ends_name b)
 abbrev pub front : List ℕ → List ℕ
 front word = take (prefix_len is_of_name word) word
 
-abbrev pub behind : List ℕ → List ℕ
-behind word = drop (prefix_len is_of_name word) word
+abbrev pub after : List ℕ → List ℕ
+after word = drop (prefix_len is_of_name word) word
 
 -- a byte that is not a dash
 abbrev pub has_letter : List ℕ → Bool
@@ -65,7 +65,7 @@ has_form_of_name [] = false
 has_form_of_name (b ∷ run) = is_dash b && has_letter (b ∷ run)
 
 abbrev pub named : List ℕ → Option (List ℕ × List ℕ)
-named word = if has_form_of_name (front word) then Some (front word, behind word) else None
+named word = if has_form_of_name (front word) then Some (front word, after word) else None
 
 -- what follows `--[no-]`, where it is a name with and without `no-`
 abbrev pub negation : List ℕ
@@ -74,7 +74,7 @@ negation = codes "--[no-]"
 abbrev pub negated : List ℕ → Option (List ℕ × List ℕ)
 negated word =
     if starts_with ◌==◌ word negation && has_letter (front (drop 7 word))
-    then Some (front (drop 7 word), behind (drop 7 word))
+    then Some (front (drop 7 word), after (drop 7 word))
     else None
 
 abbrev pub negated_names : Option (List ℕ × List ℕ) → List (List ℕ)

@@ -93,12 +93,12 @@ abbrev pub options_entries : List OptSaid → List EntrySaid
 options_entries options = flat_map listed_option options
 
 -- of the options of a choice, each except the first shown one stands in place of the one before
-abbrev pub what_behind : (what : List ℕ) → OptSaid → List ℕ
-what_behind what o = if o.hidden then what else codes "or"
+abbrev pub what_after : (what : List ℕ) → OptSaid → List ℕ
+what_after what o = if o.hidden then what else codes "or"
 
 abbrev pub members_entries : (what : List ℕ) → List OptSaid → List EntrySaid
 members_entries what [] = []
-members_entries what (o ∷ os) = shown_option what o ++ members_entries (what_behind what o) os
+members_entries what (o ∷ os) = shown_option what o ++ members_entries (what_after what o) os
 
 abbrev pub choice_entries : ChoiceSaid → List EntrySaid
 choice_entries choice = members_entries (codes "once") choice.options

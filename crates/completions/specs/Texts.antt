@@ -14,12 +14,12 @@ abbrev pub line_text : Line → List ℕ
 line_text line = flat_map piece_text line
 
 -- its lines, with a blank between two
-abbrev pub behind_blank : Line → List ℕ
-behind_blank line = 32 ∷ line_text line
+abbrev pub after_blank : Line → List ℕ
+after_blank line = 32 ∷ line_text line
 
 abbrev pub paragraph_text : List Line → List ℕ
 paragraph_text [] = []
-paragraph_text (line ∷ lines) = line_text line ++ flat_map behind_blank lines
+paragraph_text (line ∷ lines) = line_text line ++ flat_map after_blank lines
 
 -- the first paragraph of a text, if there is one
 abbrev pub paragraph_in : Option (List ℕ) → Option (List ℕ)

@@ -3,7 +3,7 @@ ghost use Rattle.std.specs.Prelude.{◌≡◌, ◌++◌, flat_map, map, string_b
 ghost use Rattle.std.specs.Option.{option_map};
 ghost use Rattle.page_model.specs.View.{line_of, piece_of};
 ghost use Rattle.description.specs.View.{text_of};
-ghost use Rattle.completions.specs.Texts.{behind_blank, command_help, help_text, line_text, paragraph_in};
+ghost use Rattle.completions.specs.Texts.{after_blank, command_help, help_text, line_text, paragraph_in};
 ghost use Rattle.completions.specs.Texts.{paragraph_text, piece_text};
 
 use bumpalo::Bump;
@@ -37,7 +37,7 @@ fn push_others<'p, A: Allocator, B: Allocator>(
     lines: &[Line<'p, B>],
 ) -> Result<(), AllocError>
     ensures { OnOk result (string_bytes text.new ≡ string_bytes text.old
-        ++ flat_map behind_blank (map (λ line. line_of line.items) lines.now)) }
+        ++ flat_map after_blank (map (λ line. line_of line.items) lines.now)) }
 {
     for line in lines {
         text.push_str(" ")?;

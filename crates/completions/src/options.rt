@@ -4,7 +4,7 @@ ghost use Rattle.description.specs.View.{choice_said, name_said, opt_said, posit
 ghost use Rattle.completions.specs.Table.{choice_entries, choices_entries, files, hint_of, how_of, lone};
 ghost use Rattle.completions.specs.Table.{members_entries, name_entries, names, option_entries, option_entry};
 ghost use Rattle.completions.specs.Table.{options_entries, place_entries, place_word, places_entries};
-ghost use Rattle.completions.specs.Table.{shown_option, times, what_behind};
+ghost use Rattle.completions.specs.Table.{shown_option, times, what_after};
 ghost use Rattle.completions.specs.Written.{Writes};
 
 use crate::entries::{Entry, push_entry};
@@ -171,8 +171,8 @@ pub fn push_options<'p>(
 
 // ---- choices
 
-fn what_behind(what: &'static str, member: &Opt<'_>) -> &'static str
-    ensures { result.now ≡ what_behind what.now (opt_said member.now) }
+fn what_after(what: &'static str, member: &Opt<'_>) -> &'static str
+    ensures { result.now ≡ what_after what.now (opt_said member.now) }
 {
     if member.hidden { what } else { "or" }
 }
@@ -189,7 +189,7 @@ fn push_members<'p>(
     let mut what = "once";
     for option in options {
         push_shown(arena, out, shell, what, option)?;
-        what = what_behind(what, option);
+        what = what_after(what, option);
     }
     Ok(())
 }

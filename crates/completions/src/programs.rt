@@ -12,9 +12,9 @@ pub const BASH_HEAD: &str =
 #   program NAME - -          the program; options up to 'level' stand on each level
 #   level - - -               the top follows, up to its 'end'
 #   once HOW HINT HELP        an option that is given once; 'many': many times; 'or': where the one before is not.
-#                             HOW: flag, value, word (a value that is a word of its own), optional (only behind a =)
+#                             HOW: flag, value, word (a value that is a word of its own), optional (only after a =)
 #   name NAME - -             one of its names
-#   place once HINT -         a positional value, the next one; 'many': many of them; 'strict': behind --
+#   place once HINT -         a positional value, the next one; 'many': many of them; 'strict': after --
 #   among VALUE - -           one of the values that an option or a positional value may have
 #   command NAME - HELP       a command; its level follows, up to its 'end'
 #   alias NAME - -            another name of the command
@@ -111,7 +111,7 @@ _clidoc_`__find() {
 }
 
 # The options that the word $1 gives. 'option' is the last of them, 'how' tells its value, which stands in the word
-# behind 'before', unless that is empty.
+# after 'before', unless that is empty.
 _clidoc_`__give() {
     local -i i
     before=
@@ -137,10 +137,10 @@ _clidoc_`__pass() {
     local -i i
     if ((value_of >= 0)); then
         value_of=-1
-    elif ((behind)); then
+    elif ((after)); then
         place+=1
     elif [[ $1 == -- ]]; then
-        behind=1
+        after=1
         for i in "${!places[@]}"; do
             if [[ ${_clidoc_`__table[places[i]]} == strict ]]; then
                 places=("${places[@]:i}") place=0
@@ -193,7 +193,7 @@ _clidoc_`__files() {
     if [[ -n $1 ]]; then compopt -o dirnames; else compopt -o default; fi
 }
 
-# Offers what the entry at $1 may be, behind 'before'.
+# Offers what the entry at $1 may be, after 'before'.
 _clidoc_`__values() {
     local -i at
     local word
@@ -228,7 +228,7 @@ _clidoc_`__names() {
     done
 }
 
-# Offers the values that may stand at this place, and -- before those that stand behind it. Each of those before has
+# Offers the values that may stand at this place, and -- before those that stand after it. Each of those before has
 # one word at least, and one that is repeated has what is left.
 _clidoc_`__places() {
     local -i i is_many=0
@@ -236,9 +236,9 @@ _clidoc_`__places() {
         if [[ ${_clidoc_`__table[places[i]+1]} == many ]]; then is_many=1; fi
         if ((i < place && is_many == 0)); then continue; fi
         has_place=1
-        if [[ ${_clidoc_`__table[places[i]]} == strict && $behind -eq 0 ]]; then
+        if [[ ${_clidoc_`__table[places[i]]} == strict && $after -eq 0 ]]; then
             _clidoc_`__offer --
-        elif [[ $behind -eq 1 || $cur != -* ]]; then
+        elif [[ $after -eq 1 || $cur != -* ]]; then
             _clidoc_`__values "${places[i]}"
         fi
     done
@@ -282,7 +282,7 @@ _clidoc_`__reply() {
 _clidoc_`() {
     local -a words=() commands=() levels=() options=() choices=() names=() owners=() places=() given=() found=()
     local cur= kept= quote= before= how= word
-    local -i place=0 behind=0 option=-1 value_of=-1 files=0 has_place=0 is_cluster=0
+    local -i place=0 after=0 option=-1 value_of=-1 files=0 has_place=0 is_cluster=0
     COMPREPLY=()
     _clidoc_`__read
     _clidoc_`__enter 0
@@ -290,7 +290,7 @@ _clidoc_`() {
     before=
     if ((value_of >= 0)); then
         _clidoc_`__values "${options[value_of]}"
-    elif ((behind)); then
+    elif ((after)); then
         _clidoc_`__places
     elif [[ $cur == -?* ]] && ! _clidoc_`__find "$cur" && _clidoc_`__give "$cur"; then
         if [[ -n $before ]]; then
@@ -322,16 +322,16 @@ complete -F _clidoc_` -- "${_clidoc_`__table[1]}"
 
 /// What stands before the data of a script for zsh.
 pub const ZSH_HEAD: &str =
-    r##"# Completions for zsh: a file '_NAME' in a folder of 'fpath', or sourced behind 'compinit'.
+    r##"# Completions for zsh: a file '_NAME' in a folder of 'fpath', or sourced after 'compinit'.
 #
 # The table below has four words for each entry, which are what it is, and three that say more:
 #
 #   program NAME - -          the program; options up to 'level' stand on each level
 #   level - - -               the top follows, up to its 'end'
 #   once HOW HINT HELP        an option that is given once; 'many': many times; 'or': where the one before is not.
-#                             HOW: flag, value, word (a value that is a word of its own), optional (only behind a =)
+#                             HOW: flag, value, word (a value that is a word of its own), optional (only after a =)
 #   name NAME - -             one of its names
-#   place once HINT -         a positional value, the next one; 'many': many of them; 'strict': behind --
+#   place once HINT -         a positional value, the next one; 'many': many of them; 'strict': after --
 #   among VALUE - -           one of the values that an option or a positional value may have
 #   command NAME - HELP       a command; its level follows, up to its 'end'
 #   alias NAME - -            another name of the command
@@ -401,7 +401,7 @@ _clidoc_`__find() {
 }
 
 # The options that the word $1 gives. 'option' is the last of them, 'how' tells its value, which stands in the word
-# behind 'before', unless that is empty.
+# after 'before', unless that is empty.
 _clidoc_`__give() {
     local -i i
     before=
@@ -427,10 +427,10 @@ _clidoc_`__pass() {
     local -i i
     if ((value_of > 0)); then
         value_of=0
-    elif ((behind)); then
+    elif ((after)); then
         place+=1
     elif [[ $1 == -- ]]; then
-        behind=1
+        after=1
         for ((i = 1; i <= $#places; i++)); do
             if [[ $_clidoc_`__table[places[i]] == strict ]]; then
                 places=($places[i,-1]) place=1
@@ -476,7 +476,7 @@ _clidoc_`__values() {
     esac
 }
 
-# Offers 'matches', each with its help in 'texts', in the group $1; behind each stands $2.
+# Offers 'matches', each with its help in 'texts', in the group $1; after each stands $2.
 _clidoc_`__offer() {
     local -a shown
     local -i i wide=0
@@ -492,7 +492,7 @@ _clidoc_`__offer() {
     if compadd -J $1 -l -S "$2" -d shown -a matches; then offers=0; fi
 }
 
-# Offers the names of options that may still be given. Behind some of them stands a =.
+# Offers the names of options that may still be given. Some of them are followed by a =.
 _clidoc_`__names() {
     local -i i
     local name text
@@ -516,7 +516,7 @@ _clidoc_`__names() {
     _clidoc_`__offer options =
 }
 
-# Offers the values that may stand at this place, and -- before those that stand behind it. Each of those before has
+# Offers the values that may stand at this place, and -- before those that stand after it. Each of those before has
 # one word at least, and one that is repeated has what is left.
 _clidoc_`__places() {
     local -i i is_many=0
@@ -524,9 +524,9 @@ _clidoc_`__places() {
         if [[ $_clidoc_`__table[places[i]+1] == many ]]; then is_many=1; fi
         if ((i < place && ! is_many)); then continue; fi
         has_place=1
-        if [[ $_clidoc_`__table[places[i]] == strict && $behind -eq 0 ]]; then
+        if [[ $_clidoc_`__table[places[i]] == strict && $after -eq 0 ]]; then
             if compadd -J options -- --; then offers=0; fi
-        elif [[ $behind -eq 1 || $current != -* ]]; then
+        elif [[ $after -eq 1 || $current != -* ]]; then
             _clidoc_`__values $places[i]
         fi
     done
@@ -535,13 +535,13 @@ _clidoc_`__places() {
 _clidoc_`() {
     local -a command_names levels helps option_at choices option_names owners places given matches texts
     local current=${(Q)PREFIX} before= how= word
-    local -i place=1 behind=0 option=0 value_of=0 has_place=0 is_cluster=0 offers=1
+    local -i place=1 after=0 option=0 value_of=0 has_place=0 is_cluster=0 offers=1
     _clidoc_`__enter 0
     for word in "${(@)words[2,CURRENT-1]}"; do _clidoc_`__pass "${(Q)word}"; done
     before=
     if ((value_of)); then
         _clidoc_`__values $option_at[value_of]
-    elif ((behind)); then
+    elif ((after)); then
         _clidoc_`__places
     elif [[ $current == -?* ]] && ! _clidoc_`__find "$current" && _clidoc_`__give "$current"; then
         if [[ -n $before ]]; then
@@ -589,9 +589,9 @@ pub const FISH_HEAD: &str =
 #   program NAME - -          the program; options up to 'level' stand on each level
 #   level - - -               the top follows, up to its 'end'
 #   once HOW HINT HELP        an option that is given once; 'many': many times; 'or': where the one before is not.
-#                             HOW: flag, value, word (a value that is a word of its own), optional (only behind a =)
+#                             HOW: flag, value, word (a value that is a word of its own), optional (only after a =)
 #   name NAME - -             one of its names
-#   place once HINT -         a positional value, the next one; 'many': many of them; 'strict': behind --
+#   place once HINT -         a positional value, the next one; 'many': many of them; 'strict': after --
 #   among VALUE - -           one of the values that an option or a positional value may have
 #   command NAME - HELP       a command; its level follows, up to its 'end'
 #   alias NAME - -            another name of the command
@@ -681,7 +681,7 @@ function _clidoc_`__find -S
     set how $_clidoc_`__table[(math $option_at[$option] + 1)]
 end
 
-# The options that a word gives. 'option' is the last of them, 'how' tells its value, which stands in the word behind
+# The options that a word gives. 'option' is the last of them, 'how' tells its value, which stands in the word after
 # 'before', unless that is empty.
 function _clidoc_`__give -S
     set before ''
@@ -711,13 +711,13 @@ function _clidoc_`__pass -S
         set value_of 0
         return
     end
-    if test $behind -eq 1
+    if test $after -eq 1
         set place (math $place + 1)
         return
     end
     switch $argv[1]
         case --
-            set behind 1
+            set after 1
             set -l i 0
             for entry in $places
                 set i (math $i + 1)
@@ -771,7 +771,7 @@ function _clidoc_`__files -S
     end
 end
 
-# Offers what an entry may be, behind 'before'.
+# Offers what an entry may be, after 'before'.
 function _clidoc_`__values -S
     set -l at (math $argv[1] + 4)
     while contains $_clidoc_`__table[$at] name among
@@ -794,7 +794,7 @@ function _clidoc_`__values -S
     end
 end
 
-# Offers the names of options that may still be given. Behind some of them stands a =.
+# Offers the names of options that may still be given. Some of them are followed by a =.
 function _clidoc_`__names -S
     set -l i 0
     for name in $option_names
@@ -812,7 +812,7 @@ function _clidoc_`__names -S
     end
 end
 
-# Offers the values that may stand at this place, and -- before those that stand behind it. Each of those before has
+# Offers the values that may stand at this place, and -- before those that stand after it. Each of those before has
 # one word at least, and one that is repeated has what is left.
 function _clidoc_`__places -S
     set -l i 0
@@ -823,15 +823,15 @@ function _clidoc_`__places -S
         test $_clidoc_`__table[(math $entry + 1)] = many; and set is_many 1
         test $i -lt $place -a $is_many -eq 0; and continue
         set has_place 1
-        if test $_clidoc_`__table[$entry] = strict -a $behind -eq 0
+        if test $_clidoc_`__table[$entry] = strict -a $after -eq 0
             _clidoc_`__say -- ''
-        else if test $behind -eq 1; or not string match -q -- '-*' $current
+        else if test $after -eq 1; or not string match -q -- '-*' $current
             _clidoc_`__values $entry
         end
     end
 end
 
-# Offers what may stand at the cursor, a line each, with a help behind a tab.
+# Offers what may stand at the cursor, a line each, with a help after a tab.
 function _clidoc_`__offer
     set -l words (commandline -opc)
     set -l current (commandline -ct)
@@ -852,7 +852,7 @@ function _clidoc_`__offer
     set -l before ''
     set -l how ''
     set -l place 1
-    set -l behind 0
+    set -l after 0
     set -l option 0
     set -l value_of 0
     set -l has_place 0
@@ -864,7 +864,7 @@ function _clidoc_`__offer
     set before ''
     if test $value_of -gt 0
         _clidoc_`__values $option_at[$value_of]
-    else if test $behind -eq 1
+    else if test $after -eq 1
         _clidoc_`__places
     else if string match -q -- '-*' $current; and test "$current" != -; and not _clidoc_`__find $current
         and _clidoc_`__give $current

@@ -92,9 +92,9 @@ fn push_tagged<A: Allocator>(out: &mut String<A>, tag: &str, text: &str) -> Resu
     ensures { OnOk result (string_bytes out.new ≡ string_bytes out.old ++ tagged tag.now text.now) }
 {
     let mut rest = text;
-    while let Some((piece, behind)) = rest.split_once('`') {
+    while let Some((piece, after)) = rest.split_once('`') {
         push_piece(out, piece, tag)?;
-        rest = behind;
+        rest = after;
     }
     out.push_str(rest)
 }

@@ -3,7 +3,7 @@ ghost use Rattle.std.specs.Prelude.{◌≡◌, ◌++◌, ◌∷◌, ◌<◌, ◌
 ghost use Rattle.std.specs.Prelude.{length, map, take};
 ghost use Rattle.std.specs.Prelude.{IfSome, MatchOption, OnOk, string_bytes};
 ghost use Rattle.std.specs.List.{prefix_len, slice_index};
-ghost use Rattle.completions.specs.Syntax.{behind, depth_behind, ends_name, front, has_form_of_name, has_letter};
+ghost use Rattle.completions.specs.Syntax.{after, depth_after, ends_name, front, has_form_of_name, has_letter};
 ghost use Rattle.completions.specs.Syntax.{is_closing, is_gap, is_of_name, is_opening, named, negated};
 ghost use Rattle.completions.specs.Syntax.{negated_names, syntax_how, syntax_words, tail_how, word_names, word_tail};
 ghost use Rattle.completions.specs.Table.{how_word, lone};
@@ -65,9 +65,9 @@ fn ends_name(byte: u8) -> bool
 
 // ---- words
 
-fn depth_behind(depth: usize, byte: u8) -> usize
+fn depth_after(depth: usize, byte: u8) -> usize
     requires { depth < usize.MAX }
-    ensures { result ≡ depth_behind depth byte }
+    ensures { result ≡ depth_after depth byte }
 {
     if is_opening(byte) {
         depth + 1
@@ -95,7 +95,7 @@ fn first_gap(bytes: &[u8]) -> Option<usize>
         if is_cut(*byte, depth) {
             return Some(index);
         }
-        depth = depth_behind(depth, *byte);
+        depth = depth_after(depth, *byte);
     }
     None
 }
@@ -126,7 +126,7 @@ fn front_len(bytes: &[u8]) -> usize
 // What of a word may be a name, and what follows it.
 fn split_front(word: &str) -> (&str, &str)
     ensures front { result.0.now ≡ front word.now }
-    ensures behind { result.1.now ≡ behind word.now }
+    ensures after { result.1.now ≡ after word.now }
 {
     word.split_at(front_len(word.as_bytes()))
 }
@@ -208,9 +208,9 @@ pub fn push_syntax<A: Allocator>(
         (map (lone (codes "name")) (flat_map word_names (syntax_words text.now)))) }
 {
     let mut rest = text;
-    while let Some((word, behind)) = split_word(rest) {
+    while let Some((word, after)) = split_word(rest) {
         push_word(out, shell, word)?;
-        rest = behind;
+        rest = after;
     }
     push_word(out, shell, rest)
 }
@@ -245,9 +245,9 @@ pub fn syntax_how(text: &str) -> How
     ensures { result ≡ syntax_how text.now }
 {
     let mut rest = text;
-    while let Some((word, behind)) = split_word(rest) {
+    while let Some((word, after)) = split_word(rest) {
         match tail_how(word_tail(word).as_bytes()) {
-            How::Flag => rest = behind,
+            How::Flag => rest = after,
             found => return found,
         }
     }

@@ -19,9 +19,9 @@ fn push_listed<A: Allocator>(
         (map (lone (codes "among")) (listed_values text.now))) }
 {
     let mut rest = text;
-    while let Some((value, behind)) = split_value(rest) {
+    while let Some((value, after)) = split_value(rest) {
         push_entry(out, shell, Entry::lone("among", value))?;
-        rest = behind;
+        rest = after;
     }
     push_entry(out, shell, Entry::lone("among", rest))
 }

@@ -6,7 +6,7 @@ use Rattle.std.proofs.lemmas.Bool.{ne_eqb}
 use Rattle.std.proofs.lemmas.List.Splits.{slice_split_first}
 use Rattle.std.proofs.lemmas.Str.Pattern.{IsSplitOnceResult, split_once_first, split_parts}
 use Rattle.bpaf_doc.specs.Splitter.Chunks.{columns}
-use Rattle.console_page.specs.Usage.{form_margin, hanging, item_front, items_text, left_behind, pieces}
+use Rattle.console_page.specs.Usage.{form_margin, hanging, item_front, items_text, left_after_item, pieces}
 use Rattle.console_page.specs.Steps.{left_after}
 
 -- ---- items after others
@@ -14,13 +14,13 @@ use Rattle.console_page.specs.Steps.{left_after}
 pub items_append : (room : ℕ) (margin : List ℕ) (left : ℕ) (xs ys : List (List ℕ)) → items_text room margin left (xs ++ ys) ≡ items_text room margin left xs ++ items_text room margin (left_after room left xs) ys
 items_append room margin left [] ys = refl
 items_append room margin left (x ∷ xs) ys =
-    ap (λ more. item_front room margin left x ++ (x ++ more)) (items_append room margin (left_behind room left x) xs ys)
-    ∙ ap (λ more. item_front room margin left x ++ more) (sym (append_assoc x (items_text room margin (left_behind room left x) xs) (items_text room margin (left_after room (left_behind room left x) xs) ys)))
-    ∙ sym (append_assoc (item_front room margin left x) (x ++ items_text room margin (left_behind room left x) xs) (items_text room margin (left_after room (left_behind room left x) xs) ys))
+    ap (λ more. item_front room margin left x ++ (x ++ more)) (items_append room margin (left_after_item room left x) xs ys)
+    ∙ ap (λ more. item_front room margin left x ++ more) (sym (append_assoc x (items_text room margin (left_after_item room left x) xs) (items_text room margin (left_after room (left_after_item room left x) xs) ys)))
+    ∙ sym (append_assoc (item_front room margin left x) (x ++ items_text room margin (left_after_item room left x) xs) (items_text room margin (left_after room (left_after_item room left x) xs) ys))
 
 pub after_append : (room left : ℕ) (xs ys : List (List ℕ)) → left_after room left (xs ++ ys) ≡ left_after room (left_after room left xs) ys
 after_append room left [] ys = refl
-after_append room left (x ∷ xs) ys = after_append room (left_behind room left x) xs ys
+after_append room left (x ∷ xs) ys = after_append room (left_after_item room left x) xs ys
 
 -- a step of a loop that writes some items of all that are left
 pub put_step : (room : ℕ) (margin : List ℕ) (left more : ℕ) (out new whole : List ℕ) (all xs rest : List (List ℕ)) → all ≡ xs ++ rest → new ≡ out ++ items_text room margin left xs → more ≡ left_after room left xs → out ++ items_text room margin left all ≡ whole → new ++ items_text room margin more rest ≡ whole
@@ -54,9 +54,9 @@ unsplit c (b ∷ bs) h =
 pub last_there : (c : ℕ) (bs : List ℕ) (f : List ℕ → List (List ℕ)) → IsSplitOnceResult c bs None → c < 128 → flat_map f (slice_split (λ b. b == c) bs) ≡ f bs
 last_there c bs f h low = ap (flat_map f) (unsplit c bs (split_parts c bs None h low)) ∙ append-nil (f bs)
 
-pub next_there : (c : ℕ) (bs : List ℕ) (f : List ℕ → List (List ℕ)) (line behind : Bor (List ℕ)) → IsSplitOnceResult c bs (Some (line, behind)) → c < 128 → flat_map f (slice_split (λ b. b == c) bs) ≡ f line.now ++ flat_map f (slice_split (λ b. b == c) behind.now)
-next_there c bs f line behind h low =
-    let found = split_once_first c bs (Some (line, behind)) h low in
+pub next_there : (c : ℕ) (bs : List ℕ) (f : List ℕ → List (List ℕ)) (line after : Bor (List ℕ)) → IsSplitOnceResult c bs (Some (line, after)) → c < 128 → flat_map f (slice_split (λ b. b == c) bs) ≡ f line.now ++ flat_map f (slice_split (λ b. b == c) after.now)
+next_there c bs f line after h low =
+    let found = split_once_first c bs (Some (line, after)) h low in
     ap (flat_map f) (slice_split_first (λ b. b == c) bs 0 found.0 ∙ ap (λ x. x ∷ slice_split (λ b. b == c) (after_first (λ b. b == c) bs)) (sym found.1) ∙ ap (λ x. line.now ∷ slice_split (λ b. b == c) x) (sym found.2))
 
 -- ---- items after a front
@@ -70,8 +70,8 @@ hung_same width taken len room front margin shown items t m s l r =
     ∙ ap (λ x. items_text (width - length (form_margin width (columns front) items)) x (width - taken) (flat_map (pieces (width - length (form_margin width (columns front) items))) items)) is
     ∙ ap (λ n. items_text (width - length (form_margin width (columns front) items)) (form_margin width (columns front) items) (width - n) (flat_map (pieces (width - length (form_margin width (columns front) items))) items)) t
 
-behind_front : (out front shown o1 o2 new : List ℕ) → o1 ≡ out ++ front → o2 ≡ o1 ++ shown → new ≡ o2 ++ codes "\n" → new ≡ out ++ (front ++ (shown ++ codes "\n"))
-behind_front out front shown o1 o2 new a b c =
+after_front : (out front shown o1 o2 new : List ℕ) → o1 ≡ out ++ front → o2 ≡ o1 ++ shown → new ≡ o2 ++ codes "\n" → new ≡ out ++ (front ++ (shown ++ codes "\n"))
+after_front out front shown o1 o2 new a b c =
     c ∙ ap (λ x. x ++ codes "\n") (b ∙ ap (λ x. x ++ shown) a)
     ∙ append_assoc (out ++ front) shown (codes "\n")
     ∙ append_assoc out front (shown ++ codes "\n")
@@ -79,6 +79,6 @@ behind_front out front shown o1 o2 new a b c =
 pub hung_step : {T E : Type 0} (r : Result T E) (width taken len room : ℕ) (front margin shown out o1 o2 new : List ℕ) (items : List (List ℕ)) → taken ≡ columns front → margin ≡ form_margin width taken items → shown ≡ margin → len ≡ length shown → room ≡ width - len → o1 ≡ out ++ front → o2 ≡ o1 ++ items_text room shown (width - taken) (flat_map (pieces room) items) → new ≡ (if is_ok r then o2 ++ codes "\n" else o2) → OnOk r (new ≡ out ++ hanging width front items)
 unfolding hanging
 hung_step (Ok v) width taken len room front margin shown out o1 o2 new items t m s l r a b n =
-    behind_front out front (items_text room shown (width - taken) (flat_map (pieces room) items)) o1 o2 new a b n
+    after_front out front (items_text room shown (width - taken) (flat_map (pieces room) items)) o1 o2 new a b n
     ∙ ap (λ x. out ++ (front ++ (x ++ codes "\n"))) (hung_same width taken len room front margin shown items t m s l r)
 hung_step (Err e) width taken len room front margin shown out o1 o2 new items t m s l r a b n = tt

@@ -1,5 +1,5 @@
 pub mod Bars
-pub mod Behind
+pub mod After
 pub mod Items
 pub mod Lists
 pub mod Rows

@@ -18,12 +18,12 @@ fronted front (b ∷ line) = front ++ (b ∷ line)
 
 -- The lines of a text, the first after one prefix and each further one after another: `first` stands before the next
 -- byte, unless that ends the line; after a newline it is the other prefix.
-abbrev pub behind : List ℕ → List ℕ → List ℕ → List ℕ
-behind first others [] = []
-behind first others (b ∷ text) =
+abbrev pub after : List ℕ → List ℕ → List ℕ → List ℕ
+after first others [] = []
+after first others (b ∷ text) =
     elim (b == 10) [
-      | true ↦ 10 ∷ behind others others text
-      | false ↦ first ++ (b ∷ behind [] others text)
+      | true ↦ 10 ∷ after others others text
+      | false ↦ first ++ (b ∷ after [] others text)
     ]
 
 -- an empty line, where one is wanted

@@ -3,7 +3,7 @@ use Rattle.std.specs.Prelude.{ℕ, ◌+◌, ◌-◌, Bool, true, false, not, Lis
 use Rattle.page_model.specs.Content.{FormSaid, PartSaid, heading, usage, block, entries}
 use Rattle.console_page.specs.declared.texts.Role.TheVariants.{Text}
 use Rattle.console_page.specs.Texts.{shown}
-use Rattle.console_page.specs.Lines.{behind, parting}
+use Rattle.console_page.specs.Lines.{after, parting}
 use Rattle.console_page.specs.Blocks.{block_text}
 use Rattle.console_page.specs.Entries.{entries_text, widest_of}
 use Rattle.console_page.specs.Usage.{usage_text}
@@ -23,9 +23,9 @@ help_column parts = fold widest_in 0 parts + 6
 abbrev pub part_text : ℕ → ℕ → List ℕ → List ℕ → PartSaid → List ℕ
 part_text width column word margin (heading rank title) = shown Text title ++ codes ":\n"
 part_text width column word margin (usage forms) =
-    behind margin margin (usage_text (width - length margin) word forms)
+    after margin margin (usage_text (width - length margin) word forms)
 part_text width column word margin (block shown) =
-    behind margin margin (block_text (width - length margin) shown)
+    after margin margin (block_text (width - length margin) shown)
 part_text width column word margin (entries list) = entries_text width column false list
 
 abbrev pub is_heading : PartSaid → Bool
@@ -35,18 +35,18 @@ is_heading (block shown) = false
 is_heading (entries list) = false
 
 -- from the first heading on the margin is four columns
-abbrev pub margin_behind : List ℕ → PartSaid → List ℕ
-margin_behind margin (heading rank title) = codes "    "
-margin_behind margin (usage forms) = margin
-margin_behind margin (block shown) = margin
-margin_behind margin (entries list) = margin
+abbrev pub margin_after : List ℕ → PartSaid → List ℕ
+margin_after margin (heading rank title) = codes "    "
+margin_after margin (usage forms) = margin
+margin_after margin (block shown) = margin
+margin_after margin (entries list) = margin
 
 -- an empty line stands before each part but the first, and not directly below a heading
 abbrev pub parts_text : ℕ → ℕ → List ℕ → List ℕ → Bool → List PartSaid → List ℕ
 parts_text width column word margin parted [] = []
 parts_text width column word margin parted (part ∷ parts) =
     parting parted ++ (part_text width column word margin part
-    ++ parts_text width column word (margin_behind margin part) (not (is_heading part)) parts)
+    ++ parts_text width column word (margin_after margin part) (not (is_heading part)) parts)
 
 -- the word that stands before a usage, with its colon
 abbrev pub word_text : List ℕ → List ℕ

@@ -19,13 +19,13 @@ abbrev pub item_front : ℕ → List ℕ → ℕ → List ℕ → List ℕ
 item_front room margin left item = if breaks room left item then codes "\n" ++ margin else codes " "
 
 -- the columns that are left after it
-abbrev pub left_behind : ℕ → ℕ → List ℕ → ℕ
-left_behind room left item = (if breaks room left item then room else left - 1) - columns item
+abbrev pub left_after_item : ℕ → ℕ → List ℕ → ℕ
+left_after_item room left item = (if breaks room left item then room else left - 1) - columns item
 
 abbrev pub items_text : ℕ → List ℕ → ℕ → List (List ℕ) → List ℕ
 items_text room margin left [] = []
 items_text room margin left (item ∷ items) =
-    item_front room margin left item ++ (item ++ items_text room margin (left_behind room left item) items)
+    item_front room margin left item ++ (item ++ items_text room margin (left_after_item room left item) items)
 
 -- ---- what of an item is not broken
 
@@ -44,34 +44,34 @@ is_opening b = (b == 91 || b == 40) || (b == 123 || b == 60)
 abbrev pub is_closing : ℕ → Bool
 is_closing b = (b == 93 || b == 41) || (b == 125 || b == 62)
 
-abbrev pub depth_behind : ℕ → ℕ → ℕ
-depth_behind depth b =
+abbrev pub depth_after : ℕ → ℕ → ℕ
+depth_after depth b =
     if is_opening b then min (depth + 1) 18_446_744_073_709_551_615 else if is_closing b then depth - 1 else depth
 
 -- a blank after a bar
 abbrev pub is_bar_end : Bool → ℕ → Bool
-is_bar_end behind_bar b = behind_bar && b == 32
+is_bar_end after_bar b = after_bar && b == 32
 
 -- the least depth at which a bar stands
-abbrev pub least_behind : ℕ → ℕ → Bool → ℕ → ℕ
-least_behind least depth behind_bar b = if is_bar_end behind_bar b then min least depth else least
+abbrev pub least_after : ℕ → ℕ → Bool → ℕ → ℕ
+least_after least depth after_bar b = if is_bar_end after_bar b then min least depth else least
 
 abbrev pub outermost : ℕ → ℕ → Bool → List ℕ → ℕ
-outermost least depth behind_bar [] = least
-outermost least depth behind_bar (b ∷ item) =
-    outermost (least_behind least depth behind_bar b) (depth_behind depth b) (b == 124) item
+outermost least depth after_bar [] = least
+outermost least depth after_bar (b ∷ item) =
+    outermost (least_after least depth after_bar b) (depth_after depth b) (b == 124) item
 
 -- an item with newlines in place of the blanks after the bars of a depth
 abbrev pub is_cut : ℕ → ℕ → Bool → ℕ → Bool
-is_cut least depth behind_bar b = is_bar_end behind_bar b && depth == least
+is_cut least depth after_bar b = is_bar_end after_bar b && depth == least
 
 abbrev pub cut_byte : ℕ → ℕ → Bool → ℕ → ℕ
-cut_byte least depth behind_bar b = if is_cut least depth behind_bar b then 10 else b
+cut_byte least depth after_bar b = if is_cut least depth after_bar b then 10 else b
 
 abbrev pub cut_bars : ℕ → ℕ → Bool → List ℕ → List ℕ
-cut_bars least depth behind_bar [] = []
-cut_bars least depth behind_bar (b ∷ item) =
-    cut_byte least depth behind_bar b ∷ cut_bars least (depth_behind depth b) (b == 124) item
+cut_bars least depth after_bar [] = []
+cut_bars least depth after_bar (b ∷ item) =
+    cut_byte least depth after_bar b ∷ cut_bars least (depth_after depth b) (b == 124) item
 
 -- an item with newlines after its outermost bars; closing brackets may come before opening ones
 abbrev pub cut_item : List ℕ → List ℕ
@@ -91,8 +91,8 @@ pieces room item =
 -- ---- a form
 
 -- the columns after a front that takes that many, and a blank
-abbrev pub room_behind : ℕ → ℕ → ℕ
-room_behind width taken = width - taken - 1
+abbrev pub room_after : ℕ → ℕ → ℕ
+room_after width taken = width - taken - 1
 
 abbrev pub all_fit : ℕ → List (List ℕ) → Bool
 all_fit room items = list_all (fits room) items
@@ -100,7 +100,7 @@ all_fit room items = list_all (fits room) items
 -- Lines except the first begin under the first item, or four columns in where the widest item would not fit there.
 abbrev pub form_margin : ℕ → ℕ → List (List ℕ) → List ℕ
 form_margin width taken items =
-    if all_fit (room_behind width taken) items then blanks taken ++ codes " " else codes "    "
+    if all_fit (room_after width taken) items then blanks taken ++ codes " " else codes "    "
 
 -- items after a front
 abbrev pub hung_items : ℕ → List ℕ → List ℕ → List (List ℕ) → List ℕ

@@ -1,13 +1,13 @@
 //! Items that are too wide for a line, cut at their outermost bars.
 
 ghost use Rattle.std.specs.Prelude.{◌≡◌, ◌++◌, ◌==◌, false, length, OnOk, string_bytes};
-ghost use Rattle.console_page.specs.Usage.{cut_bars, cut_item, depth_behind, is_bar_end, is_cut};
-ghost use Rattle.console_page.specs.Usage.{least_behind, outermost};
+ghost use Rattle.console_page.specs.Usage.{cut_bars, cut_item, depth_after, is_bar_end, is_cut};
+ghost use Rattle.console_page.specs.Usage.{least_after, outermost};
 
 use std::alloc::{AllocError, Allocator};
 
-fn depth_behind(depth: usize, byte: u8) -> usize
-    ensures { result ≡ depth_behind depth byte }
+fn depth_after(depth: usize, byte: u8) -> usize
+    ensures { result ≡ depth_after depth byte }
 {
     match byte {
         b'[' | b'(' | b'{' | b'<' => depth.saturating_add(1),
@@ -16,16 +16,16 @@ fn depth_behind(depth: usize, byte: u8) -> usize
     }
 }
 
-fn is_bar_end(is_behind_bar: bool, byte: u8) -> bool
-    ensures { result ≡ is_bar_end is_behind_bar byte }
+fn is_bar_end(is_after_bar: bool, byte: u8) -> bool
+    ensures { result ≡ is_bar_end is_after_bar byte }
 {
-    is_behind_bar && byte == b' '
+    is_after_bar && byte == b' '
 }
 
-fn least_behind(least: usize, depth: usize, is_behind_bar: bool, byte: u8) -> usize
-    ensures { result ≡ least_behind least depth is_behind_bar byte }
+fn least_after(least: usize, depth: usize, is_after_bar: bool, byte: u8) -> usize
+    ensures { result ≡ least_after least depth is_after_bar byte }
 {
-    if is_bar_end(is_behind_bar, byte) {
+    if is_bar_end(is_after_bar, byte) {
         least.min(depth)
     } else {
         least
@@ -39,19 +39,19 @@ fn outermost(item: &str) -> usize
     let bytes = item.as_bytes();
     let mut least = usize::MAX;
     let mut depth = bytes.len();
-    let mut is_behind_bar = false;
+    let mut is_after_bar = false;
     for byte in bytes {
-        least = least_behind(least, depth, is_behind_bar, *byte);
-        depth = depth_behind(depth, *byte);
-        is_behind_bar = *byte == b'|';
+        least = least_after(least, depth, is_after_bar, *byte);
+        depth = depth_after(depth, *byte);
+        is_after_bar = *byte == b'|';
     }
     least
 }
 
-fn is_cut(least: usize, depth: usize, is_behind_bar: bool, byte: u8) -> bool
-    ensures { result ≡ is_cut least depth is_behind_bar byte }
+fn is_cut(least: usize, depth: usize, is_after_bar: bool, byte: u8) -> bool
+    ensures { result ≡ is_cut least depth is_after_bar byte }
 {
-    is_bar_end(is_behind_bar, byte) && depth == least
+    is_bar_end(is_after_bar, byte) && depth == least
 }
 
 // Writes a text with newlines in place of the blanks after the bars of a depth.
@@ -66,15 +66,15 @@ fn push_cut_at<A: Allocator>(
     let bytes = item.as_bytes();
     let mut start = 0;
     let mut depth = bytes.len();
-    let mut is_behind_bar = false;
+    let mut is_after_bar = false;
     for at in 0..bytes.len() {
-        if is_cut(least, depth, is_behind_bar, bytes[at]) {
+        if is_cut(least, depth, is_after_bar, bytes[at]) {
             out.push_str(&item[start..at])?;
             out.push_str("\n")?;
             start = at + 1;
         }
-        depth = depth_behind(depth, bytes[at]);
-        is_behind_bar = bytes[at] == b'|';
+        depth = depth_after(depth, bytes[at]);
+        is_after_bar = bytes[at] == b'|';
     }
     out.push_str(&item[start..])
 }

@@ -4,14 +4,14 @@ ghost use Rattle.std.specs.Prelude.{◌≡◌, ◌≤◌, ◌&&◌, ◌++◌, []
 ghost use Rattle.std.specs.List.{list_all};
 ghost use Rattle.page_model.specs.Permitted.{are_permitted, is_permitted_form, is_permitted_part};
 ghost use Rattle.page_model.specs.View.{form_of, part_of};
-ghost use Rattle.console_page.specs.Page.{forms_text, help_column, is_heading, margin_behind, page_text, part_text};
+ghost use Rattle.console_page.specs.Page.{forms_text, help_column, is_heading, margin_after, page_text, part_text};
 ghost use Rattle.console_page.specs.Page.{parts_text, widest_in, word_text};
 ghost use Rattle.page_model.specs.Faults.{FailsOnlyBy, fault_unless};
 ghost use Rattle.console_page.specs.Promises.{page_fault, usage_fault};
 
 use crate::blocks::push_block;
 use crate::entries::{push_entries, widest_of};
-use crate::lines::{parting, push_behind};
+use crate::lines::{parting, push_after};
 use crate::texts::Role;
 use crate::usage::push_usage;
 use page_model::permitted::{are_permitted, are_permitted_forms, are_permitted_parts};
@@ -74,11 +74,11 @@ fn push_part<A: Allocator + Copy, B: Allocator>(
         }
         Part::Usage(forms) => {
             push_usage(&mut text, alloc, width, sheet.word, forms.as_slice())?;
-            push_behind(out, text.as_str(), margin, margin)
+            push_after(out, text.as_str(), margin, margin)
         }
         Part::Block(block) => {
             push_block(&mut text, alloc, block, width)?;
-            push_behind(out, text.as_str(), margin, margin)
+            push_after(out, text.as_str(), margin, margin)
         }
         Part::Entries(entries) => {
             push_entries(out, alloc, sheet.width, sheet.column, entries.as_slice())
@@ -92,8 +92,8 @@ fn is_heading<B: Allocator>(part: &Part<'_, B>) -> bool
     matches!(part, Part::Heading(_, _))
 }
 
-fn margin_behind<'a, B: Allocator>(margin: &'a str, part: &Part<'_, B>) -> &'a str
-    ensures { result.now ≡ margin_behind margin.now (part_of part.now) }
+fn margin_after<'a, B: Allocator>(margin: &'a str, part: &Part<'_, B>) -> &'a str
+    ensures { result.now ≡ margin_after margin.now (part_of part.now) }
 {
     match part {
         Part::Heading(_, _) => "    ",
@@ -115,7 +115,7 @@ fn push_parts<A: Allocator + Copy, B: Allocator>(
     for part in parts {
         out.push_str(parting(is_parted))?;
         push_part(out, alloc, sheet, margin, part)?;
-        margin = margin_behind(margin, part);
+        margin = margin_after(margin, part);
         is_parted = !is_heading(part);
     }
     Ok(())

@@ -5,7 +5,7 @@ ghost use Rattle.page_model.specs.View.{form_of, line_of};
 ghost use Rattle.console_page.specs.Lines.{blanks};
 ghost use Rattle.console_page.specs.Texts.{line_text};
 ghost use Rattle.console_page.specs.Usage.{all_fit, breaks, fits, form_margin, form_text, hanging, item_front};
-ghost use Rattle.console_page.specs.Usage.{items_text, kept, left_behind, part_pieces, pieces, usage_text};
+ghost use Rattle.console_page.specs.Usage.{items_text, kept, left_after_item, part_pieces, pieces, usage_text};
 ghost use Rattle.std.specs.List.{slice_split};
 ghost use Rattle.console_page.specs.Steps.{left_after};
 
@@ -29,8 +29,8 @@ fn breaks(room: usize, left: usize, item: &str) -> bool
     left <= columns_of(item) && left < room
 }
 
-fn left_behind(room: usize, left: usize, item: &str) -> usize
-    ensures { result ≡ left_behind room left item.now }
+fn left_after_item(room: usize, left: usize, item: &str) -> usize
+    ensures { result ≡ left_after_item room left item.now }
 {
     let before = if breaks(room, left, item) {
         room
@@ -72,7 +72,7 @@ fn push_kept<A: Allocator>(
     }
     push_item_front(out, left, item, hang)?;
     out.push_str(item)?;
-    Ok(left_behind(hang.room, left, item))
+    Ok(left_after_item(hang.room, left, item))
 }
 
 fn push_words<A: Allocator>(
@@ -89,9 +89,9 @@ fn push_words<A: Allocator>(
 {
     let mut left = first_left;
     let mut rest = part;
-    while let Some((word, behind)) = rest.split_once(' ') {
+    while let Some((word, after)) = rest.split_once(' ') {
         left = push_kept(out, left, word, hang)?;
-        rest = behind;
+        rest = after;
     }
     push_kept(out, left, rest, hang)
 }
@@ -130,9 +130,9 @@ fn push_parts<A: Allocator>(
 {
     let mut left = first_left;
     let mut rest = text;
-    while let Some((part, behind)) = rest.split_once('\n') {
+    while let Some((part, after)) = rest.split_once('\n') {
         left = push_part(out, left, part, hang)?;
-        rest = behind;
+        rest = after;
     }
     push_part(out, left, rest, hang)
 }

@@ -12,10 +12,10 @@ unfolding json_table json_value
 no_value text ts same none = rw (← same, ← none)
 
 -- something follows the value
-pub more_behind : (text : List ℕ) (ts : List Token) (j : json.Json) (left : List Token) (t : Token) (rest : List Token) → ts ≡ tokens text
+pub more_after : (text : List ℕ) (ts : List Token) (j : json.Json) (left : List Token) (t : Token) (rest : List Token) → ts ≡ tokens text
     → Some (j, left) ≡ json.value recursion_limit ts → left ≡ t ∷ rest → None ≡ json_table text
 unfolding json_table json_value
-more_behind text ts j left t rest same is more = rw (← same, ← is, more)
+more_after text ts j left t rest same is more = rw (← same, ← is, more)
 
 -- the value is all there is
 pub whole : (text : List ℕ) (ts : List Token) (j : json.Json) (left : List Token) → ts ≡ tokens text

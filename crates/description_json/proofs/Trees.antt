@@ -91,15 +91,15 @@ items_end js i all vs past before =
 abbrev pub JsonMember : Type 0 → Type 0
 JsonMember A = Bor (List ℕ) × json_value.Value A
 
-lost_behind : (f : Data → Members → Option Members) (o : Option Data) → option_and_then (λ d. option_and_then (f d) None) o ≡ None
-lost_behind f None = refl
-lost_behind f (Some d) = refl
+lost_after : (f : Data → Members → Option Members) (o : Option Data) → option_and_then (λ d. option_and_then (f d) None) o ≡ None
+lost_after f None = refl
+lost_after f (Some d) = refl
 
 -- where some last members have no data, all have none
 pub members_lost : {A : Type 0} → (ms : List (JsonMember A)) (i : ℕ) → members_data (json_view.members_view (drop i ms)) ≡ None → members_data (json_view.members_view ms) ≡ None
 members_lost ms zero lost = lost
 members_lost [] (suc i) lost = lost
-members_lost (m ∷ ms) (suc i) lost = rw (members_lost ms i lost) (lost_behind (with_member m.0.now) (value_data (json_view.value_view m.1)))
+members_lost (m ∷ ms) (suc i) lost = rw (members_lost ms i lost) (lost_after (with_member m.0.now) (value_data (json_view.value_view m.1)))
 
 module _ {A : Type 0} (ms : List (JsonMember A)) (i : ℕ) (m : JsonMember A) (within : i < length ms) (at : m ≡ get_or ms i m) (later : Members) (done : members_data (json_view.members_view (drop (i + 1) ms)) ≡ Some later) where
   members_from : members_data (json_view.members_view (drop i ms)) ≡ option_and_then (λ d. with_member m.0.now d later) (value_data (json_view.value_view m.1))

@@ -39,8 +39,8 @@ is_closing byte = byte == ascii.close_brace || byte == ascii.close_bracket
 -- closed, is a document without the path, and the text through it, closed in the same way, is one with it.
 pub record IsFront (text : List ℕ) (path : List Step) (front : List ℕ) : Type 0 where
   pub entry : List ℕ
-  pub behind : List ℕ
-  pub whole : text ≡ front ++ (entry ++ behind)
+  pub following : List ℕ
+  pub whole : text ≡ front ++ (entry ++ following)
   pub last : Step
   pub last_is : slice_get path (length path - 1) ≡ Some last
   pub named : IsEntry last entry

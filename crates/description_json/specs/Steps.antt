@@ -11,7 +11,7 @@ IsMemory (Content fault) = ⊥
 
 -- the text begins like this
 abbrev pub Begins : (text front : List ℕ) → Type 0
-Begins text front = (behind : List ℕ) × (text ≡ front ++ behind)
+Begins text front = (following : List ℕ) × (text ≡ front ++ following)
 
 -- the fault stands in the text
 abbrev pub IsIn : (text : List ℕ) → JsonFault → Type 0

@@ -24,13 +24,13 @@ pub fn front_of<'t>(
     let (front, entry) = (found.front, found.entry);
     let closing = found.closing.as_str();
     let kept = front.trim_end_matches(GAP);
-    let Some(from) = behind(text, front) else {
+    let Some(from) = following(text, front) else {
         return Ok(None);
     };
-    let Some(_) = behind(from, entry) else {
+    let Some(_) = following(from, entry) else {
         return Ok(None);
     };
-    let Some(gap) = behind(front, kept) else {
+    let Some(gap) = following(front, kept) else {
         return Ok(None);
     };
     let Some(last) = path.last() else {
@@ -50,7 +50,7 @@ pub fn front_of<'t>(
 }
 
 // What follows this front of the text.
-fn behind<'t>(text: &'t str, front: &str) -> Option<&'t str>
+fn following<'t>(text: &'t str, front: &str) -> Option<&'t str>
     ensures { IfSome result (λ rest. text.now ≡ front.now ++ rest.now) }
 {
     text.strip_prefix(front)

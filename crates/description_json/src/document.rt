@@ -13,7 +13,7 @@ use toml::Table;
 use toml_parser::RECURSION_LIMIT;
 
 /// The table that the text gives, if it gives one.
-#[tactic(auto, using(crate::proofs::Texts::no_value, crate::proofs::Texts::more_behind, crate::proofs::Texts::whole))]
+#[tactic(auto, using(crate::proofs::Texts::no_value, crate::proofs::Texts::more_after, crate::proofs::Texts::whole))]
 pub fn table_of(alloc: Global, text: &str) -> Result<Option<Table>, AllocError>
     ensures { IfOk result (λ found. option_map table_view found ≡ json_table text.now) }
 {

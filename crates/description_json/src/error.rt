@@ -51,7 +51,7 @@ pub enum Why {
     /// A comma stands before this closing bracket.
     LastComma,
     /// The object at the top ends before this.
-    Behind,
+    After,
     /// This is not an escape.
     Escape,
     /// This escape is half of a character, and the other half is not beside it.
@@ -76,11 +76,11 @@ impl Display for Why {
             Why::NotClosed(mark) => write!(f, "{mark} is not closed"),
             Why::NoObject => f.write_str("no object of JSON; { has to stand here"),
             Why::NoKey => f.write_str("a key in double quotes has to stand here"),
-            Why::NoColon => f.write_str("a colon has to stand behind this key"),
+            Why::NoColon => f.write_str("a colon has to stand after this key"),
             Why::NoValue => f.write_str("a value of JSON has to stand here"),
             Why::NoComma(closing) => write!(f, "a comma or {closing} has to stand here"),
             Why::LastComma => f.write_str("no comma may stand before this bracket"),
-            Why::Behind => f.write_str("nothing may stand behind the object"),
+            Why::After => f.write_str("nothing may stand after the object"),
             Why::Escape => f.write_str("no escape of JSON"),
             Why::Surrogate => f.write_str("half of a surrogate pair, without the other half"),
             Why::Control => {

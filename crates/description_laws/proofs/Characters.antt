@@ -75,20 +75,20 @@ pub heading_plain : (text : List ℕ) → is_heading text ≡ true → PlainText
 heading_plain text h = let both = and_parts (is_title text) (not (has_blank_end text) && not (is_empty_text (without_colon text))) h in title_plain text both.0
 
 -- the characters of the first bytes of a text are the first ones of the text
-taken_behind : (k n c : ℕ) (text : List ℕ) → Plain (chars_after n c text) → Plain (chars_after n c (take k text))
-taken_behind zero zero c [] h = h
-taken_behind zero zero c (b ∷ text) h = let both = and_parts (is_text_character c) (list_all is_text_character (chars_after (continuation_len b) (lead_bits b) text)) h in plain_cons c [] both.0 refl
-taken_behind zero (suc n) c text h = refl
-taken_behind (suc k) n c [] h = h
-taken_behind (suc k) zero c (b ∷ text) h = let both = and_parts (is_text_character c) (list_all is_text_character (chars_after (continuation_len b) (lead_bits b) text)) h in
-    plain_cons c (chars_after (continuation_len b) (lead_bits b) (take k text)) both.0 (taken_behind k (continuation_len b) (lead_bits b) text both.1)
-taken_behind (suc k) (suc n) c (b ∷ text) h = taken_behind k n (c * 64 + (b - 128)) text h
+taken_after : (k n c : ℕ) (text : List ℕ) → Plain (chars_after n c text) → Plain (chars_after n c (take k text))
+taken_after zero zero c [] h = h
+taken_after zero zero c (b ∷ text) h = let both = and_parts (is_text_character c) (list_all is_text_character (chars_after (continuation_len b) (lead_bits b) text)) h in plain_cons c [] both.0 refl
+taken_after zero (suc n) c text h = refl
+taken_after (suc k) n c [] h = h
+taken_after (suc k) zero c (b ∷ text) h = let both = and_parts (is_text_character c) (list_all is_text_character (chars_after (continuation_len b) (lead_bits b) text)) h in
+    plain_cons c (chars_after (continuation_len b) (lead_bits b) (take k text)) both.0 (taken_after k (continuation_len b) (lead_bits b) text both.1)
+taken_after (suc k) (suc n) c (b ∷ text) h = taken_after k n (c * 64 + (b - 128)) text h
 
 taken_plain : (k : ℕ) (text : List ℕ) → PlainText text → PlainText (take k text)
 unfolding chars
 taken_plain zero text h = refl
 taken_plain (suc k) [] h = h
-taken_plain (suc k) (b ∷ text) h = taken_behind k (continuation_len b) (lead_bits b) text h
+taken_plain (suc k) (b ∷ text) h = taken_after k (continuation_len b) (lead_bits b) text h
 
 pub colon_plain : (text : List ℕ) → PlainText text → PlainText (without_colon text)
 colon_plain text h = taken_plain (length (trim_end (before_colon text))) text h

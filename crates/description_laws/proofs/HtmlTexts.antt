@@ -27,7 +27,7 @@ use Rattle.page_model.specs.Permitted.{is_permitted}
 use Rattle.html_page.specs.Events as events
 use Rattle.html_page.specs.Events.{Event, break_line, end, event_fault, events_fault, first_fault, inside, inside_with_id, link_to, say, start, start_link, start_with_id, text_in, with_event}
 use Rattle.html_page.specs.Ids.{chapter_id, entry_id, heading_id, id_byte, id_text, is_id_byte, numbered, times, title_byte}
-use Rattle.html_page.specs.Page.{Before, behind, block_events, blocks_events, chapter_links, chapter_sections, chapters_links, chapters_sections, code_events, entries_events, entry_events, entry_words, footer_events, form_events, has_links, header_events, heading_behind, heading_link, heading_links, headings_of, id_behind, item_events, line_events, lines_events, listed_links, main_events, nav_events, nothing_before, own_term, page_events, part_events, parts_events, piece_events, term_events, terms_events, top_section, usage_events, usage_item, usage_piece}
+use Rattle.html_page.specs.Page.{Before, after, block_events, blocks_events, chapter_links, chapter_sections, chapters_links, chapters_sections, code_events, entries_events, entry_events, entry_words, footer_events, form_events, has_links, header_events, heading_after, heading_link, heading_links, headings_of, id_after, item_events, line_events, lines_events, listed_links, main_events, nav_events, nothing_before, own_term, page_events, part_events, parts_events, piece_events, term_events, terms_events, top_section, usage_events, usage_item, usage_piece}
 use Rattle.html_page.specs.Promises.{begun_page, head_fault, page_draft, page_fault}
 use Rattle.html_page.specs.Style.{style_sheet}
 use Rattle.html_page.specs.View.{FrameSaid}
@@ -268,12 +268,12 @@ own_is : (id : List ℕ) (terms : List Line) → Low id → Each LineIs terms �
 own_is id terms own h = with_id Dt id (link_to id (terms_events terms)) own (linked_to id (terms_events terms) own (terms_are terms h))
 
 module _ (title : List ℕ) (t : Bytes title) where
-  id_behind_is : (before : List (List ℕ)) (word : List ℕ) → Permitted word → Low (id_behind title before word)
-  id_behind_is before word h = numbered_is (entry_id title word) (times word before) (entry_id_is title word t (text_bytes word h))
+  id_after_is : (before : List (List ℕ)) (word : List ℕ) → Permitted word → Low (id_after title before word)
+  id_after_is before word h = numbered_is (entry_id title word) (times word before) (entry_id_is title word t (text_bytes word h))
 
   term_is : (before : List (List ℕ)) (word : List ℕ) → Permitted word → (target : Option TargetSaid) → TargetIs target → (terms : List Line) → Each LineIs terms → EventsAre (term_events title before word target terms)
-  term_is before word own None g terms h = own_is (id_behind title before word) terms (id_behind_is before word own) h
-  term_is before word own (Some (to_page name)) g terms h = own_is (id_behind title before word) terms (id_behind_is before word own) h
+  term_is before word own None g terms h = own_is (id_after title before word) terms (id_after_is before word own) h
+  term_is before word own (Some (to_page name)) g terms h = own_is (id_after title before word) terms (id_after_is before word own) h
   term_is before word own (Some (to_heading other)) g terms h =
       in_element Dt (link_to (chapter_id other) (terms_events terms)) (linked_to (chapter_id other) (terms_events terms) (title_is other (text_bytes other g)) (terms_are terms h))
 
@@ -285,15 +285,15 @@ module _ (title : List ℕ) (t : Bytes title) where
   entries_are before [] h = tt
   entries_are before (e ∷ es) h = two (entry_events title before e) (entries_events title (before ++ entry_words e) es) (entry_is before e h.0) (entries_are (before ++ entry_words e) es h.1)
 
-  heading_behind_is : (before : List (List ℕ)) (text : List ℕ) → Permitted text → Low (heading_behind title before text)
-  heading_behind_is before text h = numbered_is (heading_id title text) (times text before) (heading_id_is title text t (text_bytes text h))
+  heading_after_is : (before : List (List ℕ)) (text : List ℕ) → Permitted text → Low (heading_after title before text)
+  heading_after_is before text h = numbered_is (heading_id title text) (times text before) (heading_id_is title text t (text_bytes text h))
 
   heading_links_are : (before texts : List (List ℕ)) → Each Permitted texts → EventsAre (heading_links title before texts)
   heading_links_are before [] h = tt
   heading_links_are before (text ∷ texts) h =
-      let id : List ℕ = heading_behind title before text in
+      let id : List ℕ = heading_after title before text in
       two (heading_link title before text) (heading_links title (before ++ text ∷ []) texts)
-      (in_element Li (link_to id (say text ∷ [])) (linked_to id (say text ∷ []) (heading_behind_is before text h.0) (written text h.0, tt)))
+      (in_element Li (link_to id (say text ∷ [])) (linked_to id (say text ∷ []) (heading_after_is before text h.0) (written text h.0, tt)))
       (heading_links_are (before ++ text ∷ []) texts h.1)
 
 headings_are : (part : PartSaid) → PartIs part → Each Permitted (headings_of part)
@@ -311,7 +311,7 @@ record FrameIs (frame : FrameSaid) : Type 0 where
 
 module _ (frame : FrameSaid) (f : FrameIs frame) where
   part_is : (title : List ℕ) → Bytes title → (before : Before) (part : PartSaid) → PartIs part → EventsAre (part_events frame title before part)
-  part_is title t before (heading rank text) h = with_id (Heading Three) (heading_behind title before.headings text) (say text ∷ []) (heading_behind_is title t before.headings text h) (written text h, tt)
+  part_is title t before (heading rank text) h = with_id (Heading Three) (heading_after title before.headings text) (say text ∷ []) (heading_after_is title t before.headings text h) (written text h, tt)
   part_is title t before (usage forms) h = usage_is frame.usage forms f.usage h
   part_is title t before (block shown) h = block_is shown h
   part_is title t before (entries list) h = in_element Dl (entries_events title before.words list) (entries_are title t before.words list h)
@@ -319,7 +319,7 @@ module _ (frame : FrameSaid) (f : FrameIs frame) where
   parts_are : (title : List ℕ) → Bytes title → (before : Before) (parts : List PartSaid) → Each PartIs parts → EventsAre (parts_events frame title before parts)
   parts_are title t before [] h = tt
   parts_are title t before (part ∷ parts) h =
-      two (part_events frame title before part) (parts_events frame title (behind before part) parts) (part_is title t before part h.0) (parts_are title t (behind before part) parts h.1)
+      two (part_events frame title before part) (parts_events frame title (after before part) parts) (part_is title t before part h.0) (parts_are title t (after before part) parts h.1)
 
   top_is : (title : List ℕ) → Permitted title → (parts : List PartSaid) → Each PartIs parts → (lower : ChaptersSaid) → EventsAre (top_section frame title parts lower)
   top_is title p parts h no_chapters = let t = text_bytes title p in with_id Section (chapter_id title) (parts_events frame title nothing_before parts) (title_is title t) (parts_are title t nothing_before parts h)

@@ -12,7 +12,7 @@ use Rattle.description_usage.specs.Entries.{body, command_entry, entry_if_said, 
 use Rattle.description_pages.specs.Keys.{KeySaid, RowSaid, command_key, entries_once, same_key}
 use Rattle.description_pages.specs.Levels.{PageSaid, SubjectSaid, page_of, sections_of, texts_of}
 use Rattle.description_usage.specs.Names.{shown_value}
-use Rattle.description_pages.specs.Once.{if_new, new_behind}
+use Rattle.description_pages.specs.Once.{if_new, new_after}
 use Rattle.description_pages.specs.Sections.{BodySaid, listed, told, SectionSaid, argument_section, choice_rows, command_rows, command_rows_of, given_blocks, group_rows, group_section, group_sections, joined_names, list_section, list_sections, option_rows, option_rows_of, option_section, row_if, text_section, value_rows, value_rows_of}
 use Rattle.description_pages.specs.Subjects.{below, below_commands, below_group, below_groups, below_level, from_command}
 use Rattle.description_pages.specs.Topics.{is_place, own_section, own_sections, place_of, topic_blocks}
@@ -40,9 +40,9 @@ each_unless : {Y : Type 0} (Q : Y → Type 0) (b : Bool) (ys : List Y) → (b �
 each_unless Q true ys h = tt
 each_unless Q false ys h = h refl
 
-each_new : {X : Type 0} (Q : X → Type 0) (same : X → X → Bool) (before xs : List X) → Each Q xs → Each Q (new_behind same before xs)
+each_new : {X : Type 0} (Q : X → Type 0) (same : X → X → Bool) (before xs : List X) → Each Q xs → Each Q (new_after same before xs)
 each_new Q same before [] h = tt
-each_new Q same before (x ∷ xs) h = each_append Q (if_new same before x) (new_behind same (before ++ x ∷ []) xs) (each_unless Q _ (x ∷ []) (λ e. (h.0, tt))) (each_new Q same (before ++ x ∷ []) xs h.1)
+each_new Q same before (x ∷ xs) h = each_append Q (if_new same before x) (new_after same (before ++ x ∷ []) xs) (each_unless Q _ (x ∷ []) (λ e. (h.0, tt))) (each_new Q same (before ++ x ∷ []) xs h.1)
 
 module _ (P : List ℕ → Type 0) (fixed : WordsSaid) where
   -- ---- entries
@@ -73,7 +73,7 @@ module _ (P : List ℕ → Type 0) (fixed : WordsSaid) where
   values_lead ps = each_flat RowLeads (value_rows_of fixed Full) value_leads ps
 
   once : (rows : List RowSaid) → Each RowLeads rows → Each Leads (entries_once rows)
-  once rows h = each_mapped Leads (λ row. row.entry) (new_behind (λ (x y : RowSaid). same_key x.key y.key) [] rows) (each_new RowLeads (λ (x y : RowSaid). same_key x.key y.key) [] rows h)
+  once rows h = each_mapped Leads (λ row. row.entry) (new_after (λ (x y : RowSaid). same_key x.key y.key) [] rows) (each_new RowLeads (λ (x y : RowSaid). same_key x.key y.key) [] rows h)
 
   -- ---- sections
 

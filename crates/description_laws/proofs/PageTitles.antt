@@ -6,10 +6,10 @@ use Rattle.page_model.specs.Content.{ChapterSaid, chapter, ChaptersSaid, no_chap
 use Rattle.html_page.specs.Laws.{all_led_to, led_to, led_to_below, titles_below, titles_in}
 use Rattle.html_page.specs.Page.{title_of}
 use Rattle.description.specs.Words.{WordsSaid}
-use Rattle.description_pages.specs.Chapters.{all_alone, chapter_from, chapter_with, each_alone, parts_behind, parts_of}
+use Rattle.description_pages.specs.Chapters.{all_alone, chapter_from, chapter_with, each_alone, parts_after, parts_of}
 use Rattle.description_pages.specs.Levels.{SubjectSaid, page_of}
 use Rattle.description_pages.specs.Sections.{joined_names}
-use Rattle.description_pages.specs.Subjects.{all_from, in_short, subjects_behind}
+use Rattle.description_pages.specs.Subjects.{all_from, in_short, subjects_after}
 use Rattle.description_pages.specs.declared.levels.Depth.TheVariants.{Deep}
 use Rattle.description_pages.specs.declared.sections.Detail.TheVariants.{Full}
 use Rattle.description_pages.proofs.ChapterParts.{each_level_has_its_chapter}
@@ -19,7 +19,7 @@ title s = joined_names (codes " ") s.names
 
 -- those to which a level leads
 abbrev pub led_from : WordsSaid → SubjectSaid → List (List ℕ)
-led_from fixed s = flat_map led_to (parts_behind fixed (page_of fixed Full Deep s))
+led_from fixed s = flat_map led_to (parts_after fixed (page_of fixed Full Deep s))
 
 abbrev led_by : ChapterSaid → List (List ℕ)
 led_by c = flat_map led_to (parts_of c)
@@ -53,7 +53,7 @@ mutual
 
 -- the levels of a page
 abbrev pub on_page : SubjectSaid → List SubjectSaid
-on_page s = s ∷ subjects_behind s
+on_page s = s ∷ subjects_after s
 
 -- the first has the same title in short
 pub titles_on_page : (fixed : WordsSaid) (s : SubjectSaid) → titles_in (chapter_from fixed s) ≡ map title (all_from (in_short s))

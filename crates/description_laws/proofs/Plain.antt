@@ -284,14 +284,14 @@ head_there = gives_with_only PlainHead description_keys _ (λ ms.
 abbrev PlainDescription : DescriptionSaid → Type 0
 PlainDescription d = Plain (description_characters d)
 
-with_head : (h : DescriptionHead) (behind : List ℕ) → PlainHead h → Plain behind
-    → Plain (chars h.name ++ (chars h.words.section ++ (characters_of h.words.date ++ (characters_of h.words.vendor ++ (characters_of h.words.title ++ (chars h.language ++ behind))))))
-with_head h behind p q = grind (arith, plain_append, there)
+with_head : (h : DescriptionHead) (after : List ℕ) → PlainHead h → Plain after
+    → Plain (chars h.name ++ (chars h.words.section ++ (characters_of h.words.date ++ (characters_of h.words.vendor ++ (characters_of h.words.title ++ (chars h.language ++ after))))))
+with_head h after p q = grind (arith, plain_append, there)
 
 whole : (h : DescriptionHead) (w : WordsSaid) (helps : List OptSaid) (l : LevelSaid) → PlainHead h → PlainFixed w → Each PlainOpt helps → PlainLevel l → PlainDescription (description_of h w helps l)
 whole h w helps l p f o q =
-    let behind = plain_append (flat_map chars (each_word w)) (flat_map option_characters helps ++ level_characters l) (plain_each chars (each_word w) f) (plain_append (flat_map option_characters helps) (level_characters l) (plain_each option_characters helps o) q) in
-    with_head h (flat_map chars (each_word w) ++ (flat_map option_characters helps ++ level_characters l)) p behind
+    let after = plain_append (flat_map chars (each_word w)) (flat_map option_characters helps ++ level_characters l) (plain_each chars (each_word w) f) (plain_append (flat_map option_characters helps) (level_characters l) (plain_each option_characters helps o) q) in
+    with_head h (flat_map chars (each_word w) ++ (flat_map option_characters helps ++ level_characters l)) p after
 
 described_plain : (ms : Members) → Gives PlainDescription (described ms)
 unfolding described

@@ -24,8 +24,8 @@ pub record IsWord (text : List ℕ) : Type 0 where
   pub bytes : HasBytes text
   pub no_blank : NoBlank text
 
-abbrev behind : List (List ℕ) → List ℕ
-behind words = flat_map (λ word. codes " " ++ word) words
+abbrev after : List (List ℕ) → List ℕ
+after words = flat_map (λ word. codes " " ++ word) words
 
 -- ---- separated
 
@@ -40,14 +40,14 @@ parted_word : (word rest : List ℕ) → NoBlank word → is_parted rest ≡ tru
 parted_word [] rest h k = k
 parted_word (b ∷ word) rest h k = blank_after b (word ++ rest) h.0 (parted_word word rest h.1 k)
 
-parted_behind : (words : List (List ℕ)) → Each IsWord words → is_parted (behind words) ≡ true
-parted_behind [] ws = refl
-parted_behind ([] ∷ words) ws = absurd ws.0.bytes
-parted_behind ((c ∷ word) ∷ words) ws = before_word c (word ++ behind words) ws.0.no_blank.0 (parted_word (c ∷ word) (behind words) ws.0.no_blank (parted_behind words ws.1))
+parted_after : (words : List (List ℕ)) → Each IsWord words → is_parted (after words) ≡ true
+parted_after [] ws = refl
+parted_after ([] ∷ words) ws = absurd ws.0.bytes
+parted_after ((c ∷ word) ∷ words) ws = before_word c (word ++ after words) ws.0.no_blank.0 (parted_word (c ∷ word) (after words) ws.0.no_blank (parted_after words ws.1))
 
 pub words_parted : (words : List (List ℕ)) → Each IsWord words → is_parted (joined_names (codes " ") words) ≡ true
 words_parted [] ws = refl
-words_parted (word ∷ words) ws = parted_word word (behind words) ws.0.no_blank (parted_behind words ws.1)
+words_parted (word ∷ words) ws = parted_word word (after words) ws.0.no_blank (parted_after words ws.1)
 
 -- ---- distinguished
 
@@ -63,25 +63,25 @@ no_start b xs e = cc
 is_blank : (b : ℕ) → (b == 32) ≡ false → 32 ≡ b → ⊥
 is_blank b h e = false≢true (sym h ∙ ap (λ x. x == 32) (sym e))
 
-no_word_start : (words : List (List ℕ)) (b : ℕ) (rest : List ℕ) → (b == 32) ≡ false → behind words ≡ b ∷ rest → ⊥
+no_word_start : (words : List (List ℕ)) (b : ℕ) (rest : List ℕ) → (b == 32) ≡ false → after words ≡ b ∷ rest → ⊥
 no_word_start [] b rest h e = no_start b rest e
-no_word_start (word ∷ words) b rest h e = is_blank b h (head_same 32 b (word ++ behind words) rest e)
+no_word_start (word ∷ words) b rest h e = is_blank b h (head_same 32 b (word ++ after words) rest e)
 
-word_told : (x y : List ℕ) (xs ys : List (List ℕ)) → NoBlank x → NoBlank y → x ++ behind xs ≡ y ++ behind ys → (x ≡ y) × (behind xs ≡ behind ys)
+word_told : (x y : List ℕ) (xs ys : List (List ℕ)) → NoBlank x → NoBlank y → x ++ after xs ≡ y ++ after ys → (x ≡ y) × (after xs ≡ after ys)
 word_told [] [] xs ys h k e = (refl, e)
-word_told [] (b ∷ y) xs ys h k e = absurd (no_word_start xs b (y ++ behind ys) k.0 e)
-word_told (a ∷ x) [] xs ys h k e = absurd (no_word_start ys a (x ++ behind xs) h.0 (sym e))
+word_told [] (b ∷ y) xs ys h k e = absurd (no_word_start xs b (y ++ after ys) k.0 e)
+word_told (a ∷ x) [] xs ys h k e = absurd (no_word_start ys a (x ++ after xs) h.0 (sym e))
 word_told (a ∷ x) (b ∷ y) xs ys h k e =
-    let rest = word_told x y xs ys h.1 k.1 (tail_same a b (x ++ behind xs) (y ++ behind ys) e) in
-    (ap₂ (λ c w. c ∷ w) (head_same a b (x ++ behind xs) (y ++ behind ys) e) rest.0, rest.1)
+    let rest = word_told x y xs ys h.1 k.1 (tail_same a b (x ++ after xs) (y ++ after ys) e) in
+    (ap₂ (λ c w. c ∷ w) (head_same a b (x ++ after xs) (y ++ after ys) e) rest.0, rest.1)
 
-behind_told : (xs ys : List (List ℕ)) → Each NoBlank xs → Each NoBlank ys → behind xs ≡ behind ys → xs ≡ ys
-behind_told [] [] hs ks e = refl
-behind_told [] (y ∷ ys) hs ks e = absurd (no_start 32 (y ++ behind ys) e)
-behind_told (x ∷ xs) [] hs ks e = absurd (no_start 32 (x ++ behind xs) (sym e))
-behind_told (x ∷ xs) (y ∷ ys) hs ks e =
-    let first = word_told x y xs ys hs.0 ks.0 (tail_same 32 32 (x ++ behind xs) (y ++ behind ys) e) in
-    ap₂ (λ w ws. w ∷ ws) first.0 (behind_told xs ys hs.1 ks.1 first.1)
+after_told : (xs ys : List (List ℕ)) → Each NoBlank xs → Each NoBlank ys → after xs ≡ after ys → xs ≡ ys
+after_told [] [] hs ks e = refl
+after_told [] (y ∷ ys) hs ks e = absurd (no_start 32 (y ++ after ys) e)
+after_told (x ∷ xs) [] hs ks e = absurd (no_start 32 (x ++ after xs) (sym e))
+after_told (x ∷ xs) (y ∷ ys) hs ks e =
+    let first = word_told x y xs ys hs.0 ks.0 (tail_same 32 32 (x ++ after xs) (y ++ after ys) e) in
+    ap₂ (λ w ws. w ∷ ws) first.0 (after_told xs ys hs.1 ks.1 first.1)
 
 no_blanks : (words : List (List ℕ)) → Each IsWord words → Each NoBlank words
 no_blanks [] h = tt
@@ -91,7 +91,7 @@ no_blanks (word ∷ words) h = (h.0.no_blank, no_blanks words h.1)
 pub words_told : (x y : List ℕ) (xs ys : List (List ℕ)) → Each IsWord (x ∷ xs) → Each IsWord (y ∷ ys) → joined_names (codes " ") (x ∷ xs) ≡ joined_names (codes " ") (y ∷ ys) → x ∷ xs ≡ y ∷ ys
 words_told x y xs ys h k e =
     let first = word_told x y xs ys h.0.no_blank k.0.no_blank e in
-    ap₂ (λ w ws. w ∷ ws) first.0 (behind_told xs ys (no_blanks xs h.1) (no_blanks ys k.1) first.1)
+    ap₂ (λ w ws. w ∷ ws) first.0 (after_told xs ys (no_blanks xs h.1) (no_blanks ys k.1) first.1)
 
 -- ---- texts of characters that are not blanks
 

@@ -21,7 +21,7 @@ use Rattle.description_pages.specs.Consoles.{console_of, usage_of}
 use Rattle.description_pages.specs.Levels.{SubjectSaid}
 use Rattle.description_pages.specs.Manuals.{manual_below, manual_of}
 use Rattle.description_pages.specs.Markdowns.{markdown_below, markdown_of}
-use Rattle.description_pages.specs.Subjects.{subjects_behind}
+use Rattle.description_pages.specs.Subjects.{subjects_after}
 use Rattle.description_pages.specs.declared.levels.Depth.{Depth}
 use Rattle.description_pages.specs.declared.levels.Depth.TheVariants.{Alone, Deep}
 use Rattle.description_pages.specs.declared.sections.Detail.TheVariants as Detail
@@ -37,7 +37,7 @@ use Rattle.page_laws.proofs.Clean.{clean_nil}
 use Rattle.page_laws.proofs.Each.{Each, each_append, each_if, each_left, each_right, each_weaker}
 use Rattle.page_laws.proofs.Entries.{WordsAre, words_known}
 use Rattle.page_laws.proofs.PageLaws.{parts_pass, subject_known}
-use Rattle.page_laws.proofs.Pages.{IfSubject, PartIs, SubjectIs, all_behind, console_is, led_is, manual_below_is, manual_is, markdown_below_is, markdown_is, names_joined, page_named, title_is, usage_of_is}
+use Rattle.page_laws.proofs.Pages.{IfSubject, PartIs, SubjectIs, all_after, console_is, led_is, manual_below_is, manual_is, markdown_below_is, markdown_is, names_joined, page_named, title_is, usage_of_is}
 use Rattle.page_laws.proofs.Tests.{all_pass, form_passes, text_known, text_passes, texts_known}
 use Rattle.page_laws.proofs.Usage.{FormIs, GivenIs, each_flat, fixed}
 use Rattle.description_laws.specs.Plain.{characters_of, choice_characters, command_characters, commands_characters, description_characters, group_characters, groups_characters, initial_characters, level_characters, name_characters, option_characters, positional_characters, spelling_characters, texts_characters, topic_characters}
@@ -184,25 +184,25 @@ shown_texts d = fixed_texts d.words ++ (flat_map option_texts d.help_options ++ 
 abbrev shown_characters : DescriptionSaid → List ℕ
 shown_characters d = flat_map chars (fixed_texts d.words) ++ (flat_map option_characters d.help_options ++ level_characters d.level)
 
-abbrev behind_texts : DescriptionSaid → List (List ℕ)
-behind_texts d = text_of d.date ++ (text_of d.vendor ++ (text_of d.title ++ (d.language ∷ shown_texts d)))
+abbrev after_texts : DescriptionSaid → List (List ℕ)
+after_texts d = text_of d.date ++ (text_of d.vendor ++ (text_of d.title ++ (d.language ∷ shown_texts d)))
 
-abbrev behind_characters : DescriptionSaid → List ℕ
-behind_characters d = characters_of d.date ++ (characters_of d.vendor ++ (characters_of d.title ++ (chars d.language ++ shown_characters d)))
+abbrev after_characters : DescriptionSaid → List ℕ
+after_characters d = characters_of d.date ++ (characters_of d.vendor ++ (characters_of d.title ++ (chars d.language ++ shown_characters d)))
 
 both_shown : (d : DescriptionSaid) → Both (shown_texts d) (shown_characters d)
 both_shown d =
     both_append (fixed_texts d.words) (flat_map option_texts d.help_options ++ level_texts d.level) (flat_map chars (fixed_texts d.words)) (flat_map option_characters d.help_options ++ level_characters d.level) (both_texts (fixed_texts d.words))
     (both_append (flat_map option_texts d.help_options) (level_texts d.level) (flat_map option_characters d.help_options) (level_characters d.level) (both_options d.help_options) (both_level d.level))
 
-both_behind : (d : DescriptionSaid) → Both (behind_texts d) (behind_characters d)
-both_behind d =
+both_after : (d : DescriptionSaid) → Both (after_texts d) (after_characters d)
+both_after d =
     both_append (text_of d.date) _ (characters_of d.date) _ (both_given d.date)
     (both_append (text_of d.vendor) _ (characters_of d.vendor) _ (both_given d.vendor)
     (both_append (text_of d.title) (d.language ∷ shown_texts d) (characters_of d.title) (chars d.language ++ shown_characters d) (both_given d.title) (both_text d.language (shown_texts d) (shown_characters d) (both_shown d))))
 
 both_description : (d : DescriptionSaid) → Both (all_texts d) (description_characters d)
-both_description d = both_text d.name (d.section ∷ behind_texts d) (chars d.section ++ behind_characters d) (both_text d.section (behind_texts d) (behind_characters d) (both_behind d))
+both_description d = both_text d.name (d.section ∷ after_texts d) (chars d.section ++ after_characters d) (both_text d.section (after_texts d) (after_characters d) (both_after d))
 
 each_spelled : (texts : List (List ℕ)) → list_all is_utf8 texts ≡ true → Each Spelled texts
 each_spelled [] h = tt
@@ -219,15 +219,15 @@ record TextsAre (d : DescriptionSaid) : Type 0 where
 texts_are : (d : DescriptionSaid) → Each Permitted (all_texts d) → TextsAre d
 texts_are d h =
     let own : List (List ℕ) = flat_map option_texts d.help_options ++ level_texts d.level in
-    let behind_title : List (List ℕ) = d.language ∷ shown_texts d in
-    let vendor = each_right Permitted (text_of d.date) (text_of d.vendor ++ (text_of d.title ++ behind_title)) h.1.1 in
-    let title = each_right Permitted (text_of d.vendor) (text_of d.title ++ behind_title) vendor in
-    let language = each_right Permitted (text_of d.title) behind_title title in
+    let after_title : List (List ℕ) = d.language ∷ shown_texts d in
+    let vendor = each_right Permitted (text_of d.date) (text_of d.vendor ++ (text_of d.title ++ after_title)) h.1.1 in
+    let title = each_right Permitted (text_of d.vendor) (text_of d.title ++ after_title) vendor in
+    let language = each_right Permitted (text_of d.title) after_title title in
     record {
       section = h.1.0;
-      date = each_left Permitted (text_of d.date) (text_of d.vendor ++ (text_of d.title ++ behind_title)) h.1.1;
-      vendor = each_left Permitted (text_of d.vendor) (text_of d.title ++ behind_title) vendor;
-      title = each_left Permitted (text_of d.title) behind_title title;
+      date = each_left Permitted (text_of d.date) (text_of d.vendor ++ (text_of d.title ++ after_title)) h.1.1;
+      vendor = each_left Permitted (text_of d.vendor) (text_of d.title ++ after_title) vendor;
+      title = each_left Permitted (text_of d.title) after_title title;
       words = each_left Permitted (fixed_texts d.words) own language.1;
       top = subject_known (application d) (h.0, each_right Permitted (fixed_texts d.words) own language.1);
     }
@@ -262,8 +262,8 @@ module _ (d : DescriptionSaid) (t : TextsAre d) (s : SubjectSaid) (h : SubjectIs
   marked_parts : (depth : Depth) → Each PartIs (markdown_parts depth d.words s)
   marked_parts Alone = markdown_is d.words words_are s h Alone
   marked_parts Deep =
-      each_append PartIs (markdown_of d.words Deep s) (flat_map (markdown_below d.words) (subjects_behind s)) (markdown_is d.words words_are s h Deep)
-      (each_flat SubjectIs PartIs (markdown_below d.words) (markdown_below_is d.words words_are) (subjects_behind s) (all_behind s h))
+      each_append PartIs (markdown_of d.words Deep s) (flat_map (markdown_below d.words) (subjects_after s)) (markdown_is d.words words_are s h Deep)
+      (each_flat SubjectIs PartIs (markdown_below d.words) (markdown_below_is d.words words_are) (subjects_after s) (all_after s h))
 
   in_markdown : (depth : Depth) → markdown_page_fault depth d.words s ≡ None
   in_markdown depth = ap fault_unless (page_passes (title_of s) (markdown_parts depth d.words s) (title_is s.names h.names) (marked_parts depth))
@@ -271,8 +271,8 @@ module _ (d : DescriptionSaid) (t : TextsAre d) (s : SubjectSaid) (h : SubjectIs
   manual_parts_are : (depth : Depth) → Each PartIs (manual_parts depth d.words s)
   manual_parts_are Alone = manual_is d.words words_are s h
   manual_parts_are Deep =
-      each_append PartIs (manual_of d.words s) (flat_map (manual_below d.words) (subjects_behind s)) (manual_is d.words words_are s h)
-      (each_flat SubjectIs PartIs (manual_below d.words) (manual_below_is d.words words_are) (subjects_behind s) (all_behind s h))
+      each_append PartIs (manual_of d.words s) (flat_map (manual_below d.words) (subjects_after s)) (manual_is d.words words_are s h)
+      (each_flat SubjectIs PartIs (manual_below d.words) (manual_below_is d.words words_are) (subjects_after s) (all_after s h))
 
   module _ (given : TitleGiven) (date : GivenIs given.date) (vendor : GivenIs given.vendor) where
     title_passes : list_all are_permitted (title_words (title_line d given s)) ≡ true

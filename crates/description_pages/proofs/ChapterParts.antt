@@ -68,11 +68,11 @@ each_level_has_its_chapter fixed s = ap (λ x. at fixed s ∷ x) (on_level fixed
 -- ---- a chapter that is pushed
 
 -- after another
-abbrev behind : WordsSaid → SubjectSaid → ChapterSaid
-behind fixed s = chapter_with fixed s (chapters_on fixed s s.level)
+abbrev after : WordsSaid → SubjectSaid → ChapterSaid
+after fixed s = chapter_with fixed s (chapters_on fixed s s.level)
 
-shown_is : (fixed : WordsSaid) (s : SubjectSaid) (c : CommandSaid) → is_shown c ≡ true → chapter_if_shown fixed s c ≡ behind fixed (below s c) ∷ []
-shown_is fixed s (command called help l) e = ap (λ b. if b then behind fixed (below s (command called help l)) ∷ [] else []) e
+shown_is : (fixed : WordsSaid) (s : SubjectSaid) (c : CommandSaid) → is_shown c ≡ true → chapter_if_shown fixed s c ≡ after fixed (below s c) ∷ []
+shown_is fixed s (command called help l) e = ap (λ b. if b then after fixed (below s (command called help l)) ∷ [] else []) e
 
 said_shown : {A : Type 0} (c : Command A) → (out-Command A c).hidden ≡ false → is_shown (command_said c) ≡ true
 said_shown c h = ap is_shown (open-Command c) ∙ ap not h
@@ -88,7 +88,7 @@ chapter_put {A} see fixed s t c none own made old new h led empty lower is pushe
     lower ∙ ap (λ xs. map see xs ++ chapters_on fixed t (level_said (out-Command A c).level)) empty
     ∙ ap (λ x. chapters_on fixed x (level_said (out-Command A c).level)) led ∙ ap (chapters_on fixed (below s (command_said c))) (level_under s c)
     in
-    let own_is : see made ≡ behind fixed (below s (command_said c)) =
+    let own_is : see made ≡ after fixed (below s (command_said c)) =
     is ∙ ap (λ x. chapter_with fixed x (map see own)) led ∙ ap (chapter_with fixed (below s (command_said c))) whole
     in
     ap (map see) pushed ∙ map-append see old (made ∷ []) ∙ ap (λ x. map see old ++ x ∷ []) own_is ∙ sym (ap (λ x. map see old ++ x) (shown_is fixed s (command_said c) (said_shown c h)))

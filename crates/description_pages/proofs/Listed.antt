@@ -12,7 +12,7 @@ use Rattle.description.specs.Words.{WordsSaid}
 use Rattle.description_pages.specs.Keys.{KeySaid, by_names, by_syntax, by_word, by_command, RowSaid, entries_once, option_key, same_key, same_name, same_value}
 use Rattle.description_pages.specs.Levels.{notes_of, texts_of}
 use Rattle.description_pages.specs.Listed.{AreShownOnce, EachKeyIsListedOnce, HelpOptionsAreListed, are_new, entries_in, grouped_rows, has_key, level_rows, own_option_rows, same_row, unless_empty}
-use Rattle.description_pages.specs.Once.{each_once, new_behind}
+use Rattle.description_pages.specs.Once.{each_once, new_after}
 use Rattle.description_pages.specs.Sections.{SectionSaid, argument_section, choice_rows, command_rows, command_section, group_rows, group_section, group_sections, group_title, list_section, list_sections, option_rows, option_rows_of, option_section, text_section, value_rows}
 use Rattle.description_pages.specs.Topics.{own_section, own_sections}
 use Rattle.description_pages.specs.declared.levels.Depth.{Depth}
@@ -98,9 +98,9 @@ key_one key before rest shown row true e h =
 key_one key before rest shown row false e h =
     step_kept (has_key key before) (same_key key row.key) (has_key key rest) (has_key key shown) (spread key before row (has_key key rest) (has_key key shown) h)
 
-keys_behind : (key : KeySaid) (before rows : List RowSaid) → (has_key key before || has_key key rows) ≡ (has_key key before || has_key key (new_behind same_row before rows))
-keys_behind key before [] = refl
-keys_behind key before (row ∷ rows) = key_one key before rows (new_behind same_row (before ++ row ∷ []) rows) row (has_key row.key before) refl (keys_behind key (before ++ row ∷ []) rows)
+keys_after : (key : KeySaid) (before rows : List RowSaid) → (has_key key before || has_key key rows) ≡ (has_key key before || has_key key (new_after same_row before rows))
+keys_after key before [] = refl
+keys_after key before (row ∷ rows) = key_one key before rows (new_after same_row (before ++ row ∷ []) rows) row (has_key row.key before) refl (keys_after key (before ++ row ∷ []) rows)
 
 -- ---- no key twice
 
@@ -130,10 +130,10 @@ new_one shown before rest row true e a left taken = left
 new_one shown before rest row false e a left taken =
     and_from (not (has_key row.key shown)) (are_new (shown ++ row ∷ []) rest) (not_there (has_key row.key shown) (has_key row.key before) (a row.key) e) taken
 
-new_shown : (shown before rows : List RowSaid) → Among shown before → are_new shown (new_behind same_row before rows) ≡ true
+new_shown : (shown before rows : List RowSaid) → Among shown before → are_new shown (new_after same_row before rows) ≡ true
 new_shown shown before [] a = refl
 new_shown shown before (row ∷ rows) a =
-    new_one shown before (new_behind same_row (before ++ row ∷ []) rows) row (has_key row.key before) refl a
+    new_one shown before (new_after same_row (before ++ row ∷ []) rows) row (has_key row.key before) refl a
     (new_shown shown (before ++ row ∷ []) rows (among_left shown before row a)) (new_shown (shown ++ row ∷ []) (before ++ row ∷ []) rows (among_more shown before row a))
 
 -- ---- no other rows
@@ -142,17 +142,17 @@ held_one : (test : RowSaid → Bool) (rest : List RowSaid) (row : RowSaid) (b : 
 held_one test rest row true t h = h
 held_one test rest row false t h = and_from (test row) (list_all test rest) t h
 
-held_behind : (test : RowSaid → Bool) (before rows : List RowSaid) → list_all test rows ≡ true → list_all test (new_behind same_row before rows) ≡ true
-held_behind test before [] h = refl
-held_behind test before (row ∷ rows) h =
+held_after : (test : RowSaid → Bool) (before rows : List RowSaid) → list_all test rows ≡ true → list_all test (new_after same_row before rows) ≡ true
+held_after test before [] h = refl
+held_after test before (row ∷ rows) h =
     let parts = and_parts (test row) (list_all test rows) h in
-    held_one test (new_behind same_row (before ++ row ∷ []) rows) row (has_key row.key before) parts.0 (held_behind test (before ++ row ∷ []) rows parts.1)
+    held_one test (new_after same_row (before ++ row ∷ []) rows) row (has_key row.key before) parts.0 (held_after test (before ++ row ∷ []) rows parts.1)
 
 shown_once : (rows : List RowSaid) → AreShownOnce rows (each_once same_row rows)
 shown_once rows = record {
   distinct = new_shown [] [] rows (λ key h. h);
-  keys = λ key. sym (keys_behind key [] rows);
-  some = λ test h. held_behind test [] rows h;
+  keys = λ key. sym (keys_after key [] rows);
+  some = λ test h. held_after test [] rows h;
 }
 
 -- ---- the lists of a page
@@ -229,8 +229,8 @@ or_true false = refl
 found_before : (key : KeySaid) (front back : List RowSaid) → has_key key front ≡ true → has_key key (front ++ back) ≡ true
 found_before key front back h = list_any-append (with_key key) front back ∙ ap (λ b. b || has_key key back) h
 
-found_behind : (key : KeySaid) (front back : List RowSaid) → has_key key back ≡ true → has_key key (front ++ back) ≡ true
-found_behind key front back h = list_any-append (with_key key) front back ∙ ap (λ b. has_key key front || b) h ∙ or_true (has_key key front)
+found_after : (key : KeySaid) (front back : List RowSaid) → has_key key back ≡ true → has_key key (front ++ back) ≡ true
+found_after key front back h = list_any-append (with_key key) front back ∙ ap (λ b. has_key key front || b) h ∙ or_true (has_key key front)
 
 row_there : (key : KeySaid) (entry : EntrySaid) (b : Bool) → b ≡ false → has_key key (if b then [] else record { key = key; entry = entry } ∷ []) ≡ true
 row_there key entry true h = absurd (false≢true (sym h))
@@ -239,13 +239,13 @@ row_there key entry false h = ap (λ b. b || false) (key_itself key)
 option_there : (fixed : WordsSaid) (detail : Detail) (before after : List OptSaid) (option : OptSaid) → option.hidden ≡ false → has_key (option_key option) (option_rows fixed detail (before ++ option ∷ after)) ≡ true
 option_there fixed detail before after option h =
     ap (has_key (option_key option)) (flat_map-append (option_rows_of fixed detail) before (option ∷ after))
-    ∙ found_behind (option_key option) (option_rows fixed detail before) (option_rows fixed detail (option ∷ after))
+    ∙ found_after (option_key option) (option_rows fixed detail before) (option_rows fixed detail (option ∷ after))
     (found_before (option_key option) (option_rows_of fixed detail option) (option_rows fixed detail after) (row_there (option_key option) _ option.hidden h))
 
 own_there : (fixed : WordsSaid) (detail : Detail) (key : KeySaid) (help : List OptSaid) (l : LevelSaid) → has_key key (option_rows fixed detail help) ≡ true → has_key key (own_option_rows fixed detail help l) ≡ true
 own_there fixed detail key help (level texts required options choices below values subcommands) h =
-    found_behind key (option_rows fixed detail options) (choice_rows fixed detail choices ++ option_rows fixed detail help)
-    (found_behind key (choice_rows fixed detail choices) (option_rows fixed detail help) h)
+    found_after key (option_rows fixed detail options) (choice_rows fixed detail choices ++ option_rows fixed detail help)
+    (found_after key (choice_rows fixed detail choices) (option_rows fixed detail help) h)
 
 pub help_options_are_listed : HelpOptionsAreListed
 help_options_are_listed fixed detail subject before after option is h =

@@ -34,8 +34,8 @@ under_title : (letters : Case) (rank : Rank) (title : List ℕ) (parts : List Pa
 under_title letters rank title [] = refl
 under_title letters rank title (part ∷ parts) = refl
 
-behind_none : (front parts : List PartSaid) (lists : List (List EntrySaid)) → lists_in front ≡ [] → lists_in parts ≡ lists → lists_in (front ++ parts) ≡ lists
-behind_none front parts lists e f = flat_map-append list_in front parts ∙ ap (λ x. x ++ lists_in parts) e ∙ f
+after_none : (front parts : List PartSaid) (lists : List (List EntrySaid)) → lists_in front ≡ [] → lists_in parts ≡ lists → lists_in (front ++ parts) ≡ lists
+after_none front parts lists e f = flat_map-append list_in front parts ∙ ap (λ x. x ++ lists_in parts) e ∙ f
 
 -- ---- sections
 
@@ -62,22 +62,22 @@ of_titled letters rank fixed sections see_also =
 
 of_order : (rank : Rank) (fixed : WordsSaid) (said : PageSaid) → lists_in (in_order rank fixed said) ≡ lists_of said
 of_order rank fixed said =
-    behind_none (map block said.about) _ (lists_of said) (no_blocks said.about)
-    (behind_none (usage_parts said.usage) _ (lists_of said) (no_usage said.usage)
-    (behind_none (map block said.header) _ (lists_of said) (no_blocks said.header)
+    after_none (map block said.about) _ (lists_of said) (no_blocks said.about)
+    (after_none (usage_parts said.usage) _ (lists_of said) (no_usage said.usage)
+    (after_none (map block said.header) _ (lists_of said) (no_blocks said.header)
     (of_titled AsSaid rank fixed said.sections said.see_also)))
 
 of_manual : (rank : Rank) (fixed : WordsSaid) (said : PageSaid) → lists_in (manual_order rank fixed said) ≡ lists_of said
 of_manual rank fixed said =
-    behind_none (titled Capitals rank fixed.synopsis (usage_parts said.usage)) _ (lists_of said)
+    after_none (titled Capitals rank fixed.synopsis (usage_parts said.usage)) _ (lists_of said)
     (under_title Capitals rank fixed.synopsis (usage_parts said.usage) ∙ no_usage said.usage)
-    (behind_none (titled Capitals rank fixed.description (map block (merged (said.about ++ said.header)))) _ (lists_of said)
+    (after_none (titled Capitals rank fixed.description (map block (merged (said.about ++ said.header)))) _ (lists_of said)
     (under_title Capitals rank fixed.description (map block (merged (said.about ++ said.header))) ∙ no_blocks (merged (said.about ++ said.header)))
     (of_titled Capitals rank fixed said.sections said.see_also))
 
 pub media_list_the_same : MediaListTheSame
 media_list_the_same fixed subject = (
-  behind_none (name_parts fixed subject)
+  after_none (name_parts fixed subject)
       (manual_order Section fixed (without_summary (summary_of subject) (with_references (page_of fixed Full Alone subject)))) (lists_of (page_of fixed Full Alone subject)) refl
       (of_manual Section fixed (without_summary (summary_of subject) (with_references (page_of fixed Full Alone subject)))),
   of_manual Subsection fixed (page_of fixed Full Alone subject),

@@ -6,7 +6,7 @@ use Rattle.std.specs.declared.cmp.Ordering.{Ordering}
 use Rattle.std.specs.Cmp.{IsEquivalence}
 use Rattle.std.proofs.lemmas.List.{map-append}
 use Rattle.std.proofs.lemmas.List.Folds.{list_any-append}
-use Rattle.description_pages.specs.Once.{each_once, HasSeen, if_new, new_behind}
+use Rattle.description_pages.specs.Once.{each_once, HasSeen, if_new, new_after}
 use Rattle.description_usage.proofs.LevelParts.{any_seen}
 
 -- ---- a key that is seen
@@ -40,7 +40,7 @@ module _ {X K T : Type 0} (key : X → K) (item : X → T) (same : K → K → B
   same_keys x y = same (key x) (key y)
 
   abbrev pub SeenSoFar : (items : List T) → (before rest all : List X) → Type 0
-  SeenSoFar items before rest all = items ++ map item (new_behind same_keys before rest) ≡ map item (each_once same_keys all)
+  SeenSoFar items before rest all = items ++ map item (new_after same_keys before rest) ≡ map item (each_once same_keys all)
 
   module _ (items more : List T) (before rest after all : List X) (x : X) (added : Bool) (next : rest ≡ x ∷ after) (is : added ≡ not (list_any (same (key x)) (map key before))) (so_far : SeenSoFar items before rest all) where
     if_fresh : if_new same_keys before x ≡ cond added (x ∷ []) []
@@ -55,10 +55,10 @@ module _ {X K T : Type 0} (key : X → K) (item : X → T) (same : K → K → B
 
     pub item_seen : more ≡ items ++ cond added (item x ∷ []) [] → SeenSoFar more (before ++ x ∷ []) after all
     item_seen put =
-        let behind = new_behind same_keys (before ++ x ∷ []) after in
+        let follows = new_after same_keys (before ++ x ∷ []) after in
         let first : map item (if_new same_keys before x) ≡ cond added (item x ∷ []) [] = ap (map item) if_fresh ∙ item_there added in
-        ap (λ ts. ts ++ map item behind) put ∙ append_assoc items (cond added (item x ∷ []) []) (map item behind)
-        ∙ ap (λ ts. items ++ ts) (sym (map-append item (if_new same_keys before x) behind ∙ ap (λ ts. ts ++ map item behind) first)) ∙ sym (ap (λ r. items ++ map item (new_behind same_keys before r)) next)
+        ap (λ ts. ts ++ map item follows) put ∙ append_assoc items (cond added (item x ∷ []) []) (map item follows)
+        ∙ ap (λ ts. items ++ ts) (sym (map-append item (if_new same_keys before x) follows ∙ ap (λ ts. ts ++ map item follows) first)) ∙ sym (ap (λ r. items ++ map item (new_after same_keys before r)) next)
         ∙ so_far
 
 -- ---- items as they are seen
@@ -74,14 +74,14 @@ module _ {X S : Type 0} (see : X → S) (same : X → X → Bool) (alike : S →
     by true = refl
     by false = refl
 
-  behind_seen : (before xs : List X) → map see (new_behind same before xs) ≡ new_behind alike (map see before) (map see xs)
-  behind_seen before [] = refl
-  behind_seen before (x ∷ xs) =
-      map-append see (if_new same before x) (new_behind same (before ++ x ∷ []) xs) ∙ ap (λ ys. ys ++ map see (new_behind same (before ++ x ∷ []) xs)) (new_seen x before)
-      ∙ ap (λ ys. if_new alike (map see before) (see x) ++ ys) (behind_seen (before ++ x ∷ []) xs ∙ ap (λ ys. new_behind alike ys (map see xs)) (map-append see before (x ∷ [])))
+  after_seen : (before xs : List X) → map see (new_after same before xs) ≡ new_after alike (map see before) (map see xs)
+  after_seen before [] = refl
+  after_seen before (x ∷ xs) =
+      map-append see (if_new same before x) (new_after same (before ++ x ∷ []) xs) ∙ ap (λ ys. ys ++ map see (new_after same (before ++ x ∷ []) xs)) (new_seen x before)
+      ∙ ap (λ ys. if_new alike (map see before) (see x) ++ ys) (after_seen (before ++ x ∷ []) xs ∙ ap (λ ys. new_after alike ys (map see xs)) (map-append see before (x ∷ [])))
 
   pub once_seen : (xs : List X) → map see (each_once same xs) ≡ each_once alike (map see xs)
-  once_seen xs = behind_seen [] xs
+  once_seen xs = after_seen [] xs
 
 pub if_ok_more : {T E : Type 0} (r : Result T E) (P Q : T → Type 0) → ((x : T) → P x → Q x) → IfOk r P → IfOk r Q
 if_ok_more (Ok x) P Q f h = f x h

@@ -18,10 +18,10 @@ no_last last (b ∷ []) h = ap (λ is. if is then [] else b ∷ []) (ne_eqb b la
 no_last last (b ∷ c ∷ text) h = ap (λ t. b ∷ t) (no_last last (c ∷ text) (λ front e. h (b ∷ front) (ap (λ t. b ∷ t) e)))
 
 -- names by what they are seen as
-behind_seen : {X : Type 0} (see : X → List ℕ) (between : List ℕ) (xs : List X) → flat_map (λ x. between ++ see x) xs ≡ flat_map (λ name. between ++ name) (map see xs)
-behind_seen see between [] = refl
-behind_seen see between (x ∷ xs) = ap (λ rest. (between ++ see x) ++ rest) (behind_seen see between xs)
+after_seen : {X : Type 0} (see : X → List ℕ) (between : List ℕ) (xs : List X) → flat_map (λ x. between ++ see x) xs ≡ flat_map (λ name. between ++ name) (map see xs)
+after_seen see between [] = refl
+after_seen see between (x ∷ xs) = ap (λ rest. (between ++ see x) ++ rest) (after_seen see between xs)
 
 pub joined_seen : {X : Type 0} (see : X → List ℕ) (between : List ℕ) (xs : List X) → join_by see between xs ≡ joined_names between (map see xs)
 joined_seen see between [] = refl
-joined_seen see between (x ∷ xs) = ap (λ rest. see x ++ rest) (behind_seen see between xs)
+joined_seen see between (x ∷ xs) = ap (λ rest. see x ++ rest) (after_seen see between xs)

@@ -10,7 +10,7 @@ use Rattle.description.specs.Words.{WordsSaid}
 use Rattle.description_pages.specs.Keys.{RowSaid, entries_once, same_key}
 use Rattle.description_pages.specs.Levels.{SubjectSaid, notes_of, page_of, sections_of, texts_of}
 use Rattle.description_pages.specs.Media.{list_of, lists_of, unled}
-use Rattle.description_pages.specs.Once.{each_once, if_new, new_behind}
+use Rattle.description_pages.specs.Once.{each_once, if_new, new_after}
 use Rattle.description_pages.specs.Sections.{SectionSaid, argument_section, choice_rows, command_rows, command_rows_of, command_section, group_section, group_sections, group_title, groups_of, list_section, list_sections, option_rows, option_section, value_rows}
 use Rattle.description_pages.specs.Topics.{own_sections}
 use Rattle.description_pages.specs.declared.levels.Depth.{Depth}
@@ -35,12 +35,12 @@ new_one : (b : Bool) (row : RowSaid) → unled_rows (if b then [] else row ∷ [
 new_one true row = refl
 new_one false row = refl
 
-behind : (before rows : List RowSaid) → unled_rows (new_behind same before rows) ≡ new_behind same (unled_rows before) (unled_rows rows)
-behind before [] = refl
-behind before (row ∷ rows) =
-    map-append unled_row (if_new same before row) (new_behind same (before ++ row ∷ []) rows)
-    ∙ ap (λ x. x ++ unled_rows (new_behind same (before ++ row ∷ []) rows)) (new_one (list_any (same row) before) row ∙ ap (λ (b : Bool). if b then [] else unled_row row ∷ []) (found row before))
-    ∙ ap (λ x. if_new same (unled_rows before) (unled_row row) ++ x) (behind (before ++ row ∷ []) rows ∙ ap (λ x. new_behind same x (unled_rows rows)) (map-append unled_row before (row ∷ [])))
+after : (before rows : List RowSaid) → unled_rows (new_after same before rows) ≡ new_after same (unled_rows before) (unled_rows rows)
+after before [] = refl
+after before (row ∷ rows) =
+    map-append unled_row (if_new same before row) (new_after same (before ++ row ∷ []) rows)
+    ∙ ap (λ x. x ++ unled_rows (new_after same (before ++ row ∷ []) rows)) (new_one (list_any (same row) before) row ∙ ap (λ (b : Bool). if b then [] else unled_row row ∷ []) (found row before))
+    ∙ ap (λ x. if_new same (unled_rows before) (unled_row row) ++ x) (after (before ++ row ∷ []) rows ∙ ap (λ x. new_after same x (unled_rows rows)) (map-append unled_row before (row ∷ [])))
 
 abbrev entry_at : RowSaid → EntrySaid
 entry_at row = row.entry
@@ -50,7 +50,7 @@ entries_unled [] = refl
 entries_unled (row ∷ rows) = ap (λ x. unled row.entry ∷ x) (entries_unled rows)
 
 once_unled : (rows : List RowSaid) → map unled (entries_once rows) ≡ entries_once (unled_rows rows)
-once_unled rows = entries_unled (each_once same rows) ∙ ap (map entry_at) (behind [] rows)
+once_unled rows = entries_unled (each_once same rows) ∙ ap (map entry_at) (after [] rows)
 
 once_same : (rows others : List RowSaid) → unled_rows rows ≡ unled_rows others → map unled (entries_once rows) ≡ map unled (entries_once others)
 once_same rows others e = once_unled rows ∙ ap entries_once e ∙ sym (once_unled others)

@@ -7,7 +7,7 @@ use Rattle.description.specs.Content.{LevelSaid, level, GroupsSaid, no_groups, g
 use Rattle.description.specs.Words.{WordsSaid}
 use Rattle.description_pages.specs.Arranged.{in_order}
 use Rattle.description_pages.specs.Levels.{PageSaid, SubjectSaid, page_of}
-use Rattle.description_pages.specs.Subjects.{below, in_short, is_shown, subjects_behind}
+use Rattle.description_pages.specs.Subjects.{below, in_short, is_shown, subjects_after}
 use Rattle.description_pages.specs.declared.levels.Depth.TheVariants.{Deep}
 use Rattle.description_pages.specs.declared.sections.Detail.TheVariants.{Full}
 
@@ -15,14 +15,14 @@ abbrev pub last_name : List (List ℕ) → List ℕ
 last_name names = get_or names (length names - 1) []
 
 -- what follows `about`; there are no pages beside this one, and so no references to them
-abbrev pub parts_behind : WordsSaid → PageSaid → List PartSaid
-parts_behind fixed said = in_order Section fixed (record said { about = [] })
+abbrev pub parts_after : WordsSaid → PageSaid → List PartSaid
+parts_after fixed said = in_order Section fixed (record said { about = [] })
 
 -- a level, with the chapters of those below it
 abbrev pub chapter_with : WordsSaid → SubjectSaid → List ChapterSaid → ChapterSaid
 chapter_with fixed s lower =
     chapter (page_of fixed Full Deep s).title (last_name s.names) (page_of fixed Full Deep s).about
-    (parts_behind fixed (page_of fixed Full Deep s)) (chapters_in lower)
+    (parts_after fixed (page_of fixed Full Deep s)) (chapters_in lower)
 
 abbrev mutual
   -- the commands of a level that are not hidden, those of its groups first, each with those below it
@@ -70,4 +70,4 @@ abbrev mutual
 abbrev pub EachLevelHasItsChapter : Type 0
 EachLevelHasItsChapter =
     (fixed : WordsSaid) (s : SubjectSaid)
-    → each_alone (chapter_from fixed s) ≡ map (λ t. chapter_with fixed t []) (s ∷ subjects_behind s)
+    → each_alone (chapter_from fixed s) ≡ map (λ t. chapter_with fixed t []) (s ∷ subjects_after s)

@@ -6,12 +6,12 @@ use Rattle.std.specs.List.{list_any}
 abbrev pub if_new : {X : Type 0} → (same : X → X → Bool) → (before : List X) → X → List X
 if_new same before x = if list_any (same x) before then [] else x ∷ []
 
-abbrev pub new_behind : {X : Type 0} → (same : X → X → Bool) → (before : List X) → List X → List X
-new_behind same before [] = []
-new_behind same before (x ∷ xs) = if_new same before x ++ new_behind same (before ++ x ∷ []) xs
+abbrev pub new_after : {X : Type 0} → (same : X → X → Bool) → (before : List X) → List X → List X
+new_after same before [] = []
+new_after same before (x ∷ xs) = if_new same before x ++ new_after same (before ++ x ∷ []) xs
 
 abbrev pub each_once : {X : Type 0} → (same : X → X → Bool) → List X → List X
-each_once same xs = new_behind same [] xs
+each_once same xs = new_after same [] xs
 
 -- a table finds a key among these where it is one of those before
 abbrev pub HasSeen : {K : Type 0} → (same : K → K → Bool) → (keys before : List K) → Type 0

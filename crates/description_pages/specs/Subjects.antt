@@ -90,8 +90,8 @@ abbrev pub in_short : SubjectSaid → SubjectSaid
 in_short s = record s { help_options = map name_only s.help_options }
 
 -- the levels below one as they follow it on its page, which says at the first what these options do
-abbrev pub subjects_behind : SubjectSaid → List SubjectSaid
-subjects_behind s = subjects_below (in_short s)
+abbrev pub subjects_after : SubjectSaid → List SubjectSaid
+subjects_after s = subjects_below (in_short s)
 
 -- ---- law
 

@@ -5,7 +5,7 @@ ghost use Rattle.description.specs.View.{command_said, commands_said, group_said
 ghost use Rattle.description.specs.Words.{words_said};
 ghost use Rattle.description_pages.specs.Chapters.{chapter_from, chapter_if_shown, chapter_with, chapters_in_group};
 ghost use Rattle.description_pages.specs.Chapters.{chapters_on, command_chapters, group_chapters, last_name};
-ghost use Rattle.description_pages.specs.Chapters.{parts_behind};
+ghost use Rattle.description_pages.specs.Chapters.{parts_after};
 ghost use Rattle.description_pages.specs.LevelsView.{level_page_of, subject_of};
 
 use crate::arranged::{ArenaParts, push_in_order};
@@ -32,14 +32,14 @@ fn last_name<'p>(names: &[&'p str]) -> &'p str
 }
 
 // The parts of a page whose `about` was taken.
-fn parts_behind<'p>(
+fn parts_after<'p>(
     arena: &'p Bump,
     words: &FixedWords<'p>,
     page: LevelPage<'p, &'p Bump>,
 ) -> Result<ArenaParts<'p>, AllocError>
     requires { page.about.items ≡ [] }
     ensures { IfOk result (λ parts. map part_of parts.items
-        ≡ parts_behind (words_said words.now) (level_page_of page.entry)) }
+        ≡ parts_after (words_said words.now) (level_page_of page.entry)) }
 {
     let mut parts: ArenaParts<'p> = Vec::new(arena);
     push_in_order(arena, words, Rank::Section, &mut parts, page)?;
@@ -63,7 +63,7 @@ fn chapter_with<'p, 'a: 'p, C: Allocator>(
         title,
         name: last_name(subject.names),
         about,
-        parts: parts_behind(arena, words, page)?,
+        parts: parts_after(arena, words, page)?,
         below: lower,
     })
 }

@@ -7,7 +7,7 @@ ghost use Rattle.description_pages.specs.LevelsView.{subject_of};
 ghost use Rattle.description_pages.specs.Sections.{joined_names, page_name};
 ghost use Rattle.description_pages.specs.Subjects.{all_from, below, below_commands, below_group, below_groups};
 ghost use Rattle.description_pages.specs.Subjects.{below_level, command_named, from_command, grouped, is_named};
-ghost use Rattle.description_pages.specs.Subjects.{in_short, name_only, subjects_behind, subjects_below};
+ghost use Rattle.description_pages.specs.Subjects.{in_short, name_only, subjects_after, subjects_below};
 
 use crate::levels::LevelSubject;
 use crate::neighbours::joined_names;
@@ -189,11 +189,11 @@ fn all_below<'p, 'a: 'p, C: Allocator>(
 
 /// The levels below one as they follow it on its page: of the options that ask for help they have the names and the
 /// word for the value alone, since the page says at the first level what these do. An error comes only where an allocation failed.
-pub fn all_behind<'p, 'a: 'p, C: Allocator>(
+pub fn all_after<'p, 'a: 'p, C: Allocator>(
     arena: &'p Bump,
     subject: LevelSubject<'p, 'a, C>,
 ) -> Result<ArenaSubjects<'p, 'a, C>, AllocError>
-    ensures { IfOk result (λ found. map subject_of found.items ≡ subjects_behind (subject_of subject.entry)) }
+    ensures { IfOk result (λ found. map subject_of found.items ≡ subjects_after (subject_of subject.entry)) }
 {
     all_below(arena, in_short(arena, subject)?)
 }

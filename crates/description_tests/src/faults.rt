@@ -86,7 +86,7 @@ about = "\uffff\u0007"
 => about holds a noncharacter
 usage holds a control character
 
-# A name that stands twice is told behind the keys of its level, and before the tables inside.
+# A name that stands twice is told after the keys of its level, and before the tables inside.
 name = 'a'
 about = "\u0007"
 [[option]]
@@ -486,7 +486,7 @@ name = 'a'
 topic = 1
 => topic is no array of tables
 
-# Topics are told behind all else of their level.
+# Topics are told after all else of their level.
 name = 'a'
 [[topic]]
 title = 'T'
@@ -1319,7 +1319,7 @@ possible_values = 'a\b'
 env = '"'
 => words: env holds a double quote
 
-# They are told in the order of the words, behind the keys of the description.
+# They are told in the order of the words, after the keys of the description.
 [words]
 see_also = ''
 aliases = ''
@@ -1609,7 +1609,7 @@ command 1, option 1: short is no text
 command 1, command 1: name is missing
 command 1, command 1, topic 1 (T): text is missing
 
-# Behind a table that is refused the next ones are read, of each kind.
+# After a table that is refused the next ones are read, of each kind.
 name = 'a'
 [[help_option]]
 [[help_option]]

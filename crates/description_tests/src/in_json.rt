@@ -51,8 +51,8 @@ const FAULTS: &[(&str, &str, &str)] = &[
     ("", "name = 'app'", "no object of JSON; { has to stand here"),
     ("{", "name: 1}", "a key in double quotes has to stand here"),
     ("{", "1: 1}", "a key in double quotes has to stand here"),
-    ("{", "\"a\" 1}", "a colon has to stand behind this key"),
-    ("{", "\"a\"}", "a colon has to stand behind this key"),
+    ("{", "\"a\" 1}", "a colon has to stand after this key"),
+    ("{", "\"a\"}", "a colon has to stand after this key"),
     ("{\"a\": ", "}", "a value of JSON has to stand here"),
     ("{\"a\": ", "True}", "a value of JSON has to stand here"),
     ("{\"a\": ", "01}", "a value of JSON has to stand here"),
@@ -75,8 +75,8 @@ const FAULTS: &[(&str, &str, &str)] = &[
         "]}",
         "no comma may stand before this bracket",
     ),
-    ("{} ", "{}", "nothing may stand behind the object"),
-    ("{}", "}", "nothing may stand behind the object"),
+    ("{} ", "{}", "nothing may stand after the object"),
+    ("{}", "}", "nothing may stand after the object"),
     ("", "{\"a\": 1", "{ is not closed"),
     ("", "{\"a\": 1, ", "{ is not closed"),
     ("{\"a\": ", "[{}, 2\n", "[ is not closed"),
@@ -117,8 +117,8 @@ const FAULTS: &[(&str, &str, &str)] = &[
 ];
 
 // Whether the text is refused so, at this place.
-fn is_refused(alloc: Global, before: &str, behind: &str, words: &str) -> bool {
-    let Ok(text) = format!(in alloc; "{before}{behind}") else {
+fn is_refused(alloc: Global, before: &str, after: &str, words: &str) -> bool {
+    let Ok(text) = format!(in alloc; "{before}{after}") else {
         return false;
     };
     let Err(JsonError::Content(fault)) = table_from_str(alloc, &text) else {
@@ -132,10 +132,10 @@ fn is_refused(alloc: Global, before: &str, behind: &str, words: &str) -> bool {
 
 #[test]
 fn faults_of_json_are_told_where_they_are(rt: HostRuntime) {
-    for &(before, behind, words) in FAULTS {
+    for &(before, after, words) in FAULTS {
         assert!(rt;
-            is_refused(rt.alloc(), before, behind, words),
-            "{before}|{behind}"
+            is_refused(rt.alloc(), before, after, words),
+            "{before}|{after}"
         );
     }
 }

@@ -201,7 +201,7 @@ syntax = '-b {-a}'
 short = 'c'
 => read
 
-# Directly behind another byte stands no name.
+# Directly after another byte stands no name.
 [[option]]
 syntax = 'x-a'
 [[option]]

@@ -2,7 +2,7 @@
 use Rattle.std.proofs.Common.{◌≡◌, ℕ, ◌+◌, ◌-◌, ◌<◌, ◌≤◌, zero, suc, Bool, cond, List, [], ◌∷◌, ◌++◌, length, map, take, drop, get_or, arith, refl, sym, ap, ◌∙◌, append_assoc, min}
 use Rattle.std.specs.List.{prefix_len}
 use Rattle.std.proofs.lemmas.List.{drop-drop, drop_min, drop_more, length-drop, take_min, take-map}
-use Rattle.description_texts.specs.TextsCut.{cut, cut_behind}
+use Rattle.description_texts.specs.TextsCut.{cut, cut_after}
 
 drop_map : {X Z : Type 0} (see : Z → X) (n : ℕ) (zs : List Z) → drop n (map see zs) ≡ map see (drop n zs)
 drop_map see zero zs = refl
@@ -14,7 +14,7 @@ prefix_seen test see [] = refl
 prefix_seen test see (z ∷ zs) = ap (λ n. cond (test (see z)) n 0) (ap (λ n. 1 + n) (prefix_seen test see zs))
 
 module _ {X Y : Type 0} (more : X → List X → ℕ) (said : X → List X → List Y) where
-  skipped : (n : ℕ) (xs : List X) → cut_behind more said n xs ≡ cut more said (drop n xs)
+  skipped : (n : ℕ) (xs : List X) → cut_after more said n xs ≡ cut more said (drop n xs)
   skipped zero xs = refl
   skipped (suc n) [] = refl
   skipped (suc n) (x ∷ xs) = skipped n xs
@@ -48,19 +48,19 @@ module _ {X Y : Type 0} (more : X → List X → ℕ) (said : X → List X → L
 
   -- the same, from a place in the list on
   module _ {Z : Type 0} (see : Z → X) (zs : List Z) (at : ℕ) (d : Z) (within : at < length zs) where
-    behind : (n : ℕ) → drop n (drop (at + 1) zs) ≡ drop (at + (n + 1)) zs
-    behind n = let place : at + 1 + n ≡ at + (n + 1) = omega arith in drop-drop n (at + 1) zs ∙ ap (λ k. drop k zs) place
+    after : (n : ℕ) → drop n (drop (at + 1) zs) ≡ drop (at + (n + 1)) zs
+    after n = let place : at + 1 + n ≡ at + (n + 1) = omega arith in drop-drop n (at + 1) zs ∙ ap (λ k. drop k zs) place
 
     pub cut_at : (n : ℕ) (out new all : List Y) → n ≡ more (see (get_or zs at d)) (map see (drop (at + 1) zs)) → new ≡ out ++ said (see (get_or zs at d)) (map see (take n (drop (at + 1) zs))) → out ++ cut more said (map see (drop at zs)) ≡ all
         → new ++ cut more said (map see (drop (at + (n + 1)) zs)) ≡ all
     cut_at n out new all e s w =
-        ap (λ ys. new ++ cut more said (map see ys)) (sym (behind n))
+        ap (λ ys. new ++ cut more said (map see ys)) (sym (after n))
         ∙ cut_next see (get_or zs at d) (drop (at + 1) zs) (drop at zs) (drop_more zs at d within) n out new all e s w
 
     pub cut_at_within : (n : ℕ) (out new all : List Y) → n ≡ min (more (see (get_or zs at d)) (map see (drop (at + 1) zs))) (length (drop (at + 1) zs)) → new ≡ out ++ said (see (get_or zs at d)) (map see (take n (drop (at + 1) zs))) → out ++ cut more said (map see (drop at zs)) ≡ all
         → new ++ cut more said (map see (drop (at + (n + 1)) zs)) ≡ all
     cut_at_within n out new all e s w =
-        ap (λ ys. new ++ cut more said (map see ys)) (sym (behind n))
+        ap (λ ys. new ++ cut more said (map see ys)) (sym (after n))
         ∙ cut_next_within see (get_or zs at d) (drop (at + 1) zs) (drop at zs) (drop_more zs at d within) n out new all e s w
 
     -- no more are taken than there are

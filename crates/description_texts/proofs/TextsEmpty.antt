@@ -158,16 +158,16 @@ and_true : (b : Bool) → (b && true) ≡ b
 and_true true = refl
 and_true false = refl
 
-module _ (in_fence whole : Bool) (text line behind : List ℕ) (is : slice_split is_newline text ≡ line ∷ slice_split is_newline behind) (so_far : quiet in_fence (slice_split is_newline text) ≡ whole) where
-  pub quiet_next : (next : Bool) → says_nothing in_fence line ≡ true → next ≡ opens in_fence line → quiet next (slice_split is_newline behind) ≡ whole
+module _ (in_fence whole : Bool) (text line after : List ℕ) (is : slice_split is_newline text ≡ line ∷ slice_split is_newline after) (so_far : quiet in_fence (slice_split is_newline text) ≡ whole) where
+  pub quiet_next : (next : Bool) → says_nothing in_fence line ≡ true → next ≡ opens in_fence line → quiet next (slice_split is_newline after) ≡ whole
   quiet_next next h e =
-      ap (λ (q : Bool). quiet q (slice_split is_newline behind)) e
-      ∙ sym (ap (λ (x : Bool). x && quiet (opens in_fence line) (slice_split is_newline behind)) h)
+      ap (λ (q : Bool). quiet q (slice_split is_newline after)) e
+      ∙ sym (ap (λ (x : Bool). x && quiet (opens in_fence line) (slice_split is_newline after)) h)
       ∙ ap (quiet in_fence) (sym is)
       ∙ so_far
 
   pub said_there : says_nothing in_fence line ≡ false → false ≡ whole
-  said_there h = sym (ap (quiet in_fence) is ∙ ap (λ (x : Bool). x && quiet (opens in_fence line) (slice_split is_newline behind)) h) ∙ so_far
+  said_there h = sym (ap (quiet in_fence) is ∙ ap (λ (x : Bool). x && quiet (opens in_fence line) (slice_split is_newline after)) h) ∙ so_far
 
 pub last_line : (in_fence whole : Bool) (text : List ℕ) → slice_split is_newline text ≡ text ∷ [] → quiet in_fence (slice_split is_newline text) ≡ whole → says_nothing in_fence text ≡ whole
 last_line in_fence whole text is w = sym (and_true (says_nothing in_fence text)) ∙ ap (quiet in_fence) (sym is) ∙ w

@@ -12,12 +12,12 @@ use Rattle.description_texts.proofs.TextsPieces.{words_by_byte}
 
 -- ---- a byte that stays
 
-record Stays (b : ℕ) (behind_white : Bool) : Type 0 where
+record Stays (b : ℕ) (after_white : Bool) : Type 0 where
   quote : is_quote b ≡ false
   front : is_link_front b ≡ false
 
-stays_so : (b : ℕ) (behind_white : Bool) → stays_here b behind_white ≡ true → Stays b behind_white
-stays_so b behind_white h = record { quote = grind (arith, nat_tests); front = grind (arith, nat_tests) }
+stays_so : (b : ℕ) (after_white : Bool) → stays_here b after_white ≡ true → Stays b after_white
+stays_so b after_white h = record { quote = grind (arith, nat_tests); front = grind (arith, nat_tests) }
 
 -- ---- white space
 
@@ -27,20 +27,20 @@ no_edge (b ∷ line) h = let here = (and_parts (stays_here b true) (says_itself 
   no_white : stays_here b true ≡ true → is_white b ≡ false
   no_white e = grind (arith, nat_tests)
 
-squeezed_here : (white : Bool) (b : ℕ) (behind_white : Bool) (line : List ℕ) → is_white b ≡ white → stays_here b behind_white ≡ true → says_itself (b == 32) line ≡ true → (if white then (if is_edge_front line then [] else 32 ∷ []) else b ∷ []) ≡ b ∷ []
-squeezed_here true b behind_white line e h k = ap (λ t. if t then [] else 32 ∷ []) (no_edge line (blank e h)) ∙ ap (λ c. c ∷ []) (sym (is_blank e h)) where
-  is_blank : is_white b ≡ true → stays_here b behind_white ≡ true → b ≡ 32
+squeezed_here : (white : Bool) (b : ℕ) (after_white : Bool) (line : List ℕ) → is_white b ≡ white → stays_here b after_white ≡ true → says_itself (b == 32) line ≡ true → (if white then (if is_edge_front line then [] else 32 ∷ []) else b ∷ []) ≡ b ∷ []
+squeezed_here true b after_white line e h k = ap (λ t. if t then [] else 32 ∷ []) (no_edge line (blank e h)) ∙ ap (λ c. c ∷ []) (sym (is_blank e h)) where
+  is_blank : is_white b ≡ true → stays_here b after_white ≡ true → b ≡ 32
   is_blank e h = grind (arith, nat_tests)
 
-  blank : is_white b ≡ true → stays_here b behind_white ≡ true → says_itself true line ≡ true
+  blank : is_white b ≡ true → stays_here b after_white ≡ true → says_itself true line ≡ true
   blank e h = sym (ap (λ c. says_itself (c == 32) line) (is_blank e h)) ∙ k
-squeezed_here false b behind_white line e h k = refl
+squeezed_here false b after_white line e h k = refl
 
-same_squeezed : (behind_white : Bool) (line : List ℕ) → says_itself behind_white line ≡ true → squeezed line ≡ line
-same_squeezed behind_white [] h = refl
-same_squeezed behind_white (b ∷ line) h =
-    let both = and_parts (stays_here b behind_white) (says_itself (b == 32) line) h in
-    ap (λ bytes. bytes ++ squeezed line) (squeezed_here (is_white b) b behind_white line refl both.0 both.1) ∙ ap (λ bytes. b ∷ bytes) (same_squeezed (b == 32) line both.1)
+same_squeezed : (after_white : Bool) (line : List ℕ) → says_itself after_white line ≡ true → squeezed line ≡ line
+same_squeezed after_white [] h = refl
+same_squeezed after_white (b ∷ line) h =
+    let both = and_parts (stays_here b after_white) (says_itself (b == 32) line) h in
+    ap (λ bytes. bytes ++ squeezed line) (squeezed_here (is_white b) b after_white line refl both.0 both.1) ∙ ap (λ bytes. b ∷ bytes) (same_squeezed (b == 32) line both.1)
 
 front_by : (t : Bool) (n : ℕ) (line : List ℕ) → t ≡ false → drop (cond t n 0) line ≡ line
 front_by true n line e = absurd (false≢true (sym e))
@@ -55,23 +55,23 @@ same_spaced line h = ap squeezed (same_front line h) ∙ same_squeezed true line
 
 -- ---- backquotes and links
 
-not_lone : (behind : Bool) (b : ℕ) (text : List ℕ) (parts : List (List ℕ)) → is_quote b ≡ false → (if is_lone behind b text then [] ∷ parts else onto_first b parts) ≡ onto_first b parts
-not_lone behind b text parts e = grind arith
+not_lone : (after : Bool) (b : ℕ) (text : List ℕ) (parts : List (List ℕ)) → is_quote b ≡ false → (if is_lone after b text then [] ∷ parts else onto_first b parts) ≡ onto_first b parts
+not_lone after b text parts e = grind arith
 
-one_part : (behind_white behind : Bool) (line : List ℕ) → says_itself behind_white line ≡ true → lone_split behind line ≡ line ∷ []
-one_part behind_white behind [] h = refl
-one_part behind_white behind (b ∷ line) h =
-    let both = and_parts (stays_here b behind_white) (says_itself (b == 32) line) h in
-    not_lone behind b line (lone_split (is_quote b) line) (stays_so b behind_white both.0).quote ∙ ap (onto_first b) (one_part (b == 32) (is_quote b) line both.1)
+one_part : (after_white after : Bool) (line : List ℕ) → says_itself after_white line ≡ true → lone_split after line ≡ line ∷ []
+one_part after_white after [] h = refl
+one_part after_white after (b ∷ line) h =
+    let both = and_parts (stays_here b after_white) (says_itself (b == 32) line) h in
+    not_lone after b line (lone_split (is_quote b) line) (stays_so b after_white both.0).quote ∙ ap (onto_first b) (one_part (b == 32) (is_quote b) line both.1)
 
 no_link : (b : ℕ) (line : List ℕ) → is_link_front b ≡ false → link_len b line ≡ 0
 no_link b line e = grind arith
 
-words_alone : (behind_white : Bool) (line : List ℕ) → says_itself behind_white line ≡ true → links line ≡ map word line
-words_alone behind_white [] h = refl
-words_alone behind_white (b ∷ line) h =
-    let both = and_parts (stays_here b behind_white) (says_itself (b == 32) line) h in
-    let none : link_len b line ≡ 0 = no_link b line (stays_so b behind_white both.0).front in
+words_alone : (after_white : Bool) (line : List ℕ) → says_itself after_white line ≡ true → links line ≡ map word line
+words_alone after_white [] h = refl
+words_alone after_white (b ∷ line) h =
+    let both = and_parts (stays_here b after_white) (says_itself (b == 32) line) h in
+    let none : link_len b line ≡ 0 = no_link b line (stays_so b after_white both.0).front in
     word_next (b ∷ line) 0 (omega arith) refl none ∙ ap (λ ps. word b ∷ ps) (words_alone (b == 32) line both.1)
 
 same_pieces : (line : List ℕ) → says_itself true line ≡ true → line_pieces line ≡ map word line
@@ -83,8 +83,8 @@ itself_put draft line h = sym (ap (with_pieces draft) (same_pieces line h) ∙ w
 
 -- ---- byte by byte
 
-pub itself_at : (line : List ℕ) (at : ℕ) (behind_white : Bool) → at < length line → says_itself behind_white (drop at line) ≡ (stays_here (get_or line at 0) behind_white && says_itself (get_or line at 0 == 32) (drop (at + 1) line))
-itself_at line at behind_white h = ap (says_itself behind_white) (drop_more line at 0 h)
+pub itself_at : (line : List ℕ) (at : ℕ) (after_white : Bool) → at < length line → says_itself after_white (drop at line) ≡ (stays_here (get_or line at 0) after_white && says_itself (get_or line at 0 == 32) (drop (at + 1) line))
+itself_at line at after_white h = ap (says_itself after_white) (drop_more line at 0 h)
 
-pub itself_end : (line : List ℕ) (at : ℕ) (behind_white : Bool) → length line ≤ at → says_itself behind_white (drop at line) ≡ not behind_white
-itself_end line at behind_white h = ap (says_itself behind_white) (drop_all at line h)
+pub itself_end : (line : List ℕ) (at : ℕ) (after_white : Bool) → length line ≤ at → says_itself after_white (drop at line) ≡ not after_white
+itself_end line at after_white h = ap (says_itself after_white) (drop_all at line h)

@@ -30,27 +30,27 @@ one_alone text h = unsplit text (split_parts 10 text None h (omega arith))
 pub one_line : (text : List ℕ) → IsSplitOnceResult 10 text None → lines text ≡ with_blank_front text ∷ []
 one_line text h = ap (map with_blank_front) (one_alone text h)
 
-pub first_cut : (text : List ℕ) (line behind : Bor (List ℕ)) → IsSplitOnceResult 10 text (Some (line, behind)) → slice_split is_newline text ≡ line.now ∷ slice_split is_newline behind.now
-first_cut text line behind h =
-    let found = split_once_first 10 text (Some (line, behind)) h (omega arith) in
+pub first_cut : (text : List ℕ) (line after : Bor (List ℕ)) → IsSplitOnceResult 10 text (Some (line, after)) → slice_split is_newline text ≡ line.now ∷ slice_split is_newline after.now
+first_cut text line after h =
+    let found = split_once_first 10 text (Some (line, after)) h (omega arith) in
     slice_split_first is_newline text 0 found.0 ∙ ap (λ x. x ∷ slice_split is_newline (after_first is_newline text)) (sym found.1) ∙ ap (λ x. line.now ∷ slice_split is_newline x) (sym found.2)
 
-pub line_cut : (text : List ℕ) (line behind : Bor (List ℕ)) → IsSplitOnceResult 10 text (Some (line, behind)) → lines text ≡ with_blank_front line.now ∷ lines behind.now
-line_cut text line behind h = ap (map with_blank_front) (first_cut text line behind h)
+pub line_cut : (text : List ℕ) (line after : Bor (List ℕ)) → IsSplitOnceResult 10 text (Some (line, after)) → lines text ≡ with_blank_front line.now ∷ lines after.now
+line_cut text line after h = ap (map with_blank_front) (first_cut text line after h)
 
-pub cut_shorter : (text : List ℕ) (line behind : Bor (List ℕ)) → IsSplitOnceResult 10 text (Some (line, behind)) → length behind.now < length text
-cut_shorter text line behind h = grind (arith, split_parts, length-append)
+pub cut_shorter : (text : List ℕ) (line after : Bor (List ℕ)) → IsSplitOnceResult 10 text (Some (line, after)) → length after.now < length text
+cut_shorter text line after h = grind (arith, split_parts, length-append)
 
 module _ {X : Type 0} (now : X → List ℕ) (before after : List X) (x : X) (pushed : after ≡ before ++ x ∷ []) where
   seen : map now after ≡ map now before ++ now x ∷ []
   seen = ap (map now) pushed ∙ map-append now before (x ∷ [])
 
   -- a line that is found
-  pub line_found : (text line behind : List ℕ) (all : List (List ℕ)) → now x ≡ with_blank_front line → lines text ≡ with_blank_front line ∷ lines behind → map now before ++ lines text ≡ all → map now after ++ lines behind ≡ all
-  line_found text line behind all shown cut w =
-      ap (λ xs. xs ++ lines behind) seen
-      ∙ append_assoc (map now before) (now x ∷ []) (lines behind)
-      ∙ ap (λ xs. map now before ++ xs) (ap (λ l. l ∷ lines behind) shown ∙ sym cut)
+  pub line_found : (text line follows : List ℕ) (all : List (List ℕ)) → now x ≡ with_blank_front line → lines text ≡ with_blank_front line ∷ lines follows → map now before ++ lines text ≡ all → map now after ++ lines follows ≡ all
+  line_found text line follows all shown cut w =
+      ap (λ xs. xs ++ lines follows) seen
+      ∙ append_assoc (map now before) (now x ∷ []) (lines follows)
+      ∙ ap (λ xs. map now before ++ xs) (ap (λ l. l ∷ lines follows) shown ∙ sym cut)
       ∙ w
 
   pub last_found : (text : List ℕ) (all : List (List ℕ)) → now x ≡ with_blank_front text → lines text ≡ with_blank_front text ∷ [] → map now before ++ lines text ≡ all → map now after ≡ all
@@ -89,9 +89,9 @@ list_if : (goes : Bool) (more n : ℕ) → more ≤ n → (if goes then suc more
 list_if true more n h = omega arith
 list_if false more n h = omega arith
 
-pub list_within : (behind_blank : Bool) (lines : List (List ℕ)) → list_more behind_blank lines ≤ length lines
-list_within behind_blank [] = omega arith
-list_within behind_blank (line ∷ lines) = list_if (goes_on behind_blank (kind_of line)) (list_more (is_blank_kind (kind_of line)) lines) (length lines) (list_within (is_blank_kind (kind_of line)) lines)
+pub list_within : (after_blank : Bool) (lines : List (List ℕ)) → list_more after_blank lines ≤ length lines
+list_within after_blank [] = omega arith
+list_within after_blank (line ∷ lines) = list_if (goes_on after_blank (kind_of line)) (list_more (is_blank_kind (kind_of line)) lines) (length lines) (list_within (is_blank_kind (kind_of line)) lines)
 
 -- ---- no more than there are
 

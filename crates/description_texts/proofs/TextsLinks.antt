@@ -49,11 +49,11 @@ module _ (text : List ℕ) (at : ℕ) (within : at < length text) (so_far : Link
   pub word_next : link_len (get_or text at 0) (drop (at + 1) text) ≡ 0 → LinksSoFar text (at + 1)
   word_next none =
       let b = get_or text at 0 in
-      let behind = drop (at + 1) text in
+      let after = drop (at + 1) text in
       so_far
-      ∙ ap (λ line. map word (take at text) ++ line) (parts_here ∙ ap (λ n. link_said b (take (with_end n) behind) ++ links (drop (with_end n) behind)) none)
-      ∙ sym (append_assoc (map word (take at text)) (word b ∷ []) (links behind))
-      ∙ ap (λ line. line ++ links behind) (sym (map-append word (take at text) (b ∷ [])) ∙ ap (map word) (sym (take_more text at 0 within)))
+      ∙ ap (λ line. map word (take at text) ++ line) (parts_here ∙ ap (λ n. link_said b (take (with_end n) after) ++ links (drop (with_end n) after)) none)
+      ∙ sym (append_assoc (map word (take at text)) (word b ∷ []) (links after))
+      ∙ ap (λ line. line ++ links after) (sym (map-append word (take at text) (b ∷ [])) ∙ ap (map word) (sym (take_more text at 0 within)))
 
   with_some : (n : ℕ) → 0 < n → with_end n ≡ suc n
   with_some zero h = absurd (omega arith)
@@ -64,14 +64,14 @@ module _ (text : List ℕ) (at : ℕ) (within : at < length text) (so_far : Link
       → links text ≡ map word (take at text) ++ link (take len (drop (at + 1) text)) ∷ links (drop (at + 2 + len) text)
   link_next len is some inside =
       let b = get_or text at 0 in
-      let behind = drop (at + 1) text in
-      let more : link_more b behind ≡ suc len = ap with_end (sym is) ∙ with_some len some in
+      let after = drop (at + 1) text in
+      let more : link_more b after ≡ suc len = ap with_end (sym is) ∙ with_some len some in
       let place : at + 1 + suc len ≡ at + 2 + len = omega arith in
       so_far
       ∙ ap (λ line. map word (take at text) ++ line) (parts_here
-      ∙ ap (λ n. link_said b (take n behind) ++ links (drop n behind)) more
-      ∙ ap (λ line. line ++ links (drop (suc len) behind)) (said_link b len behind (omega (arith, length-drop (at + 1) text)))
-      ∙ ap (λ rest. link (take len behind) ∷ links rest) (drop-drop (suc len) (at + 1) text ∙ ap (λ n. drop n text) place))
+      ∙ ap (λ n. link_said b (take n after) ++ links (drop n after)) more
+      ∙ ap (λ line. line ++ links (drop (suc len) after)) (said_link b len after (omega (arith, length-drop (at + 1) text)))
+      ∙ ap (λ rest. link (take len after) ∷ links rest) (drop-drop (suc len) (at + 1) text ∙ ap (λ n. drop n text) place))
 
 pub all_words : (text : List ℕ) (at : ℕ) → length text ≤ at → LinksSoFar text at → links text ≡ map word text
 all_words text at h s = s ∙ ap (λ rest. map word (take at text) ++ links rest) (drop_all at text h) ∙ append-nil (map word (take at text)) ∙ ap (map word) (take_all at text h)

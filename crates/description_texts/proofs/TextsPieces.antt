@@ -19,12 +19,12 @@ words_by_byte draft (b ∷ text) =
 -- ---- words and links
 
 -- the first link of a text, and the words before it
-pub link_put : (draft d1 d2 : Draft) (text before address behind : List ℕ) → links text ≡ map word before ++ link address ∷ links behind → d1 ≡ with_words draft before → d2 ≡ with_apart d1 (link address)
-    → with_pieces d2 (links behind) ≡ with_pieces draft (links text)
-link_put draft d1 d2 text before address behind found one two =
-    ap (λ d. with_pieces d (links behind)) (two ∙ ap (λ d. with_apart d (link address)) one)
-    ∙ ap (λ d. with_pieces (with_apart d (link address)) (links behind)) (sym (words_by_byte draft before))
-    ∙ sym (pieces_then draft (map word before) (link address ∷ links behind))
+pub link_put : (draft d1 d2 : Draft) (text before address after : List ℕ) → links text ≡ map word before ++ link address ∷ links after → d1 ≡ with_words draft before → d2 ≡ with_apart d1 (link address)
+    → with_pieces d2 (links after) ≡ with_pieces draft (links text)
+link_put draft d1 d2 text before address after found one two =
+    ap (λ d. with_pieces d (links after)) (two ∙ ap (λ d. with_apart d (link address)) one)
+    ∙ ap (λ d. with_pieces (with_apart d (link address)) (links after)) (sym (words_by_byte draft before))
+    ∙ sym (pieces_then draft (map word before) (link address ∷ links after))
     ∙ ap (with_pieces draft) (sym found)
 
 pub words_put : (draft d1 whole : Draft) (text : List ℕ) → links text ≡ map word text → with_pieces draft (links text) ≡ whole → d1 ≡ with_words draft text → d1 ≡ whole
@@ -32,14 +32,14 @@ words_put draft d1 whole text none all one = one ∙ sym (words_by_byte draft te
 
 -- ---- words and literals, alternately
 
-pub pair_put : (draft d1 d2 : Draft) (text before inner behind : List ℕ) → by_turns (lone_parts text) ≡ links before ++ (quoted before inner behind ++ by_turns (lone_parts behind))
-    → d1 ≡ with_pieces draft (links before) → d2 ≡ with_pieces d1 (quoted before inner behind)
-    → with_pieces d2 (by_turns (lone_parts behind)) ≡ with_pieces draft (by_turns (lone_parts text))
-pair_put draft d1 d2 text before inner behind found one two =
-    let rest : Line = by_turns (lone_parts behind) in
-    ap (λ d. with_pieces d rest) (two ∙ ap (λ d. with_pieces d (quoted before inner behind)) one)
-    ∙ sym (pieces_then (with_pieces draft (links before)) (quoted before inner behind) rest)
-    ∙ sym (pieces_then draft (links before) (quoted before inner behind ++ rest))
+pub pair_put : (draft d1 d2 : Draft) (text before inner after : List ℕ) → by_turns (lone_parts text) ≡ links before ++ (quoted before inner after ++ by_turns (lone_parts after))
+    → d1 ≡ with_pieces draft (links before) → d2 ≡ with_pieces d1 (quoted before inner after)
+    → with_pieces d2 (by_turns (lone_parts after)) ≡ with_pieces draft (by_turns (lone_parts text))
+pair_put draft d1 d2 text before inner after found one two =
+    let rest : Line = by_turns (lone_parts after) in
+    ap (λ d. with_pieces d rest) (two ∙ ap (λ d. with_pieces d (quoted before inner after)) one)
+    ∙ sym (pieces_then (with_pieces draft (links before)) (quoted before inner after) rest)
+    ∙ sym (pieces_then draft (links before) (quoted before inner after ++ rest))
     ∙ ap (with_pieces draft) (sym found)
 
 pub rest_put : (draft d1 whole : Draft) (text : List ℕ) → by_turns (lone_parts text) ≡ links text → with_pieces draft (by_turns (lone_parts text)) ≡ whole → d1 ≡ with_pieces draft (links text) → d1 ≡ whole

@@ -69,12 +69,12 @@ code_more [] = 0
 code_more (line ∷ lines) = code_more_if (kind_of line) (code_more lines)
 
 -- a list: items, the plain lines directly below them, and blank lines, which say nothing
-abbrev pub goes_on : (behind_blank : Bool) → Kind → Bool
-goes_on behind_blank Blank = true
-goes_on behind_blank Fence = false
-goes_on behind_blank Code = false
-goes_on behind_blank Item = true
-goes_on behind_blank Plain = not behind_blank
+abbrev pub goes_on : (after_blank : Bool) → Kind → Bool
+goes_on after_blank Blank = true
+goes_on after_blank Fence = false
+goes_on after_blank Code = false
+goes_on after_blank Item = true
+goes_on after_blank Plain = not after_blank
 
 abbrev pub is_blank_kind : Kind → Bool
 is_blank_kind Blank = true
@@ -83,10 +83,10 @@ is_blank_kind Code = false
 is_blank_kind Item = false
 is_blank_kind Plain = false
 
-abbrev pub list_more : (behind_blank : Bool) → List (List ℕ) → ℕ
-list_more behind_blank [] = 0
-list_more behind_blank (line ∷ lines) =
-    if goes_on behind_blank (kind_of line) then suc (list_more (is_blank_kind (kind_of line)) lines) else 0
+abbrev pub list_more : (after_blank : Bool) → List (List ℕ) → ℕ
+list_more after_blank [] = 0
+list_more after_blank (line ∷ lines) =
+    if goes_on after_blank (kind_of line) then suc (list_more (is_blank_kind (kind_of line)) lines) else 0
 
 -- lines that follow one another and are plain
 abbrev pub plain_more : List ℕ → List (List ℕ) → ℕ

@@ -42,15 +42,15 @@ begins_quote [] = false
 begins_quote (b ∷ text) = is_quote b
 
 -- a backquote with no other beside it
-abbrev pub is_lone : (behind_quote : Bool) → ℕ → List ℕ → Bool
-is_lone behind_quote b text = is_quote b && not behind_quote && not (begins_quote text)
+abbrev pub is_lone : (after_quote : Bool) → ℕ → List ℕ → Bool
+is_lone after_quote b text = is_quote b && not after_quote && not (begins_quote text)
 
 -- the parts between such backquotes, of a text after a backquote or not
-abbrev pub lone_split : (behind_quote : Bool) → List ℕ → List (List ℕ)
-lone_split behind_quote [] = [] ∷ []
-lone_split behind_quote (b ∷ text) =
+abbrev pub lone_split : (after_quote : Bool) → List ℕ → List (List ℕ)
+lone_split after_quote [] = [] ∷ []
+lone_split after_quote (b ∷ text) =
     let parts : List (List ℕ) = lone_split (is_quote b) text in
-    if is_lone behind_quote b text then [] ∷ parts else onto_first b parts
+    if is_lone after_quote b text then [] ∷ parts else onto_first b parts
 
 abbrev pub lone_parts : List ℕ → List (List ℕ)
 lone_parts text = lone_split false text
@@ -70,14 +70,14 @@ front_kept before inner = if is_edge_back before then without_white_front inner 
 abbrev pub without_white_end : List ℕ → List ℕ
 without_white_end text = if is_white (last_byte text) then take (length text - 1) text else text
 
-abbrev pub end_kept : (inner behind : List ℕ) → List ℕ
-end_kept inner behind = if is_edge_front behind then without_white_end inner else inner
+abbrev pub end_kept : (inner after : List ℕ) → List ℕ
+end_kept inner after = if is_edge_front after then without_white_end inner else inner
 
 -- what stands between two such backquotes is a literal, unless it is only blanks
-abbrev pub quoted : (before inner behind : List ℕ) → Line
-quoted before inner behind =
+abbrev pub quoted : (before inner after : List ℕ) → Line
+quoted before inner after =
     if list_all is_white inner then words (96 ∷ []) ∷ words inner ∷ words (96 ∷ []) ∷ []
-    else literal (end_kept (front_kept before inner) behind) ∷ []
+    else literal (end_kept (front_kept before inner) after) ∷ []
 
 -- ---- links
 
@@ -131,7 +131,7 @@ abbrev pub by_turns : List (List ℕ) → Line
 by_turns [] = []
 by_turns (text ∷ []) = links text
 by_turns (text ∷ inner ∷ []) = links (text ++ 96 ∷ inner)
-by_turns (text ∷ inner ∷ behind ∷ parts) = links text ++ (quoted text inner behind ++ by_turns (behind ∷ parts))
+by_turns (text ∷ inner ∷ after ∷ parts) = links text ++ (quoted text inner after ++ by_turns (after ∷ parts))
 
 -- White space separates two backquotes just as a blank does, so it is made one blank first.
 unfoldable pub line_pieces : List ℕ → Line

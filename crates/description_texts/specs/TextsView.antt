@@ -15,10 +15,10 @@ draft_of gathering = record {
 }
 
 -- a text that is cut at its first backquote with no other beside it
-pub record IsLoneCut (text before behind : List ℕ) : Type 0 where
-  pub parts : lone_parts text ≡ before ∷ lone_parts behind
-  pub apart : begins_quote behind ≡ false
-  pub whole : text ≡ before ++ 96 ∷ behind
+pub record IsLoneCut (text before after : List ℕ) : Type 0 where
+  pub parts : lone_parts text ≡ before ∷ lone_parts after
+  pub apart : begins_quote after ≡ false
+  pub whole : text ≡ before ++ 96 ∷ after
 
 -- a link in a text, by the place where it begins and the length of its address
 pub record IsLinkAt (text : List ℕ) (at len : ℕ) : Type 0 where
@@ -27,13 +27,13 @@ pub record IsLinkAt (text : List ℕ) (at len : ℕ) : Type 0 where
   pub within : at + 1 + len < length text
 
 -- whether a byte stays as it is where it stands, after white space or the start of the line or not
-abbrev pub stays_here : ℕ → (behind_white : Bool) → Bool
-stays_here b behind_white = if is_white b then b == 32 && not behind_white else not (is_quote b || is_link_front b)
+abbrev pub stays_here : ℕ → (after_white : Bool) → Bool
+stays_here b after_white = if is_white b then b == 32 && not after_white else not (is_quote b || is_link_front b)
 
 -- whether a line is words with one blank between two, none of which is more than words
-abbrev pub says_itself : (behind_white : Bool) → List ℕ → Bool
-says_itself behind_white [] = not behind_white
-says_itself behind_white (b ∷ line) = stays_here b behind_white && says_itself (b == 32) line
+abbrev pub says_itself : (after_white : Bool) → List ℕ → Bool
+says_itself after_white [] = not after_white
+says_itself after_white (b ∷ line) = stays_here b after_white && says_itself (b == 32) line
 
 -- what is said of the lines of a block
 abbrev pub own_said : List (List ℕ) → List BlockSaid

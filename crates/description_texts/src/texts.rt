@@ -89,12 +89,12 @@ fn code_len(lines: &[&str]) -> usize
     len
 }
 
-fn goes_on(is_behind_blank: bool, kind: Kind) -> bool
-    ensures { result ≡ goes_on is_behind_blank kind }
+fn goes_on(is_after_blank: bool, kind: Kind) -> bool
+    ensures { result ≡ goes_on is_after_blank kind }
 {
     match kind {
         Kind::Blank | Kind::Item => true,
-        Kind::Plain => !is_behind_blank,
+        Kind::Plain => !is_after_blank,
         Kind::Fence | Kind::Code => false,
     }
 }
@@ -109,13 +109,13 @@ fn is_blank_kind(kind: Kind) -> bool
 fn list_len(lines: &[&str]) -> usize
     ensures { result ≡ list_more false (map (λ line. line.now) lines.now) }
 {
-    let mut is_behind_blank = false;
+    let mut is_after_blank = false;
     for (at, line) in lines.iter().enumerate() {
         let kind = kind_of(line);
-        if !goes_on(is_behind_blank, kind) {
+        if !goes_on(is_after_blank, kind) {
             return at;
         }
-        is_behind_blank = is_blank_kind(kind);
+        is_after_blank = is_blank_kind(kind);
     }
     lines.len()
 }
@@ -309,12 +309,12 @@ pub fn is_empty(text: &str) -> bool
 {
     let mut in_fence = false;
     let mut rest = text;
-    while let Some((line, behind)) = rest.split_once('\n') {
+    while let Some((line, after)) = rest.split_once('\n') {
         if !says_nothing(in_fence, line) {
             return false;
         }
         in_fence = opens(in_fence, line);
-        rest = behind;
+        rest = after;
     }
     says_nothing(in_fence, rest)
 }

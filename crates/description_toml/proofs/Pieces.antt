@@ -6,7 +6,7 @@ use Rattle.std.proofs.lemmas.Bool.{false≢true}
 use Rattle.std.proofs.lemmas.List.{drop_all, drop_more, take_all, take_more}
 use Rattle.std.proofs.lemmas.List.Sums.{count_by_more_no, count_by_more_yes}
 use Rattle.std.specs.Int.{from_bool}
-use Rattle.description_toml.specs.Syntax.{is_bracket, is_closing, is_opening, is_outside, onto_parts, parts, parts_behind}
+use Rattle.description_toml.specs.Syntax.{is_bracket, is_closing, is_opening, is_outside, onto_parts, parts, parts_after}
 use Rattle.description_toml.proofs.Stretches.{count_more}
 
 -- ---- after a place outside brackets, what stands before it does not matter
@@ -17,15 +17,15 @@ same_sums k a b = grind (arith, eqb_tells)
 pub are_same : (a b : ℕ) → (a == b) ≡ true → a ≡ b
 are_same a b h = elim (eqb_tells a b) [ inl p ↦ p.1 | inr p ↦ absurd (false≢true (sym p.0 ∙ h)) ]
 
-outside_behind : (xs ys : List ℕ) → is_outside xs ≡ true → is_outside (xs ++ ys) ≡ is_outside ys
-outside_behind xs ys h = grind (arith, count_more, are_same, same_sums)
+outside_after : (xs ys : List ℕ) → is_outside xs ≡ true → is_outside (xs ++ ys) ≡ is_outside ys
+outside_after xs ys h = grind (arith, count_more, are_same, same_sums)
 
-parts_alike : (mark : ℕ) (xs ys bs : List ℕ) → is_outside xs ≡ true → parts_behind mark (xs ++ ys) bs ≡ parts_behind mark ys bs
+parts_alike : (mark : ℕ) (xs ys bs : List ℕ) → is_outside xs ≡ true → parts_after mark (xs ++ ys) bs ≡ parts_after mark ys bs
 parts_alike mark xs ys [] h = refl
-parts_alike mark xs ys (b ∷ bs) h = grind (arith, parts_alike mark xs (ys ++ b ∷ []) bs h, outside_behind, append_assoc)
+parts_alike mark xs ys (b ∷ bs) h = grind (arith, parts_alike mark xs (ys ++ b ∷ []) bs h, outside_after, append_assoc)
 
-parts_fresh : (mark : ℕ) (xs bs : List ℕ) → is_outside xs ≡ true → parts_behind mark xs bs ≡ parts mark bs
-parts_fresh mark xs bs h = sym (ap (λ zs. parts_behind mark zs bs) (append-nil xs)) ∙ parts_alike mark xs [] bs h
+parts_fresh : (mark : ℕ) (xs bs : List ℕ) → is_outside xs ≡ true → parts_after mark xs bs ≡ parts mark bs
+parts_fresh mark xs bs h = sym (ap (λ zs. parts_after mark zs bs) (append-nil xs)) ∙ parts_alike mark xs [] bs h
 
 either_false : (a b : Bool) → (a || b) ≡ false → (a ≡ false) × (b ≡ false)
 either_false a b h2 = grind (arith, true≢false)
@@ -35,7 +35,7 @@ none_counted p b h = count_by_more_no p (b ∷ []) 0 0 (omega arith) h
 
 -- a byte that is not a bracket leaves a place outside brackets
 outside_still : (xs : List ℕ) (b : ℕ) → is_bracket b ≡ false → is_outside xs ≡ true → is_outside (xs ++ b ∷ []) ≡ true
-outside_still xs b n h = grind (arith, either_false, outside_behind, none_counted)
+outside_still xs b n h = grind (arith, either_false, outside_after, none_counted)
 
 -- ---- the first place where a byte stands outside brackets
 
@@ -54,7 +54,7 @@ onto_new (x ∷ xs) ps = ap (onto_first x) (onto_new xs ps)
 
 -- what was passed, and what is left
 abbrev pub CutSoFar : (mark : ℕ) → List ℕ → ℕ → Type 0
-CutSoFar mark bs i = onto_front (take i bs) (parts_behind mark (take i bs) (drop i bs)) ≡ parts mark bs
+CutSoFar mark bs i = onto_front (take i bs) (parts_after mark (take i bs) (drop i bs)) ≡ parts mark bs
 
 module _ (mark : ℕ) (bs : List ℕ) (i b : ℕ) (within : i < length bs) (at : b ≡ get_or bs i 0) (so_far : CutSoFar mark bs i) where
   next : drop i bs ≡ b ∷ drop (i + 1) bs
@@ -63,8 +63,8 @@ module _ (mark : ℕ) (bs : List ℕ) (i b : ℕ) (within : i < length bs) (at :
   taken : take (i + 1) bs ≡ take i bs ++ b ∷ []
   taken = take_more bs i 0 within ∙ ap (λ x. take i bs ++ x ∷ []) (sym at)
 
-  here : onto_front (take i bs) (onto_parts (b == mark && is_outside (take i bs)) b (parts_behind mark (take i bs ++ b ∷ []) (drop (i + 1) bs))) ≡ parts mark bs
-  here = sym (ap (λ us. onto_front (take i bs) (parts_behind mark (take i bs) us)) next) ∙ so_far
+  here : onto_front (take i bs) (onto_parts (b == mark && is_outside (take i bs)) b (parts_after mark (take i bs ++ b ∷ []) (drop (i + 1) bs))) ≡ parts mark bs
+  here = sym (ap (λ us. onto_front (take i bs) (parts_after mark (take i bs) us)) next) ∙ so_far
 
   pub cut_here : is_bracket mark ≡ false → (b == mark) ≡ true → is_outside (take i bs) ≡ true → parts mark bs ≡ take i bs ∷ parts mark (drop (i + 1) bs)
   cut_here n e h = grind (arith, are_same, here, onto_new, parts_fresh, outside_still)

@@ -9,7 +9,7 @@ use Rattle.std.proofs.lemmas.Bool.Decides.{nat_tests}
 use Rattle.std.proofs.lemmas.List.Concat.{flat_map-append}
 use Rattle.std.proofs.lemmas.Str.{IsCharBoundary-start, IsCharBoundary-end, IsCharBoundary-before_ascii, IsCharBoundary-after_ascii}
 use Rattle.description_toml.specs.Described.Taken.{without_dashes}
-use Rattle.description_toml.specs.Syntax.{is_outside, is_same, names_behind, onto_stretches, stretch_names, stretches}
+use Rattle.description_toml.specs.Syntax.{is_outside, is_same, names_after, onto_stretches, stretch_names, stretches}
 use Rattle.description_toml.specs.Syntax.Steps.{is_in}
 use Rattle.description_toml.specs.declared.syntax.Class.{Class}
 
@@ -95,15 +95,15 @@ front_whole text = let none : length text - length text ≡ 0 = omega arith in a
 pub end_shorter : (text rest : List ℕ) → IsEnd text rest → length rest ≤ length text
 end_shorter text rest e = let long : length text ≡ length (front_of text rest) + length rest = ap length e ∙ length-append (front_of text rest) rest in omega arith
 
-module _ (text rest stretch behind : List ℕ) (is_end : IsEnd text rest) (cut : rest ≡ stretch ++ behind) where
-  joined_whole : text ≡ (front_of text rest ++ stretch) ++ behind
-  joined_whole = is_end ∙ ap (λ r. front_of text rest ++ r) cut ∙ sym (append_assoc (front_of text rest) stretch behind)
+module _ (text rest stretch after : List ℕ) (is_end : IsEnd text rest) (cut : rest ≡ stretch ++ after) where
+  joined_whole : text ≡ (front_of text rest ++ stretch) ++ after
+  joined_whole = is_end ∙ ap (λ r. front_of text rest ++ r) cut ∙ sym (append_assoc (front_of text rest) stretch after)
 
-  pub front_more : front_of text behind ≡ front_of text rest ++ stretch
-  front_more = front_is text (front_of text rest ++ stretch) behind joined_whole
+  pub front_more : front_of text after ≡ front_of text rest ++ stretch
+  front_more = front_is text (front_of text rest ++ stretch) after joined_whole
 
-  pub end_more : IsEnd text behind
-  end_more = joined_whole ∙ ap (λ f. f ++ behind) (sym front_more)
+  pub end_more : IsEnd text after
+  end_more = joined_whole ∙ ap (λ f. f ++ after) (sym front_more)
 
 -- ---- the names of one stretch, and those after it
 
@@ -111,6 +111,6 @@ pub count_more : (p : ℕ → Bool) (xs ys : List ℕ) → count_by p (xs ++ ys)
 count_more p xs ys = sum_by-append (λ x. cond (p x) 1 0) xs ys
 
 pub names_put : (old new whole : List (List ℕ)) (two outside : Bool) (before after stretch : List ℕ) (ss ts : List (List ℕ)) → ss ≡ stretch ∷ ts → after ≡ before ++ stretch → outside ≡ is_outside before
-    → new ≡ old ++ flat_map (without_dashes two) (cond outside (stretch_names before stretch) []) → old ++ flat_map (without_dashes two) (names_behind before ss) ≡ whole
-    → new ++ flat_map (without_dashes two) (names_behind after ts) ≡ whole
+    → new ≡ old ++ flat_map (without_dashes two) (cond outside (stretch_names before stretch) []) → old ++ flat_map (without_dashes two) (names_after before ss) ≡ whole
+    → new ++ flat_map (without_dashes two) (names_after after ts) ≡ whole
 names_put old new whole two outside before after stretch ss ts at more out put so_far = grind (arith, append_assoc, flat_map-append)

@@ -41,17 +41,17 @@ blanks_left text front shown f is t =
 -- ---- the last character
 
 -- of characters after one that passes the test or not
-abbrev pub ends_behind : (ℕ → Bool) → Bool → List ℕ → Bool
-ends_behind test before [] = before
-ends_behind test before (c ∷ cs) = ends test (c ∷ cs)
+abbrev pub ends_after : (ℕ → Bool) → Bool → List ℕ → Bool
+ends_after test before [] = before
+ends_after test before (c ∷ cs) = ends test (c ∷ cs)
 
-pub none_before : (test : ℕ → Bool) (cs : List ℕ) → ends_behind test false cs ≡ ends test cs
+pub none_before : (test : ℕ → Bool) (cs : List ℕ) → ends_after test false cs ≡ ends test cs
 none_before test [] = refl
 none_before test (c ∷ cs) = refl
 
-one_behind : (test : ℕ → Bool) (before : Bool) (c : ℕ) (cs : List ℕ) → ends_behind test (test c) cs ≡ ends_behind test before (c ∷ cs)
-one_behind test before c [] = refl
-one_behind test before c (d ∷ cs) = refl
+one_after : (test : ℕ → Bool) (before : Bool) (c : ℕ) (cs : List ℕ) → ends_after test (test c) cs ≡ ends_after test before (c ∷ cs)
+one_after test before c [] = refl
+one_after test before c (d ∷ cs) = refl
 
-pub one_passed : (test : ℕ → Bool) (before : Bool) (bs rest : List ℕ) (c : ℕ) → IsUtf8 bs → bs ≡ encode c ++ rest → ends_behind test (test c) (chars rest) ≡ ends_behind test before (chars bs)
-one_passed test before bs rest c u e = one_behind test before c (chars rest) ∙ ap (ends_behind test before) (sym (chars_past_char bs rest c u e))
+pub one_passed : (test : ℕ → Bool) (before : Bool) (bs rest : List ℕ) (c : ℕ) → IsUtf8 bs → bs ≡ encode c ++ rest → ends_after test (test c) (chars rest) ≡ ends_after test before (chars bs)
+one_passed test before bs rest c u e = one_after test before c (chars rest) ∙ ap (ends_after test before) (sym (chars_past_char bs rest c u e))

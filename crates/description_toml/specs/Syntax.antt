@@ -96,12 +96,12 @@ are_paired text = is_empty_text (fold with_bracket [] (filter is_bracket text))
 abbrev pub stretch_names : (before text : List ℕ) → List (List ℕ)
 stretch_names before text = if is_name before text then text ∷ [] else if is_negated before text then (codes "--" ++ text) ∷ [] else []
 
-abbrev pub names_behind : (before : List ℕ) → List (List ℕ) → List (List ℕ)
-names_behind before [] = []
-names_behind before (text ∷ texts) = (if is_outside before then stretch_names before text else []) ++ names_behind (before ++ text) texts
+abbrev pub names_after : (before : List ℕ) → List (List ℕ) → List (List ℕ)
+names_after before [] = []
+names_after before (text ∷ texts) = (if is_outside before then stretch_names before text else []) ++ names_after (before ++ text) texts
 
 abbrev pub syntax_names : List ℕ → List (List ℕ)
-syntax_names text = names_behind [] (stretches is_separator text)
+syntax_names text = names_after [] (stretches is_separator text)
 
 -- ---- pieces
 
@@ -111,12 +111,12 @@ onto_parts true b ps = [] ∷ ps
 onto_parts false b ps = onto_first b ps
 
 -- the parts that the bytes `mark` outside brackets separate
-abbrev pub parts_behind : (mark : ℕ) → (before : List ℕ) → List ℕ → List (List ℕ)
-parts_behind mark before [] = [] ∷ []
-parts_behind mark before (b ∷ bs) = onto_parts (b == mark && is_outside before) b (parts_behind mark (before ++ b ∷ []) bs)
+abbrev pub parts_after : (mark : ℕ) → (before : List ℕ) → List ℕ → List (List ℕ)
+parts_after mark before [] = [] ∷ []
+parts_after mark before (b ∷ bs) = onto_parts (b == mark && is_outside before) b (parts_after mark (before ++ b ∷ []) bs)
 
 abbrev pub parts : (mark : ℕ) → List ℕ → List (List ℕ)
-parts mark = parts_behind mark []
+parts mark = parts_after mark []
 
 -- the parts that the commas outside brackets separate
 abbrev pub pieces : List ℕ → List (List ℕ)

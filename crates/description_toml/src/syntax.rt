@@ -173,7 +173,7 @@ pub fn put_names<'a, A: Allocator>(
     let mut rest = text;
     let mut opened = 0;
     let mut closed = 0;
-    while let Some((stretch, behind)) = first_stretch(rest, Class::Separator) {
+    while let Some((stretch, after)) = first_stretch(rest, Class::Separator) {
         put_name(
             names,
             opened == closed,
@@ -183,7 +183,7 @@ pub fn put_names<'a, A: Allocator>(
         )?;
         opened += count(stretch.as_bytes(), Class::Opening);
         closed += count(stretch.as_bytes(), Class::Closing);
-        rest = behind;
+        rest = after;
     }
     Ok(())
 }
@@ -344,11 +344,11 @@ pub fn have_pieces_ink(text: &str) -> bool
     ensures { result ≡ list_all has_ink (pieces text.now) }
 {
     let mut rest = text;
-    while let Some((piece, behind)) = split_piece(rest) {
+    while let Some((piece, after)) = split_piece(rest) {
         if !has_ink(piece) {
             return false;
         }
-        rest = behind;
+        rest = after;
     }
     has_ink(rest)
 }

@@ -6,7 +6,7 @@ use Rattle.std.proofs.lemmas.Bool.{and_parts, cases_lt}
 use Rattle.std.proofs.lemmas.Str.{IsUtf8-append, IsUtf8-from_ascii, IsUtf8-nil, encode_ascii, inside_one}
 use Rattle.std.proofs.lemmas.Str.Ascii.{IsAscii-cons, IsAscii-nil}
 use lib.Utf8.{encode, encodes, scalars}
-use Rattle.description_usage.specs.Forms.{is_lone, open_behind, shaped, shaped_behind, stand_in}
+use Rattle.description_usage.specs.Forms.{is_lone, open_after, shaped, shaped_after, stand_in}
 
 abbrev pub AreAlike : List ℕ → List ℕ → Type 0
 AreAlike [] [] = Unit {0}
@@ -68,9 +68,9 @@ chosen : (t : Bool) (b : ℕ) → (cond t (stand_in b) b ≡ b) ⊎ ((b < 128) �
 chosen true b = stood b
 chosen false b = inl refl
 
-shaped_alike : (opened bs : List ℕ) → AreAlike bs (shaped_behind opened bs)
+shaped_alike : (opened bs : List ℕ) → AreAlike bs (shaped_after opened bs)
 shaped_alike opened [] = tt
-shaped_alike opened (b ∷ bs) = (chosen (is_lone opened b bs) b, shaped_alike (open_behind opened b) bs)
+shaped_alike opened (b ∷ bs) = (chosen (is_lone opened b bs) b, shaped_alike (open_after opened b) bs)
 
 pub shaped_utf8 : (bs : List ℕ) → IsUtf8 bs → IsUtf8 (shaped bs)
 shaped_utf8 bs utf8 = alike_utf8 bs (shaped bs) utf8 (shaped_alike [] bs)

@@ -3,7 +3,7 @@ pub mod Margins
 pub mod Stretches
 pub mod Dashes
 pub mod Parts
-pub mod Behind
+pub mod After
 pub mod LevelParts
 pub mod Rows
 pub mod Restored

@@ -8,7 +8,7 @@ use Rattle.std.proofs.lemmas.List.{take-append-drop}
 use Rattle.std.proofs.lemmas.Slice.Eq.{bytes_eq-Decides}
 use Rattle.std.specs.List.{list_any}
 use Rattle.std.proofs.lemmas.Bool.Decides.{nat_tests}
-use Rattle.description_usage.specs.Forms.{behind_word, blank_for_tab, bracket_of, is_stand_in, restored, untabbed}
+use Rattle.description_usage.specs.Forms.{after_word, blank_for_tab, bracket_of, is_stand_in, restored, untabbed}
 
 either_false : (a b : Bool) → (a || b) ≡ false → (a ≡ false) × (b ≡ false)
 either_false a b h = grind arith
@@ -30,7 +30,7 @@ tabs_each (b ∷ bs) = ap (λ cs. blank_for_tab b ∷ cs) (tabs_each bs)
 
 -- ---- a word at the front
 
-begins : (word line rest : List ℕ) → line ≡ word ++ rest → behind_word word line ≡ Some rest
+begins : (word line rest : List ℕ) → line ≡ word ++ rest → after_word word line ≡ Some rest
 begins word line rest e =
     let front : take (length word) line ≡ word = ap (take (length word)) e ∙ take-append_seam word rest in
     ap (λ b. if b then Some (drop (length word) line) else None) ((bytes_eq-Decides (take (length word) line) word).1 front) ∙ ap Some (ap (drop (length word)) e ∙ drop-append_seam word rest)
@@ -39,9 +39,9 @@ decided : (word line : List ℕ) (b : Bool) → bytes_eq (take (length word) lin
 decided word line true h none = absurd (none (drop (length word) line) (sym (take-append-drop (length word) line) ∙ ap (λ xs. xs ++ drop (length word) line) ((bytes_eq-Decides (take (length word) line) word).0 h)))
 decided word line false h none = refl
 
-differs : (word line : List ℕ) → ((rest : List ℕ) → ¬ (line ≡ word ++ rest)) → behind_word word line ≡ None
+differs : (word line : List ℕ) → ((rest : List ℕ) → ¬ (line ≡ word ++ rest)) → after_word word line ≡ None
 differs word line h = ap (λ b. if b then Some (drop (length word) line) else None) (decided word line (bytes_eq (take (length word) line) word) refl h)
 
-pub stripped : (word line : List ℕ) (found : Option (Bor (List ℕ))) → MatchOption found (FindsTextPrefix word line None) (λ x. StripsPrefix (FindsTextPrefix word) line x.now) → option_map (λ rest. rest.now) found ≡ behind_word word line
+pub stripped : (word line : List ℕ) (found : Option (Bor (List ℕ))) → MatchOption found (FindsTextPrefix word line None) (λ x. StripsPrefix (FindsTextPrefix word) line x.now) → option_map (λ rest. rest.now) found ≡ after_word word line
 stripped word line None h = sym (differs word line h)
 stripped word line (Some x) h = grind (arith, begins)

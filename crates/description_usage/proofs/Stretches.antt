@@ -8,7 +8,7 @@ use Rattle.std.proofs.lemmas.Bool.{cases_lt}
 use Rattle.std.proofs.lemmas.Bool.Decides.{nat_tests}
 use Rattle.std.proofs.lemmas.Str.{IsCharBoundary-start, IsCharBoundary-end, IsCharBoundary-before_ascii, IsCharBoundary-after_ascii}
 use Rattle.page_model.specs.Content.{Line, Piece}
-use Rattle.description_usage.specs.Syntax.{is_name, is_negated, is_outside, is_same, is_word_byte, names_behind, onto_stretches, pieces_behind, stretch_pieces, stretches, word_piece, word_pieces}
+use Rattle.description_usage.specs.Syntax.{is_name, is_negated, is_outside, is_same, is_word_byte, names_after, onto_stretches, pieces_after, stretch_pieces, stretches, word_piece, word_pieces}
 use Rattle.description_usage.specs.Syntax.Steps.{is_in}
 use Rattle.description_usage.specs.declared.syntax.Class.{Class}
 
@@ -94,24 +94,24 @@ front_whole text = let none : length text - length text ≡ 0 = omega arith in a
 pub end_shorter : (text rest : List ℕ) → IsEnd text rest → length rest ≤ length text
 end_shorter text rest e = let long : length text ≡ length (front_of text rest) + length rest = ap length e ∙ length-append (front_of text rest) rest in omega arith
 
-module _ (text rest stretch behind : List ℕ) (is_end : IsEnd text rest) (cut : rest ≡ stretch ++ behind) where
-  joined_whole : text ≡ (front_of text rest ++ stretch) ++ behind
-  joined_whole = is_end ∙ ap (λ r. front_of text rest ++ r) cut ∙ sym (append_assoc (front_of text rest) stretch behind)
+module _ (text rest stretch after : List ℕ) (is_end : IsEnd text rest) (cut : rest ≡ stretch ++ after) where
+  joined_whole : text ≡ (front_of text rest ++ stretch) ++ after
+  joined_whole = is_end ∙ ap (λ r. front_of text rest ++ r) cut ∙ sym (append_assoc (front_of text rest) stretch after)
 
-  pub front_more : front_of text behind ≡ front_of text rest ++ stretch
-  front_more = front_is text (front_of text rest ++ stretch) behind joined_whole
+  pub front_more : front_of text after ≡ front_of text rest ++ stretch
+  front_more = front_is text (front_of text rest ++ stretch) after joined_whole
 
-  pub end_more : IsEnd text behind
-  end_more = joined_whole ∙ ap (λ f. f ++ behind) (sym front_more)
+  pub end_more : IsEnd text after
+  end_more = joined_whole ∙ ap (λ f. f ++ after) (sym front_more)
 
 -- ---- one stretch appended to a line, and the rest after it
 
-pub stretch_put : (line more whole : Line) (before after stretch : List ℕ) (ss ts : List (List ℕ)) → ss ≡ stretch ∷ ts → after ≡ before ++ stretch → more ≡ line ++ stretch_pieces before stretch → line ++ pieces_behind before ss ≡ whole
-    → more ++ pieces_behind after ts ≡ whole
-stretch_put line more whole before after stretch ss ts at behind put so_far = grind (arith, append_assoc)
+pub stretch_put : (line more whole : Line) (before after stretch : List ℕ) (ss ts : List (List ℕ)) → ss ≡ stretch ∷ ts → after ≡ before ++ stretch → more ≡ line ++ stretch_pieces before stretch → line ++ pieces_after before ss ≡ whole
+    → more ++ pieces_after after ts ≡ whole
+stretch_put line more whole before after stretch ss ts at follows put so_far = grind (arith, append_assoc)
 
-pub word_put : (line more whole : Line) (piece : Piece) (text word behind : List ℕ) → stretches is_word_byte text ≡ word ∷ stretches is_word_byte behind → piece ≡ word_piece word → more ≡ line ++ piece ∷ [] → line ++ word_pieces text ≡ whole → more ++ word_pieces behind ≡ whole
-word_put line more whole piece text word behind at is put so_far = grind (arith, append_assoc)
+pub word_put : (line more whole : Line) (piece : Piece) (text word after : List ℕ) → stretches is_word_byte text ≡ word ∷ stretches is_word_byte after → piece ≡ word_piece word → more ≡ line ++ piece ∷ [] → line ++ word_pieces text ≡ whole → more ++ word_pieces after ≡ whole
+word_put line more whole piece text word after at is put so_far = grind (arith, append_assoc)
 
 -- ---- counts
 
@@ -121,5 +121,5 @@ count_more p xs ys = sum_by-append (λ x. cond (p x) 1 0) xs ys
 -- ---- the first name
 
 pub name_passed : (before after stretch : List ℕ) (ss ts : List (List ℕ)) (outside : Bool) → ss ≡ stretch ∷ ts → after ≡ before ++ stretch → outside ≡ is_outside before
-    → (outside && (is_name before stretch || is_negated before stretch)) ≡ false → names_behind after ts ≡ names_behind before ss
+    → (outside && (is_name before stretch || is_negated before stretch)) ≡ false → names_after after ts ≡ names_after before ss
 name_passed before after stretch ss ts outside at more out none = grind arith

@@ -60,14 +60,14 @@ command_notes fixed names = alias_notes fixed.aliases names.aliases
 -- ---- bodies
 
 -- notes after the last line of a paragraph, with a blank before
-abbrev pub behind_lines : (notes : Line) → List Line → List Line
-behind_lines notes [] = notes ∷ []
-behind_lines notes (line ∷ []) = (line ++ words (codes " ") ∷ notes) ∷ []
-behind_lines notes (line ∷ more ∷ lines) = line ∷ behind_lines notes (more ∷ lines)
+abbrev pub after_lines : (notes : Line) → List Line → List Line
+after_lines notes [] = notes ∷ []
+after_lines notes (line ∷ []) = (line ++ words (codes " ") ∷ notes) ∷ []
+after_lines notes (line ∷ more ∷ lines) = line ∷ after_lines notes (more ∷ lines)
 
 -- after a help that is one paragraph; after any other help, as a paragraph of their own
 abbrev pub noted_body : (notes : Line) → List BlockSaid → List BlockSaid
-noted_body notes (paragraph lines ∷ []) = paragraph (behind_lines notes lines) ∷ []
+noted_body notes (paragraph lines ∷ []) = paragraph (after_lines notes lines) ∷ []
 noted_body notes help = help ++ paragraph (notes ∷ []) ∷ []
 
 -- the help, and the notes with a blank between two, where there are any

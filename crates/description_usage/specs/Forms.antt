@@ -16,18 +16,18 @@ closes o c = ((o == 91 && c == 93) || (o == 40 && c == 41)) || ((o == 60 && c ==
 
 -- the brackets that are open after a byte, the innermost first: a closing one closes the innermost, if that is of its
 -- kind
-abbrev pub open_behind : (opened : List ℕ) → ℕ → List ℕ
-open_behind [] b = if is_opening b then b ∷ [] else []
-open_behind (o ∷ os) b = if is_opening b then b ∷ o ∷ os else if closes o b then os else o ∷ os
+abbrev pub open_after : (opened : List ℕ) → ℕ → List ℕ
+open_after [] b = if is_opening b then b ∷ [] else []
+open_after (o ∷ os) b = if is_opening b then b ∷ o ∷ os else if closes o b then os else o ∷ os
 
 -- how many are open after each byte
 abbrev pub depths : (opened : List ℕ) → List ℕ → List ℕ
 depths opened [] = []
-depths opened (b ∷ bs) = length (open_behind opened b) ∷ depths (open_behind opened b) bs
+depths opened (b ∷ bs) = length (open_after opened b) ∷ depths (open_after opened b) bs
 
 -- an opening bracket where more stay open, up to the end, than before it; a closing one that closes none
 abbrev pub is_lone : (opened : List ℕ) → ℕ → (after : List ℕ) → Bool
-is_lone opened b after = if is_opening b then list_all (nat_lt (length opened)) (depths (open_behind opened b) after) else is_closing b && length (open_behind opened b) == length opened
+is_lone opened b after = if is_opening b then list_all (nat_lt (length opened)) (depths (open_after opened b) after) else is_closing b && length (open_after opened b) == length opened
 
 -- what stands for such a bracket while a line is read, a letter that no text has
 abbrev pub stand_in : ℕ → ℕ
@@ -40,13 +40,13 @@ bracket_of b = if b == 1 then 91 else if b == 2 then 93 else if b == 3 then 40 e
 abbrev pub is_stand_in : ℕ → Bool
 is_stand_in b = nat_lt 0 b && nat_lt b 9
 
-abbrev pub shaped_behind : (opened : List ℕ) → List ℕ → List ℕ
-shaped_behind opened [] = []
-shaped_behind opened (b ∷ bs) = (if is_lone opened b bs then stand_in b else b) ∷ shaped_behind (open_behind opened b) bs
+abbrev pub shaped_after : (opened : List ℕ) → List ℕ → List ℕ
+shaped_after opened [] = []
+shaped_after opened (b ∷ bs) = (if is_lone opened b bs then stand_in b else b) ∷ shaped_after (open_after opened b) bs
 
 -- a line in which brackets in no pair count as letters, and a text of it as it was
 abbrev pub shaped : List ℕ → List ℕ
-shaped line = shaped_behind [] line
+shaped line = shaped_after [] line
 
 abbrev pub restored : List ℕ → List ℕ
 restored text = map bracket_of text
@@ -87,16 +87,16 @@ abbrev pub untabbed : List ℕ → List ℕ
 untabbed text = map blank_for_tab text
 
 -- after a colon, where a blank or nothing follows it: the text without these blanks
-abbrev pub behind_colon : List ℕ → Option (List ℕ)
-behind_colon [] = None
-behind_colon (b ∷ bs) = if b == 58 && (is_empty bs || begins (λ c. c == 32) bs) then Some (without_front bs) else None
+abbrev pub after_colon : List ℕ → Option (List ℕ)
+after_colon [] = None
+after_colon (b ∷ bs) = if b == 58 && (is_empty bs || begins (λ c. c == 32) bs) then Some (without_front bs) else None
 
-abbrev pub behind_word : (word : List ℕ) → List ℕ → Option (List ℕ)
-behind_word word line = if bytes_eq (take (length word) line) word then Some (drop (length word) line) else None
+abbrev pub after_word : (word : List ℕ) → List ℕ → Option (List ℕ)
+after_word word line = if bytes_eq (take (length word) line) word then Some (drop (length word) line) else None
 
 -- without a word at its front that such a colon follows
 abbrev pub without_lead : (word : List ℕ) → List ℕ → List ℕ
-without_lead word line = unwrap_or (option_and_then behind_colon (behind_word word line)) line
+without_lead word line = unwrap_or (option_and_then after_colon (after_word word line)) line
 
 abbrev pub form_text : (word : List ℕ) → List ℕ → List ℕ
 form_text word line = without_lead word (without_lead (codes "Usage") (without_margins line))

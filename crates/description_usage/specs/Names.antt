@@ -30,13 +30,13 @@ abbrev pub long_piece : List ℕ → Piece
 long_piece name = literal (codes "--" ++ name)
 
 -- the word for the value of an option, after its name, if it has one
-abbrev pub value_behind : (between : List ℕ) → Option (List ℕ) → Line
-value_behind between None = []
-value_behind between (Some word) = words between ∷ value_piece word ∷ []
+abbrev pub value_after : (between : List ℕ) → Option (List ℕ) → Line
+value_after between None = []
+value_after between (Some word) = words between ∷ value_piece word ∷ []
 
 -- a blank stands after a short name, and `=` after a long one
 abbrev pub short_line : ℕ → (value : Option (List ℕ)) → Line
-short_line c word = short_piece c ∷ value_behind (codes " ") word
+short_line c word = short_piece c ∷ value_after (codes " ") word
 
 abbrev pub long_line : List ℕ → (value : Option (List ℕ)) → Line
-long_line name word = long_piece name ∷ value_behind (codes "=") word
+long_line name word = long_piece name ∷ value_after (codes "=") word

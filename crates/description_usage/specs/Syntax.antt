@@ -100,12 +100,12 @@ word_pieces text = map word_piece (stretches is_word_byte text)
 abbrev pub stretch_pieces : (before text : List ℕ) → Line
 stretch_pieces before text = if is_name before text || is_negated before text then literal text ∷ [] else word_pieces text
 
-abbrev pub pieces_behind : (before : List ℕ) → List (List ℕ) → Line
-pieces_behind before [] = []
-pieces_behind before (text ∷ texts) = stretch_pieces before text ++ pieces_behind (before ++ text) texts
+abbrev pub pieces_after : (before : List ℕ) → List (List ℕ) → Line
+pieces_after before [] = []
+pieces_after before (text ∷ texts) = stretch_pieces before text ++ pieces_after (before ++ text) texts
 
 abbrev pub syntax_line : List ℕ → Line
-syntax_line text = pieces_behind [] (stretches is_separator text)
+syntax_line text = pieces_after [] (stretches is_separator text)
 
 -- ---- the parts that commas separate
 
@@ -119,12 +119,12 @@ onto_parts true b ps = [] ∷ ps
 onto_parts false b ps = onto_first b ps
 
 -- the parts that the bytes `mark` outside brackets separate
-abbrev pub parts_behind : (mark : ℕ) → (before : List ℕ) → List ℕ → List (List ℕ)
-parts_behind mark before [] = [] ∷ []
-parts_behind mark before (b ∷ bs) = onto_parts (b == mark && is_outside before) b (parts_behind mark (before ++ b ∷ []) bs)
+abbrev pub parts_after : (mark : ℕ) → (before : List ℕ) → List ℕ → List (List ℕ)
+parts_after mark before [] = [] ∷ []
+parts_after mark before (b ∷ bs) = onto_parts (b == mark && is_outside before) b (parts_after mark (before ++ b ∷ []) bs)
 
 abbrev pub parts : (mark : ℕ) → List ℕ → List (List ℕ)
-parts mark = parts_behind mark []
+parts mark = parts_after mark []
 
 -- the parts that the commas outside brackets separate, without the blanks at their ends, and without newlines, which no
 -- description gives
@@ -141,12 +141,12 @@ syntax_terms text = map syntax_line (ways text)
 abbrev pub stretch_names : (before text : List ℕ) → List (List ℕ)
 stretch_names before text = if is_outside before && (is_name before text || is_negated before text) then text ∷ [] else []
 
-abbrev pub names_behind : (before : List ℕ) → List (List ℕ) → List (List ℕ)
-names_behind before [] = []
-names_behind before (text ∷ texts) = stretch_names before text ++ names_behind (before ++ text) texts
+abbrev pub names_after : (before : List ℕ) → List (List ℕ) → List (List ℕ)
+names_after before [] = []
+names_after before (text ∷ texts) = stretch_names before text ++ names_after (before ++ text) texts
 
 abbrev pub syntax_names : List ℕ → List (List ℕ)
-syntax_names text = names_behind [] (stretches is_separator text)
+syntax_names text = names_after [] (stretches is_separator text)
 
 -- the first
 abbrev pub first_name : List ℕ → Option (List ℕ)

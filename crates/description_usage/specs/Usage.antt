@@ -90,15 +90,15 @@ plain_item p = if p.required then repeated_value p else in_square p.repeated (va
 abbrev pub positional_item : (before : List PositionalSaid) → PositionalSaid → Line
 positional_item before p = if p.strict && not (list_any (λ q. q.strict) before) then strict_item p else plain_item p
 
-abbrev pub positionals_behind : (before : List PositionalSaid) → List PositionalSaid → List Line
-positionals_behind before [] = []
-positionals_behind before (p ∷ ps) = positional_item before p ∷ positionals_behind (before ++ p ∷ []) ps
+abbrev pub positionals_after : (before : List PositionalSaid) → List PositionalSaid → List Line
+positionals_after before [] = []
+positionals_after before (p ∷ ps) = positional_item before p ∷ positionals_after (before ++ p ∷ []) ps
 
 abbrev pub shown_positionals : List PositionalSaid → List PositionalSaid
 shown_positionals = filter (λ p. not p.hidden)
 
 abbrev pub positional_items : List PositionalSaid → List Line
-positional_items ps = positionals_behind [] (shown_positionals ps)
+positional_items ps = positionals_after [] (shown_positionals ps)
 
 -- ---- groups and commands
 

@@ -4,7 +4,7 @@ ghost use Rattle.std.specs.Option.{option_map};
 ghost use Rattle.page_model.specs.Content.{literal, paragraph, words};
 ghost use Rattle.page_model.specs.View.{block_of, entry_of, line_of, target_of};
 ghost use Rattle.description.specs.View.{name_said, command_said, opt_said, positional_said};
-ghost use Rattle.description_usage.specs.Entries.{alias_notes, behind_lines, body, command_entry, command_terms};
+ghost use Rattle.description_usage.specs.Entries.{alias_notes, after_lines, body, command_entry, command_terms};
 ghost use Rattle.description_usage.specs.Entries.{initial_terms, named_entry, named_terms, named_word, note, noted, noted_body};
 ghost use Rattle.description_usage.specs.Entries.{option_entry, option_notes, option_terms, option_word, positional_entry};
 ghost use Rattle.description_usage.specs.Entries.{positional_notes, positional_terms};
@@ -204,12 +204,12 @@ fn push_aliases<'a, A: Allocator + Copy>(
 // ---- bodies
 
 // Notes after the last line of a paragraph.
-fn push_behind<'a, A: Allocator + Copy>(
+fn push_after<'a, A: Allocator + Copy>(
     lines: &mut Vec<Line<'a, A>, A>,
     notes: Line<'a, A>,
 ) -> Result<(), AllocError>
     ensures { OnOk result (map (λ line. line_of line.items) lines.new.items
-        ≡ behind_lines (line_of notes.entry.items) (map (λ line. line_of line.items) lines.old.items)) }
+        ≡ after_lines (line_of notes.entry.items) (map (λ line. line_of line.items) lines.old.items)) }
 {
     let Some(mut last) = lines.pop() else {
         lines.push(notes)?;
@@ -244,7 +244,7 @@ fn noted_block<'a, A: Allocator + Copy>(
 {
     match block {
         Block::Paragraph(mut lines) => {
-            push_behind(&mut lines, notes)?;
+            push_after(&mut lines, notes)?;
             one(alloc, Block::Paragraph(lines))
         }
         other => {

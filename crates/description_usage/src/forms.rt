@@ -3,7 +3,7 @@ ghost use Rattle.std.specs.Prelude.{◌≡◌, ◌++◌, ◌∷◌, ◌==◌, []
 ghost use Rattle.std.specs.List.{list_any, slice_split};
 ghost use Rattle.std.specs.Option.{option_map};
 ghost use Rattle.page_model.specs.View.{form_of, line_of, piece_of};
-ghost use Rattle.description_usage.specs.Forms.{behind_colon, behind_word, blank_for_tab, form_text, line_form};
+ghost use Rattle.description_usage.specs.Forms.{after_colon, after_word, blank_for_tab, form_text, line_form};
 ghost use Rattle.description_usage.specs.Forms.{text_forms, untabbed, usage_forms, without_lead};
 ghost use Rattle.description.specs.View.{level_said};
 ghost use Rattle.description.specs.Words.{words_said};
@@ -144,9 +144,9 @@ fn line_parts<'a, A: Allocator>(alloc: A, line: &'a str) -> Result<Vec<&'a str, 
 {
     let mut parts = Vec::new(alloc);
     let mut rest = line;
-    while let Some((part, behind)) = split_part(rest, b' ') {
+    while let Some((part, after)) = split_part(rest, b' ') {
         push_part(&mut parts, part)?;
-        rest = behind;
+        rest = after;
     }
     push_part(&mut parts, rest)?;
     Ok(parts)
@@ -203,8 +203,8 @@ fn untabbed<'p, A: Allocator>(arena: &'p Bump<A>, text: &str) -> Result<&'p str,
     arena.try_alloc_str(whole.as_str())
 }
 
-fn behind_colon(text: &str) -> Option<&str>
-    ensures { option_map (λ rest. rest.now) result ≡ behind_colon text.now }
+fn after_colon(text: &str) -> Option<&str>
+    ensures { option_map (λ rest. rest.now) result ≡ after_colon text.now }
 {
     match text.as_bytes() {
         [b':'] | [b':', b' ', ..] => Some(without_front(&text[1..])),
@@ -212,8 +212,8 @@ fn behind_colon(text: &str) -> Option<&str>
     }
 }
 
-fn behind_word<'a>(line: &'a str, word: &str) -> Option<&'a str>
-    ensures { option_map (λ rest. rest.now) result ≡ behind_word word.now line.now }
+fn after_word<'a>(line: &'a str, word: &str) -> Option<&'a str>
+    ensures { option_map (λ rest. rest.now) result ≡ after_word word.now line.now }
 {
     line.strip_prefix(word)
 }
@@ -222,9 +222,9 @@ fn behind_word<'a>(line: &'a str, word: &str) -> Option<&'a str>
 fn without_lead<'a>(line: &'a str, word: &str) -> &'a str
     ensures { result.now ≡ without_lead word.now line.now }
 {
-    match behind_word(line, word) {
+    match after_word(line, word) {
         None => line,
-        Some(rest) => behind_colon(rest).unwrap_or(line),
+        Some(rest) => after_colon(rest).unwrap_or(line),
     }
 }
 

@@ -1,7 +1,7 @@
 //! Brackets in no pair, which count as letters.
 ghost use Rattle.std.specs.Prelude.{◌≡◌, ◌∷◌, ◌<◌, ◌+◌, [], length, reverse, string_bytes, IfOk, OnOk};
 ghost use Rattle.std.specs.List.{slice_index};
-ghost use Rattle.description_usage.specs.Forms.{closes, depths, open_behind, shaped, stand_in};
+ghost use Rattle.description_usage.specs.Forms.{closes, depths, open_after, shaped, stand_in};
 ghost use Rattle.description_usage.specs.Depths.{shaped_byte};
 ghost use Rattle.description_usage.specs.Syntax.{begins};
 
@@ -31,7 +31,7 @@ fn closes_last(opened: &[u8], byte: u8) -> bool
 
 // Goes over a byte: the brackets that are open are left, the innermost last.
 fn step<A: Allocator>(opened: &mut Vec<u8, A>, byte: u8) -> Result<(), AllocError>
-    ensures { OnOk result (reverse opened.new.items ≡ open_behind (reverse opened.old.items) byte) }
+    ensures { OnOk result (reverse opened.new.items ≡ open_after (reverse opened.old.items) byte) }
 {
     if is_opening(byte) {
         opened.push(byte)?;
@@ -56,13 +56,13 @@ fn levels<A: Allocator + Copy>(alloc: A, bytes: &[u8]) -> Result<Vec<usize, A>, 
 }
 
 // What stands for a byte, where that many brackets are open before it and after it, and the fewest after a later one.
-fn shaped_byte(byte: u8, before: usize, behind: usize, lowest: usize) -> u8
-    ensures { result ≡ shaped_byte byte before behind lowest }
+fn shaped_byte(byte: u8, before: usize, after: usize, lowest: usize) -> u8
+    ensures { result ≡ shaped_byte byte before after lowest }
 {
     let is_lone = if is_opening(byte) {
         before < lowest
     } else {
-        is_closing(byte) && behind == before
+        is_closing(byte) && after == before
     };
     if is_lone { stand_in(byte) } else { byte }
 }
@@ -96,9 +96,9 @@ fn shaped_bytes<A: Allocator>(
     let mut at = bytes.len();
     while at > 0 {
         at -= 1;
-        let behind = levels[at + 1];
-        out.push(shaped_byte(bytes[at], levels[at], behind, lowest))?;
-        lowest = lowest.min(behind);
+        let after = levels[at + 1];
+        out.push(shaped_byte(bytes[at], levels[at], after, lowest))?;
+        lowest = lowest.min(after);
     }
     out.as_mut_slice().reverse();
     Ok(out)

@@ -4,7 +4,7 @@ ghost use Rattle.std.specs.List.{list_all};
 ghost use Rattle.std.specs.Option.{option_map};
 ghost use Rattle.page_model.specs.View.{line_of, piece_of};
 ghost use Rattle.description_usage.specs.Names.{is_bare, is_bare_byte, is_bare_character, long_line, long_piece};
-ghost use Rattle.description_usage.specs.Names.{short_line, short_piece, shown_value, value_behind, value_piece};
+ghost use Rattle.description_usage.specs.Names.{short_line, short_piece, shown_value, value_after, value_piece};
 
 use bumpalo::Bump;
 use page_model::{Inline, Line};
@@ -118,7 +118,7 @@ fn push_value<'p, A: Allocator>(
     value: Option<&'p str>,
 ) -> Result<(), AllocError>
     ensures { OnOk result (line_of line.new.items
-        ≡ line_of line.old.items ++ value_behind between.now (option_map (λ word. word.now) value.entry)) }
+        ≡ line_of line.old.items ++ value_after between.now (option_map (λ word. word.now) value.entry)) }
 {
     let Some(word) = value else {
         return Ok(());

@@ -178,9 +178,9 @@ pub fn push_syntax<'a, A: Allocator>(
     ensures { OnOk result (line_of line.new.items ≡ line_of line.old.items ++ syntax_line text.now) }
 {
     let mut rest = text;
-    while let Some((stretch, behind)) = first_stretch(rest, Class::Separator) {
+    while let Some((stretch, after)) = first_stretch(rest, Class::Separator) {
         push_stretch(line, before(text, rest), stretch)?;
-        rest = behind;
+        rest = after;
     }
     Ok(())
 }
@@ -205,9 +205,9 @@ fn push_words<'a, A: Allocator>(line: &mut Line<'a, A>, text: &'a str) -> Result
     ensures { OnOk result (line_of line.new.items ≡ line_of line.old.items ++ word_pieces text.now) }
 {
     let mut rest = text;
-    while let Some((word, behind)) = first_stretch(rest, Class::Word) {
+    while let Some((word, after)) = first_stretch(rest, Class::Word) {
         line.push(word_piece(word))?;
-        rest = behind;
+        rest = after;
     }
     Ok(())
 }
@@ -315,9 +315,9 @@ pub fn syntax_terms<'a, A: Allocator + Copy>(
 {
     let mut terms = Vec::new(alloc);
     let mut rest = text;
-    while let Some((way, behind)) = split_part(rest, b',') {
+    while let Some((way, after)) = split_part(rest, b',') {
         terms.push(syntax_term(alloc, without_margins(way))?)?;
-        rest = behind;
+        rest = after;
     }
     terms.push(syntax_term(alloc, without_margins(rest))?)?;
     Ok(terms)
@@ -348,14 +348,14 @@ fn first_name(text: &str) -> Option<&str>
     let mut rest = text;
     let mut opened = 0;
     let mut closed = 0;
-    while let Some((stretch, behind)) = first_stretch(rest, Class::Separator) {
+    while let Some((stretch, after)) = first_stretch(rest, Class::Separator) {
         let is_outside = opened == closed;
         if is_outer_name(is_outside, before(text, rest), stretch.as_bytes()) {
             return Some(stretch);
         }
         opened += count(stretch.as_bytes(), Class::Opening);
         closed += count(stretch.as_bytes(), Class::Closing);
-        rest = behind;
+        rest = after;
     }
     None
 }
@@ -396,12 +396,12 @@ fn longer_way(text: &str) -> Option<&str>
     ensures { option_map (λ way. way.now) result ≡ find (λ way. not (is_one_name way)) (ways text.now) }
 {
     let mut rest = text;
-    while let Some((way, behind)) = split_part(rest, b',') {
+    while let Some((way, after)) = split_part(rest, b',') {
         let way = without_margins(way);
         if !is_one_name(way.as_bytes()) {
             return Some(way);
         }
-        rest = behind;
+        rest = after;
     }
     let last = without_margins(rest);
     if is_one_name(last.as_bytes()) {

@@ -11,7 +11,7 @@ ghost use Rattle.description_usage.specs.Usage.{called, called_name, choice_item
 ghost use Rattle.description_usage.specs.Usage.{enclosed, group_items, group_positionals, group_shows_command};
 ghost use Rattle.description_usage.specs.Usage.{is_barred, is_shown_command, level_positionals};
 ghost use Rattle.description_usage.specs.Usage.{level_shows_command, member_items, named_items, option_item};
-ghost use Rattle.description_usage.specs.Usage.{option_items, plain_item, positionals_behind, shown_options};
+ghost use Rattle.description_usage.specs.Usage.{option_items, plain_item, positionals_after, shown_options};
 ghost use Rattle.description_usage.specs.Usage.{shown_positionals, strict_item, strict_value, usage_items};
 ghost use Rattle.description.specs.Words.{words_said};
 
@@ -347,7 +347,7 @@ fn push_positional_items<'p, A: Allocator>(
 ) -> Result<(), AllocError>
     ensures { OnOk result (map (λ item. line_of item.items) items.new.items
         ≡ map (λ item. line_of item.items) items.old.items
-        ++ positionals_behind [] (map positional_said positionals.now)) }
+        ++ positionals_after [] (map positional_said positionals.now)) }
 {
     let mut has_strict = false;
     for positional in positionals {

@@ -14,7 +14,7 @@ use Rattle.html_page.specs.Events as events
 use Rattle.html_page.specs.Events.{Event, break_line, inside, inside_with_id, link_to, say, text_in}
 use Rattle.html_page.specs.Ids.{chapter_id}
 use Rattle.html_page.specs.Laws.{addresses_below, addresses_in, all_led_to, block_addresses, entry_addresses, led_to, led_to_below, line_addresses, part_addresses, piece_addresses, target_titles}
-use Rattle.html_page.specs.Page.{Before, behind, block_events, blocks_events, chapter_links, chapter_sections, chapters_links, chapters_sections, code_events, entries_events, entry_events, entry_words, footer_events, form_events, has_links, header_events, heading_behind, heading_link, heading_links, headings_of, id_behind, item_events, line_events, lines_events, listed_links, lone_section, lower_section, main_events, nav_events, nothing_before, own_section, own_term, page_events, part_events, parts_events, piece_events, term_events, terms_events, top_section, usage_events, usage_item, usage_piece}
+use Rattle.html_page.specs.Page.{Before, after, block_events, blocks_events, chapter_links, chapter_sections, chapters_links, chapters_sections, code_events, entries_events, entry_events, entry_words, footer_events, form_events, has_links, header_events, heading_after, heading_link, heading_links, headings_of, id_after, item_events, line_events, lines_events, listed_links, lone_section, lower_section, main_events, nav_events, nothing_before, own_section, own_term, page_events, part_events, parts_events, piece_events, term_events, terms_events, top_section, usage_events, usage_item, usage_piece}
 use Rattle.html_page.specs.View.{FrameSaid}
 use Rattle.html_page.proofs.Among.{Each, each_append, each_left, each_right}
 use Rattle.html_page.proofs.Attributes.{AreBalanced, event_values, given_in, opened, outer}
@@ -35,8 +35,8 @@ Quiet P = Carries P []
 -- ---- the ids of parts
 
 abbrev pub term_ids : (title : List ℕ) → (before : List (List ℕ)) → (word : List ℕ) → Option TargetSaid → List (List ℕ)
-term_ids title before word None = id_behind title before word ∷ []
-term_ids title before word (Some (to_page name)) = id_behind title before word ∷ []
+term_ids title before word None = id_after title before word ∷ []
+term_ids title before word (Some (to_page name)) = id_after title before word ∷ []
 term_ids title before word (Some (to_heading other)) = []
 
 abbrev pub entry_ids : (title : List ℕ) → (before : List (List ℕ)) → EntrySaid → List (List ℕ)
@@ -47,18 +47,18 @@ entries_ids title before [] = []
 entries_ids title before (e ∷ es) = entry_ids title before e ++ entries_ids title (before ++ entry_words e) es
 
 abbrev pub part_ids : (title : List ℕ) → Before → PartSaid → List (List ℕ)
-part_ids title before (heading rank text) = heading_behind title before.headings text ∷ []
+part_ids title before (heading rank text) = heading_after title before.headings text ∷ []
 part_ids title before (usage forms) = []
 part_ids title before (block shown) = []
 part_ids title before (entries listed) = entries_ids title before.words listed
 
 abbrev pub parts_ids : (title : List ℕ) → Before → List PartSaid → List (List ℕ)
 parts_ids title before [] = []
-parts_ids title before (part ∷ parts) = part_ids title before part ++ parts_ids title (behind before part) parts
+parts_ids title before (part ∷ parts) = part_ids title before part ++ parts_ids title (after before part) parts
 
 abbrev pub headings_ids : (title : List ℕ) → (before texts : List (List ℕ)) → List (List ℕ)
 headings_ids title before [] = []
-headings_ids title before (text ∷ texts) = heading_behind title before text ∷ headings_ids title (before ++ text ∷ []) texts
+headings_ids title before (text ∷ texts) = heading_after title before text ∷ headings_ids title (before ++ text ∷ []) texts
 
 abbrev pub section_ids : (title : List ℕ) → List PartSaid → List (List ℕ)
 section_ids title parts = chapter_id title ∷ parts_ids title nothing_before parts
@@ -208,8 +208,8 @@ module _ (P : List ℕ → Type 0) where
 
   term_gives : (title : List ℕ) (before : List (List ℕ)) (word : List ℕ) (target : Option TargetSaid) (terms : List Line) → Each P (flat_map line_addresses terms) → Each (λ id. P (place id)) (term_ids title before word target)
       → Each (λ t. P (place (chapter_id t))) (target_titles target) → Carries P (term_ids title before word target) (term_events title before word target terms)
-  term_gives title before word None terms h own led = own_term_gives (id_behind title before word) terms own.0 h
-  term_gives title before word (Some (to_page name)) terms h own led = own_term_gives (id_behind title before word) terms own.0 h
+  term_gives title before word None terms h own led = own_term_gives (id_after title before word) terms own.0 h
+  term_gives title before word (Some (to_page name)) terms h own led = own_term_gives (id_after title before word) terms own.0 h
   term_gives title before word (Some (to_heading other)) terms h own led =
       in_element Dt (link_to (chapter_id other) (terms_events terms)) (linked (place (chapter_id other)) (terms_events terms) led.0 (terms_give terms h))
 
@@ -239,7 +239,7 @@ module _ (P : List ℕ → Type 0) where
 
   part_gives : (frame : FrameSaid) (title : List ℕ) (before : Before) (part : PartSaid) → Each P (part_addresses part) → Each (λ id. P (place id)) (part_ids title before part) → Each (λ t. P (place (chapter_id t))) (led_to part)
       → Carries P (part_ids title before part) (part_events frame title before part)
-  part_gives frame title before (heading rank text) h own led = with_id (Heading Three) (heading_behind title before.headings text) (say text ∷ []) (one_say text)
+  part_gives frame title before (heading rank text) h own led = with_id (Heading Three) (heading_after title before.headings text) (say text ∷ []) (one_say text)
   part_gives frame title before (usage forms) h own led = usage_gives frame.usage forms
   part_gives frame title before (block shown) h own led = block_gives shown h
   part_gives frame title before (entries listed) h own led = in_element Dl (entries_events title before.words listed) (entries_give title before.words listed h own led)
@@ -248,7 +248,7 @@ module _ (P : List ℕ → Type 0) where
       → Carries P (parts_ids title before parts) (parts_events frame title before parts)
   parts_give frame title before [] h own led = nothing
   parts_give frame title before (part ∷ parts) h own led =
-      let rest : Before = behind before part in
+      let rest : Before = after before part in
       two (part_events frame title before part) (parts_events frame title rest parts)
       (part_gives frame title before part (each_left P (part_addresses part) (flat_map part_addresses parts) h) (each_left (λ id. P (place id)) (part_ids title before part) (parts_ids title rest parts) own)
       (each_left (λ t. P (place (chapter_id t))) (led_to part) (flat_map led_to parts) led))
@@ -281,12 +281,12 @@ module _ (P : List ℕ → Type 0) where
     chapter_gives frame (chapter title name about parts below) h own led =
         let abouts : List (List ℕ) = flat_map block_addresses about in
         let partly : List (List ℕ) = flat_map part_addresses parts in
-        let behind : Each P (partly ++ addresses_below below) = each_right P abouts (partly ++ addresses_below below) h in
+        let after : Each P (partly ++ addresses_below below) = each_right P abouts (partly ++ addresses_below below) h in
         two (lower_section frame title about parts) (chapters_sections frame below)
         (lower_gives frame title about parts (blocks_give about (each_left P abouts (partly ++ addresses_below below) h))
-        (parts_give frame title nothing_before parts (each_left P partly (addresses_below below) behind) (each_left (λ id. P (place id)) (section_ids title parts) (chapters_ids below) own).1
+        (parts_give frame title nothing_before parts (each_left P partly (addresses_below below) after) (each_left (λ id. P (place id)) (section_ids title parts) (chapters_ids below) own).1
         (each_left (λ t. P (place (chapter_id t))) (flat_map led_to parts) (led_to_below below) led)))
-        (chapters_give frame below (each_right P partly (addresses_below below) behind) (each_right (λ id. P (place id)) (section_ids title parts) (chapters_ids below) own)
+        (chapters_give frame below (each_right P partly (addresses_below below) after) (each_right (λ id. P (place id)) (section_ids title parts) (chapters_ids below) own)
         (each_right (λ t. P (place (chapter_id t))) (flat_map led_to parts) (led_to_below below) led))
 
     chapters_give : (frame : FrameSaid) (cs : ChaptersSaid) → Each P (addresses_below cs) → Each (λ id. P (place id)) (chapters_ids cs) → Each (λ t. P (place (chapter_id t))) (led_to_below cs) → Carries P (chapters_ids cs) (chapters_sections frame cs)
@@ -303,18 +303,18 @@ module _ (P : List ℕ → Type 0) where
   heading_links_give : (title : List ℕ) (before : List (List ℕ)) (texts : List (List ℕ)) → Each (λ id. P (place id)) (headings_ids title before texts) → Quiet P (heading_links title before texts)
   heading_links_give title before [] own = nothing
   heading_links_give title before (text ∷ texts) own =
-      let id : List ℕ = heading_behind title before text in
+      let id : List ℕ = heading_after title before text in
       two (heading_link title before text) (heading_links title (before ++ text ∷ []) texts) (in_element Li (link_to id (say text ∷ [])) (linked (place id) (say text ∷ []) own.0 (one_say text)))
       (heading_links_give title (before ++ text ∷ []) texts own.1)
 
   -- the ids of headings are among those of parts
   headings_there : (title : List ℕ) (before : Before) (parts : List PartSaid) → Each (λ id. P (place id)) (parts_ids title before parts) → Each (λ id. P (place id)) (headings_ids title before.headings (flat_map headings_of parts))
   headings_there title before [] own = tt
-  headings_there title before (heading rank text ∷ parts) own = (own.0, headings_there title (behind before (heading rank text)) parts own.1)
+  headings_there title before (heading rank text ∷ parts) own = (own.0, headings_there title (after before (heading rank text)) parts own.1)
   headings_there title before (usage forms ∷ parts) own = headings_there title before parts own
   headings_there title before (block shown ∷ parts) own = headings_there title before parts own
   headings_there title before (entries listed ∷ parts) own =
-      headings_there title (behind before (entries listed)) parts (each_right (λ id. P (place id)) (entries_ids title before.words listed) (parts_ids title (behind before (entries listed)) parts) own)
+      headings_there title (after before (entries listed)) parts (each_right (λ id. P (place id)) (entries_ids title before.words listed) (parts_ids title (after before (entries listed)) parts) own)
 
   listed_give : (b : Bool) (es : List Event) → Quiet P es → Quiet P (listed_links b es)
   listed_give true es p = in_element Ul es p
@@ -360,16 +360,16 @@ module _ (P : List ℕ → Type 0) where
       let top : ChapterSaid = chapter title name about parts below in
       let abouts : List (List ℕ) = flat_map block_addresses about in
       let partly : List (List ℕ) = flat_map part_addresses parts in
-      let behind : Each P (partly ++ addresses_below below) = each_right P abouts (partly ++ addresses_below below) h in
+      let after : Each P (partly ++ addresses_below below) = each_right P abouts (partly ++ addresses_below below) h in
       let header : Quiet P (header_events top) =
       in_element Header (text_in (Heading One) title ++ blocks_events about) (two (text_in (Heading One) title) (blocks_events about) (one_text (Heading One) title) (blocks_give about (each_left P abouts (partly ++ addresses_below below) h))) in
       let main : Carries P (chapter_ids top) (main_events frame top) =
       in_element Main (top_section frame title parts below ++ chapters_sections frame below)
       (two (top_section frame title parts below) (chapters_sections frame below)
       (top_gives frame title parts below
-      (parts_give frame title nothing_before parts (each_left P partly (addresses_below below) behind) (each_left (λ id. P (place id)) (section_ids title parts) (chapters_ids below) own).1
+      (parts_give frame title nothing_before parts (each_left P partly (addresses_below below) after) (each_left (λ id. P (place id)) (section_ids title parts) (chapters_ids below) own).1
       (each_left (λ t. P (place (chapter_id t))) (flat_map led_to parts) (led_to_below below) led)))
-      (chapters_give frame below (each_right P partly (addresses_below below) behind) (each_right (λ id. P (place id)) (section_ids title parts) (chapters_ids below) own)
+      (chapters_give frame below (each_right P partly (addresses_below below) after) (each_right (λ id. P (place id)) (section_ids title parts) (chapters_ids below) own)
       (each_right (λ t. P (place (chapter_id t))) (flat_map led_to parts) (led_to_below below) led))) in
       same (append-nil (chapter_ids top))
       (two (header_events top) (nav_events frame top ++ (main_events frame top ++ footer_events frame.foot)) header

@@ -127,11 +127,11 @@ no_more y b [] u h k e = elim (blank_or_not y) [
 no_more y b (c ∷ []) u h k e = k
 no_more y b (c ∷ d ∷ ts) u h k e = elim (blank_or_not y) [
   | inr p ↦ no_colon_first y (chapter_id b ++ u) (d ∷ ts) (sym (ap (λ bs. bs ++ (chapter_id b ++ u)) p.1) ∙ sym e ∙ ap (λ a. a ∷ d ∷ ts) k.0)
-  | inl p ↦ let rest : d ∷ ts ≡ chapter_id b ++ u = (let both : c ∷ (d ∷ ts) ≡ 58 ∷ (chapter_id b ++ u) = e ∙ ap (λ bs. bs ++ (chapter_id b ++ u)) p.1 in cc) in behind_blank b p.0 h rest
+  | inl p ↦ let rest : d ∷ ts ≡ chapter_id b ++ u = (let both : c ∷ (d ∷ ts) ≡ 58 ∷ (chapter_id b ++ u) = e ∙ ap (λ bs. bs ++ (chapter_id b ++ u)) p.1 in cc) in after_blank b p.0 h rest
 ] where
-  behind_blank : (b : List ℕ) → y ≡ 32 → is_parted (y ∷ b) ≡ true → d ∷ ts ≡ chapter_id b ++ u → ⊥
-  behind_blank [] f h r = no_blank_last y f h
-  behind_blank (z ∷ b) f h r = elim (blank_or_not z) [
+  after_blank : (b : List ℕ) → y ≡ 32 → is_parted (y ∷ b) ≡ true → d ∷ ts ≡ chapter_id b ++ u → ⊥
+  after_blank [] f h r = no_blank_last y f h
+  after_blank (z ∷ b) f h r = elim (blank_or_not z) [
     | inl q ↦ no_two_blanks y z b f q.0 h
     | inr q ↦ no_colon_first z (chapter_id b ++ u) ts (sym (append_assoc (id_byte z) (chapter_id b) u) ∙ sym (ap (λ bs. (bs ++ chapter_id b) ++ u) q.1) ∙ sym r ∙ ap (λ a. a ∷ ts) k.1)
   ]

@@ -7,7 +7,7 @@ use Rattle.std.proofs.lemmas.Slice.Eq.{bytes_eq-Decides}
 use Rattle.page_model.specs.Content.{TargetSaid, to_page, to_heading, EntrySaid, PartSaid, heading, usage, block, entries, ChapterSaid, chapter, ChaptersSaid, no_chapters, chapters}
 use Rattle.html_page.specs.Ids.{chapter_id, times}
 use Rattle.html_page.specs.Laws.{IdsAreDistinct, addresses_in, all_led_to, ids_in, is_parted, titles_below, titles_in}
-use Rattle.html_page.specs.Page.{Before, behind, entry_words, id_behind, word_with_id}
+use Rattle.html_page.specs.Page.{Before, after, entry_words, id_after, word_with_id}
 use Rattle.html_page.specs.Promises.{page_tree}
 use Rattle.html_page.specs.View.{FrameSaid}
 use Rattle.html_page.proofs.Among.{Among, Each, among_either, each_among, each_from, each_mapped, each_weaker}
@@ -104,7 +104,7 @@ abbrev before_in : List Named → Before
 before_in ns = record { words = words_in ns; headings = headings_in ns }
 
 module _ (title : List ℕ) where
-  word_named : (before : List Named) (w : List ℕ) → id_behind title (words_in before) w ∷ [] ≡ map (id_of title) (counted before (of_word w ∷ []))
+  word_named : (before : List Named) (w : List ℕ) → id_after title (words_in before) w ∷ [] ≡ map (id_of title) (counted before (of_word w ∷ []))
   word_named before w = ap (λ id. id ∷ []) (entry_numbered title w (times w (words_in before)) ∙ ap (λ k. chapter_id title ++ word_tail w k) (times_words w before 0))
 
   target_named : (before : List Named) (word : List ℕ) (target : Option TargetSaid) → term_ids title (words_in before) word target ≡ map (id_of title) (counted before (map of_word (word_with_id word target)))
@@ -112,13 +112,13 @@ module _ (title : List ℕ) where
   target_named before word (Some (to_page name)) = word_named before word
   target_named before word (Some (to_heading other)) = refl
 
-  words_behind : (before : List Named) (e : EntrySaid) → words_in before ++ entry_words e ≡ words_in (before ++ entry_named e)
-  words_behind before e = sym (words_append before (entry_named e) ∙ ap (λ ws. words_in before ++ ws) (mapped_words (entry_words e)))
+  words_after : (before : List Named) (e : EntrySaid) → words_in before ++ entry_words e ≡ words_in (before ++ entry_named e)
+  words_after before e = sym (words_append before (entry_named e) ∙ ap (λ ws. words_in before ++ ws) (mapped_words (entry_words e)))
 
   entries_counted : (before : List Named) (es : List EntrySaid) → entries_ids title (words_in before) es ≡ map (id_of title) (counted before (flat_map entry_named es))
   entries_counted before [] = refl
   entries_counted before (e ∷ es) =
-      ap₂ (λ xs ys. xs ++ ys) (target_named before e.word e.target) (ap (λ ws. entries_ids title ws es) (words_behind before e) ∙ entries_counted (before ++ entry_named e) es)
+      ap₂ (λ xs ys. xs ++ ys) (target_named before e.word e.target) (ap (λ ws. entries_ids title ws es) (words_after before e) ∙ entries_counted (before ++ entry_named e) es)
       ∙ sym (map-append (id_of title) (counted before (entry_named e)) (counted (before ++ entry_named e) (flat_map entry_named es)))
       ∙ sym (ap (map (id_of title)) (counted_append before (entry_named e) (flat_map entry_named es)))
 
@@ -140,18 +140,18 @@ module _ (title : List ℕ) where
   both_in before ns ws hs e f =
       ap₂ (λ ws hs. record { words = ws; headings = hs }) (sym (words_append before ns ∙ ap (λ vs. words_in before ++ vs) e)) (sym (headings_append before ns ∙ ap (λ vs. headings_in before ++ vs) f))
 
-  part_behind : (before : List Named) (part : PartSaid) → behind (before_in before) part ≡ before_in (before ++ part_named part)
-  part_behind before (heading rank text) = ap (λ ws. record { words = ws; headings = headings_in before ++ text ∷ [] }) (sym (append-nil (words_in before))) ∙ both_in before (of_heading text ∷ []) [] (text ∷ []) refl refl
-  part_behind before (usage forms) = ap before_in (sym (append-nil before))
-  part_behind before (block shown) = ap before_in (sym (append-nil before))
-  part_behind before (entries listed) =
+  part_after : (before : List Named) (part : PartSaid) → after (before_in before) part ≡ before_in (before ++ part_named part)
+  part_after before (heading rank text) = ap (λ ws. record { words = ws; headings = headings_in before ++ text ∷ [] }) (sym (append-nil (words_in before))) ∙ both_in before (of_heading text ∷ []) [] (text ∷ []) refl refl
+  part_after before (usage forms) = ap before_in (sym (append-nil before))
+  part_after before (block shown) = ap before_in (sym (append-nil before))
+  part_after before (entries listed) =
       ap (λ hs. record { words = words_in before ++ flat_map entry_words listed; headings = hs }) (sym (append-nil (headings_in before)))
       ∙ both_in before (flat_map entry_named listed) (flat_map entry_words listed) [] (listed_words listed) (listed_headings listed)
 
   parts_counted : (before : List Named) (parts : List PartSaid) → parts_ids title (before_in before) parts ≡ map (id_of title) (counted before (flat_map part_named parts))
   parts_counted before [] = refl
   parts_counted before (part ∷ parts) =
-      ap₂ (λ xs ys. xs ++ ys) (part_counted before part) (ap (λ b. parts_ids title b parts) (part_behind before part) ∙ parts_counted (before ++ part_named part) parts)
+      ap₂ (λ xs ys. xs ++ ys) (part_counted before part) (ap (λ b. parts_ids title b parts) (part_after before part) ∙ parts_counted (before ++ part_named part) parts)
       ∙ sym (map-append (id_of title) (counted before (part_named part)) (counted (before ++ part_named part) (flat_map part_named parts)))
       ∙ sym (ap (map (id_of title)) (counted_append before (part_named part) (flat_map part_named parts)))
 

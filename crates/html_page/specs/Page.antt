@@ -88,12 +88,12 @@ abbrev pub leading_term : (title : List ℕ) → List Line → List Event
 leading_term title terms = inside Dt (link_to (chapter_id title) (terms_events terms))
 
 -- after the entries before it, in the chapter of this title
-abbrev pub id_behind : (title : List ℕ) → (before : List (List ℕ)) → (word : List ℕ) → List ℕ
-id_behind title before word = numbered (entry_id title word) (times word before)
+abbrev pub id_after : (title : List ℕ) → (before : List (List ℕ)) → (word : List ℕ) → List ℕ
+id_after title before word = numbered (entry_id title word) (times word before)
 
 abbrev pub term_events : (title : List ℕ) → (before : List (List ℕ)) → (word : List ℕ) → Option TargetSaid → List Line → List Event
-term_events title before word None terms = own_term (id_behind title before word) terms
-term_events title before word (Some (to_page name)) terms = own_term (id_behind title before word) terms
+term_events title before word None terms = own_term (id_after title before word) terms
+term_events title before word (Some (to_page name)) terms = own_term (id_after title before word) terms
 term_events title before word (Some (to_heading other)) terms = leading_term other terms
 
 -- the word of an entry that has an id
@@ -114,25 +114,25 @@ entries_events title before (e ∷ es) = entry_events title before e ++ entries_
 
 -- ---- the parts of a chapter
 
-abbrev pub heading_behind : (title : List ℕ) → (before : List (List ℕ)) → (heading : List ℕ) → List ℕ
-heading_behind title before text = numbered (heading_id title text) (times text before)
+abbrev pub heading_after : (title : List ℕ) → (before : List (List ℕ)) → (heading : List ℕ) → List ℕ
+heading_after title before text = numbered (heading_id title text) (times text before)
 
 -- a part after those before it
 abbrev pub part_events : FrameSaid → (title : List ℕ) → Before → PartSaid → List Event
-part_events frame title before (heading rank text) = inside_with_id (Heading Three) (heading_behind title before.headings text) (say text ∷ [])
+part_events frame title before (heading rank text) = inside_with_id (Heading Three) (heading_after title before.headings text) (say text ∷ [])
 part_events frame title before (usage forms) = usage_events frame.usage forms
 part_events frame title before (block shown) = block_events shown
 part_events frame title before (entries listed) = inside Dl (entries_events title before.words listed)
 
-abbrev pub behind : Before → PartSaid → Before
-behind before (heading rank text) = record before { headings = before.headings ++ text ∷ [] }
-behind before (usage forms) = before
-behind before (block shown) = before
-behind before (entries listed) = record before { words = before.words ++ flat_map entry_words listed }
+abbrev pub after : Before → PartSaid → Before
+after before (heading rank text) = record before { headings = before.headings ++ text ∷ [] }
+after before (usage forms) = before
+after before (block shown) = before
+after before (entries listed) = record before { words = before.words ++ flat_map entry_words listed }
 
 abbrev pub parts_events : FrameSaid → (title : List ℕ) → Before → List PartSaid → List Event
 parts_events frame title before [] = []
-parts_events frame title before (part ∷ parts) = part_events frame title before part ++ parts_events frame title (behind before part) parts
+parts_events frame title before (part ∷ parts) = part_events frame title before part ++ parts_events frame title (after before part) parts
 
 -- ---- sections
 
@@ -173,7 +173,7 @@ headings_of (block shown) = []
 headings_of (entries listed) = []
 
 abbrev pub heading_link : (title : List ℕ) → (before : List (List ℕ)) → (heading : List ℕ) → List Event
-heading_link title before text = inside Li (link_to (heading_behind title before text) (say text ∷ []))
+heading_link title before text = inside Li (link_to (heading_after title before text) (say text ∷ []))
 
 abbrev pub heading_links : (title : List ℕ) → (before headings : List (List ℕ)) → List Event
 heading_links title before [] = []

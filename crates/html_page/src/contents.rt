@@ -6,7 +6,7 @@ ghost use Rattle.std.specs.List.{list_any};
 ghost use Rattle.page_model.specs.View.{chapter_of, chapters_in, part_of};
 ghost use Rattle.html_page.specs.Events.{inside, link_to, say, text_in};
 ghost use Rattle.html_page.specs.Ids.{chapter_id};
-ghost use Rattle.html_page.specs.Page.{chapter_links, chapters_links, has_links, heading_behind, heading_link};
+ghost use Rattle.html_page.specs.Page.{chapter_links, chapters_links, has_links, heading_after, heading_link};
 ghost use Rattle.html_page.specs.Page.{heading_links, headings_of, is_heading, listed_links, nav_events};
 ghost use Rattle.html_page.specs.Steps.{Puts};
 ghost use Rattle.html_page.specs.Steps.View.{texts_of};

@@ -4,7 +4,7 @@
 ghost use Rattle.std.specs.Prelude.{◌≡◌, ◌++◌, flat_map, map, option_map, OnOk};
 ghost use Rattle.page_model.specs.View.{block_of, entry_of, line_of, part_of, target_of};
 ghost use Rattle.html_page.specs.Events.{inside, inside_with_id, link_to, say, text_in};
-ghost use Rattle.html_page.specs.Page.{entries_events, entry_events, entry_words, leading_term, own_term, id_behind};
+ghost use Rattle.html_page.specs.Page.{entries_events, entry_events, entry_words, leading_term, own_term, id_after};
 ghost use Rattle.html_page.specs.Page.{term_events, terms_events};
 ghost use Rattle.html_page.specs.Steps.{Puts};
 ghost use Rattle.html_page.specs.Steps.View.{texts_of};
@@ -65,7 +65,7 @@ fn put_counted_term<A: Allocator + Copy, B: Allocator>(
     before: &Counts<'_, A>,
     entry: &Entry<'_, B>,
 ) -> Result<(), PageError>
-    ensures { Puts page.old (own_term (id_behind title.now (texts_of before.now)
+    ensures { Puts page.old (own_term (id_after title.now (texts_of before.now)
         (entry_of entry.now).word) (entry_of entry.now).terms) page.new result }
 {
     let id = entry_id(alloc, title, entry.word, before.count(entry.word))?;

@@ -4,7 +4,7 @@
 ghost use Rattle.std.specs.Prelude.{◌≡◌, ◌++◌, ◌∷◌, [], flat_map, map, OnOk};
 ghost use Rattle.page_model.specs.View.{entry_of, form_of, part_of};
 ghost use Rattle.html_page.specs.Events.{inside, inside_with_id, say};
-ghost use Rattle.html_page.specs.Page.{behind, entries_events, entry_words, heading_behind, nothing_before};
+ghost use Rattle.html_page.specs.Page.{after, entries_events, entry_words, heading_after, nothing_before};
 ghost use Rattle.html_page.specs.Page.{part_events, parts_events};
 ghost use Rattle.html_page.specs.Steps.{Puts};
 ghost use Rattle.html_page.specs.Steps.View.{before_of, texts_of};
@@ -49,7 +49,7 @@ fn put_heading<'a, A: Allocator + Copy>(
     text: &'a str,
 ) -> Result<(), PageError>
     ensures put { Puts page.old (inside_with_id (Element.Heading Level.Three)
-        (heading_behind title.now (texts_of before.old) text.now) (say text.now ∷ [])) page.new result }
+        (heading_after title.now (texts_of before.old) text.now) (say text.now ∷ [])) page.new result }
     ensures counted { OnOk result (texts_of before.new ≡ texts_of before.old ++ text.now ∷ []) }
 {
     let id = heading_id(alloc, title, text, before.count(text))?;
@@ -85,7 +85,7 @@ fn put_part<'a, A: Allocator + Copy, B: Allocator>(
 ) -> Result<(), PageError>
     ensures put { Puts page.old (part_events (frame_of frame.now) title.now (before_of before.old)
         (part_of part.now)) page.new result }
-    ensures counted { OnOk result (before_of before.new ≡ behind (before_of before.old) (part_of part.now)) }
+    ensures counted { OnOk result (before_of before.new ≡ after (before_of before.old) (part_of part.now)) }
 {
     match part {
         Part::Heading(_, text) => put_heading(alloc, page, title, &mut before.headings, text),
@@ -97,7 +97,7 @@ fn put_part<'a, A: Allocator + Copy, B: Allocator>(
     }
 }
 
-fn put_parts_behind<'a, A: Allocator + Copy, B: Allocator>(
+fn put_parts_after<'a, A: Allocator + Copy, B: Allocator>(
     alloc: A,
     page: &mut Page<A>,
     frame: &Frame<'_>,
@@ -129,5 +129,5 @@ pub fn put_parts<A: Allocator + Copy, B: Allocator>(
         words: Counts::new(alloc),
         headings: Counts::new(alloc),
     };
-    put_parts_behind(alloc, page, frame, title, &mut before, parts)
+    put_parts_after(alloc, page, frame, title, &mut before, parts)
 }

@@ -205,7 +205,7 @@ def fault(text, path):
     if has(closed(text[:start], closers), path):
         return f"there before {start}"
     if not has(closed(text[:end], closers), path):
-        return f"not there behind {end}"
+        return f"not there after {end}"
     if closers.startswith("]") or (text[start] == "[" and not closers):
         return None
     parts, _ = key(text, start)

@@ -145,17 +145,17 @@ pair_turn text p other read =
     keyval_turn (val recursion_limit) text (e, p.1) is
 
 -- what stands where an entry was found
-pub element_stands : (e : Entry) (n : ℕ) (text rest : List ℕ) (d : Data) → e.from.now ≡ text → e.behind.now ≡ rest
+pub element_stands : (e : Entry) (n : ℕ) (text rest : List ℕ) (d : Data) → e.from.now ≡ text → e.following.now ≡ rest
     → string_bytes e.closing ≡ 93 ∷ [] → val n text ≡ Some (d, rest) → StandsInside e
-element_stands e n text rest d from behind closing is = (93, [], closing, inl (n, d, refl, rw (from, behind) is))
+element_stands e n text rest d from following closing is = (93, [], closing, inl (n, d, refl, rw (from, following) is))
 
-pub pair_stands : (e : Entry) (n : ℕ) (text rest : List ℕ) (x : Key × Data) → e.from.now ≡ text → e.behind.now ≡ rest
+pub pair_stands : (e : Entry) (n : ℕ) (text rest : List ℕ) (x : Key × Data) → e.from.now ≡ text → e.following.now ≡ rest
     → string_bytes e.closing ≡ 125 ∷ [] → keyval (val n) text ≡ Some (x, rest) → StandsInside e
-pair_stands e n text rest x from behind closing is = (125, [], closing, inr (n, x, refl, rw (from, behind) is))
+pair_stands e n text rest x from following closing is = (125, [], closing, inr (n, x, refl, rw (from, following) is))
 
-pub line_stands : (e : Entry) (text rest : List ℕ) (x : Expression) → e.from.now ≡ text → e.behind.now ≡ rest
+pub line_stands : (e : Entry) (text rest : List ℕ) (x : Expression) → e.from.now ≡ text → e.following.now ≡ rest
     → string_bytes e.closing ≡ [] → expression text ≡ Some (x, rest) → Stands e
-line_stands e text rest x from behind closing is = rw (closing, from, behind) (x, is)
+line_stands e text rest x from following closing is = rw (closing, from, following) (x, is)
 
 pub inside_stands : (e : Entry) → StandsInside e → Stands e
 inside_stands e (bracket, outer, is, reads) = rw is reads

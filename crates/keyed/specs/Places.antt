@@ -61,11 +61,11 @@ names_step (index_step n) closing text = first closing == right_bracket || is_ar
 pub record IsFront (text : List ℕ) (path : List Step) (front : List ℕ) : Type 0 where
   pub from : List ℕ
   pub through : List ℕ
-  pub behind : List ℕ
+  pub following : List ℕ
   pub closing : List ℕ
   pub begins : text ≡ front ++ from
-  pub ends : text ≡ through ++ behind
-  pub entry : ReadsEntry closing from behind
+  pub ends : text ≡ through ++ following
+  pub entry : ReadsEntry closing from following
   pub last : Step
   pub last_is : slice_get path (length path - 1) ≡ Some last
   pub named : names_step last closing from ≡ true

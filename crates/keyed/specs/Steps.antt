@@ -30,11 +30,11 @@ EndsDocument text = (n : ℕ) × (doc : Document) × (final : Document) × (line
 
 -- the entry stands there, and so in a bracket
 abbrev pub Stands : Entry → Type 0
-Stands e = ReadsEntry (string_bytes e.closing) e.from.now e.behind.now
+Stands e = ReadsEntry (string_bytes e.closing) e.from.now e.following.now
 
 abbrev pub StandsInside : Entry → Type 0
 StandsInside e = (bracket : ℕ) × (outer : List ℕ) × (string_bytes e.closing ≡ bracket ∷ outer)
-    × ReadsInside bracket e.from.now e.behind.now
+    × ReadsInside bracket e.from.now e.following.now
 
 -- the value of a pair is read, where the line is
 abbrev pub HasValue : List ℕ → Line → Type 0
@@ -43,8 +43,8 @@ HasValue text (Pair key value) = IsRead (expression text) → IsRead (val recurs
 
 -- a pair with this value stands there, and this follows it
 abbrev pub HasEntry : List ℕ → List ℕ → List ℕ → Type 0
-HasEntry text behind value = ((e : Expression) × (expression text ≡ Some (e, behind))) × IsRead (val recursion_limit value)
+HasEntry text following value = ((e : Expression) × (expression text ≡ Some (e, following))) × IsRead (val recursion_limit value)
 
 -- the line stands there, and this follows it
 abbrev pub HasLine : List ℕ → List ℕ → Line → Type 0
-HasLine text behind line = ((e : Expression) × (expression text ≡ Some (e, behind))) × HasValue text line
+HasLine text following line = ((e : Expression) × (expression text ≡ Some (e, following))) × HasValue text line

@@ -17,7 +17,7 @@ use toml_parser::{ErrorKind, Key, ParseError, RECURSION_LIMIT, dotted_key};
 #[derive(Drop)]
 pub struct Entry<'t> {
     pub from: &'t str,
-    pub behind: &'t str,
+    pub following: &'t str,
     pub closing: String,
 }
 
@@ -25,14 +25,14 @@ impl<'t> Entry<'t> {
     ghost use Rattle.std.specs.Prelude.{◌≡◌, ◌++◌, [], IfOk, string_bytes};
 
     /// An entry that stands in no bracket.
-    pub fn line(alloc: Global, from: &'t str, behind: &'t str) -> Entry<'t>
+    pub fn line(alloc: Global, from: &'t str, following: &'t str) -> Entry<'t>
         ensures from { result.from.now ≡ from.now }
-        ensures behind { result.behind.now ≡ behind.now }
+        ensures following { result.following.now ≡ following.now }
         ensures closing { string_bytes result.closing ≡ [] }
     {
         Entry {
             from,
-            behind,
+            following,
             closing: String::new(alloc),
         }
     }
@@ -40,18 +40,18 @@ impl<'t> Entry<'t> {
     /// The entry, with one more bracket around it.
     pub fn closed(self, bracket: &str) -> Result<Entry<'t>, AllocError>
         ensures from { IfOk result (λ e. e.from.now ≡ self.entry.from.now) }
-        ensures behind { IfOk result (λ e. e.behind.now ≡ self.entry.behind.now) }
+        ensures following { IfOk result (λ e. e.following.now ≡ self.entry.following.now) }
         ensures closing { IfOk result (λ e. string_bytes e.closing ≡ string_bytes self.entry.closing ++ bracket.now) }
     {
         let Entry {
             from,
-            behind,
+            following,
             mut closing,
         } = self;
         closing.push_str(bracket)?;
         Ok(Entry {
             from,
-            behind,
+            following,
             closing,
         })
     }
@@ -81,13 +81,13 @@ pub fn entry_of<'t>(
         if start.is_empty() {
             return Ok(None);
         }
-        let (line, behind) = line_of(alloc, start)?;
+        let (line, following) = line_of(alloc, start)?;
         section = section_of(&line, section, path, &mut seen);
-        let found = entry_in_line(alloc, start, behind, &line, section, path)?;
+        let found = entry_in_line(alloc, start, following, &line, section, path)?;
         if found.is_some() {
             return Ok(found);
         }
-        rest = behind;
+        rest = following;
     }
 }
 
@@ -112,13 +112,13 @@ fn section_of(
 fn entry_in_line<'t>(
     alloc: Global,
     start: &'t str,
-    behind: &'t str,
+    following: &'t str,
     line: &Line<'t>,
     section: Option<usize>,
     path: &[Step<'_>],
 ) -> Result<Option<Entry<'t>>, ParseError>
     requires { IfSome section (λ taken. taken ≤ length path.now) }
-    ensures { IfOk result (λ found. IfSome found (λ e. HasLine start.now behind.now line.now → Stands e)) }
+    ensures { IfOk result (λ found. IfSome found (λ e. HasLine start.now following.now line.now → Stands e)) }
 {
     let Some(taken) = section else {
         return Ok(None);
@@ -126,13 +126,13 @@ fn entry_in_line<'t>(
     match line {
         Line::Header { .. } => {
             if taken == path.len() {
-                Ok(Some(Entry::line(alloc, start, behind)))
+                Ok(Some(Entry::line(alloc, start, following)))
             } else {
                 Ok(None)
             }
         }
         Line::Pair { key, value } => {
-            entry_in_pair(alloc, start, behind, key, *value, &path[taken..])
+            entry_in_pair(alloc, start, following, key, *value, &path[taken..])
         }
     }
 }
@@ -140,18 +140,18 @@ fn entry_in_line<'t>(
 fn entry_in_pair<'t>(
     alloc: Global,
     start: &'t str,
-    behind: &'t str,
+    following: &'t str,
     key: &Key,
     value: &'t str,
     path: &[Step<'_>],
 ) -> Result<Option<Entry<'t>>, ParseError>
-    ensures { IfOk result (λ found. IfSome found (λ e. HasEntry start.now behind.now value.now → Stands e)) }
+    ensures { IfOk result (λ found. IfSome found (λ e. HasEntry start.now following.now value.now → Stands e)) }
 {
     let Some(taken) = taken_by_key(key, path) else {
         return Ok(None);
     };
     if taken == path.len() {
-        return Ok(Some(Entry::line(alloc, start, behind)));
+        return Ok(Some(Entry::line(alloc, start, following)));
     }
     entry_in_value(alloc, value, &path[taken..], RECURSION_LIMIT)
 }
@@ -180,17 +180,17 @@ fn taken_by_header(
         if at == path.len() {
             return Some(at);
         }
-        at = behind_part(part.as_str(), false, path, at, seen)?;
+        at = after_part(part.as_str(), false, path, at, seen)?;
     }
     if at == path.len() {
         return Some(at);
     }
-    behind_part(key.last.as_str(), is_array, path, at, seen)
+    after_part(key.last.as_str(), is_array, path, at, seen)
 }
 
 // Where the path continues after a part of a header: after the element that is the last one by now, where the part
 // names an array of tables. None where the part is not on the path, or the path goes to another element.
-fn behind_part(
+fn after_part(
     part: &str,
     is_new: bool,
     path: &[Step<'_>],
@@ -236,8 +236,8 @@ fn line_of(alloc: Global, s: &str) -> Result<(Line<'_>, &str), ParseError>
 {
     if first(s) != b'[' {
         let (key, value) = key_equals(alloc, s)?;
-        let behind = after_value(alloc, value, RECURSION_LIMIT)?;
-        return Ok((Line::Pair { key, value }, behind));
+        let following = after_value(alloc, value, RECURSION_LIMIT)?;
+        return Ok((Line::Pair { key, value }, following));
     }
     if byte_at(s, 1) != b'[' {
         let (key, rest) = header_key(alloc, skip(s, 1))?;

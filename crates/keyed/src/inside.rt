@@ -87,15 +87,15 @@ fn entry_in_array<'s>(
         if first(start) == b']' {
             return Ok(None);
         }
-        let behind = after_value(alloc, start, depth)?;
+        let following = after_value(alloc, start, depth)?;
         if before == index {
             if left.is_empty() {
-                return Ok(Some(Entry::line(alloc, start, behind).closed("]")?));
+                return Ok(Some(Entry::line(alloc, start, following).closed("]")?));
             }
             return closed(entry_in_value(alloc, start, left, depth)?, "]");
         }
         before = before.saturating_add(1);
-        rest = after_element(behind, b']', ErrorKind::Array)?;
+        rest = after_element(following, b']', ErrorKind::Array)?;
     }
 }
 
@@ -115,14 +115,14 @@ fn entry_in_table<'s>(
             return Ok(None);
         }
         let (key, at_value) = key_equals(alloc, start)?;
-        let behind = after_value(alloc, at_value, depth)?;
+        let following = after_value(alloc, at_value, depth)?;
         if let Some(taken) = taken_by_key(&key, path) {
             if taken == path.len() {
-                return Ok(Some(Entry::line(alloc, start, behind).closed("}")?));
+                return Ok(Some(Entry::line(alloc, start, following).closed("}")?));
             }
             return closed(entry_in_value(alloc, at_value, &path[taken..], depth)?, "}");
         }
-        rest = after_element(behind, b'}', ErrorKind::InlineTable)?;
+        rest = after_element(following, b'}', ErrorKind::InlineTable)?;
     }
 }
 

@@ -58,7 +58,7 @@ fn front_of<'t>(
     let Some(front) = before(text, entry.from) else {
         return Ok(None);
     };
-    let Some(through) = before(text, entry.behind) else {
+    let Some(through) = before(text, entry.following) else {
         return Ok(None);
     };
     let Some(last) = path.last() else {

@@ -114,10 +114,10 @@ module _ (title : List (List Glyph)) where
 
   -- ---- paragraphs
 
-  on_last_behind : (change : Said → Said) (said : List Said) (last : Said) → on_last change (said ++ last ∷ []) ≡ said ++ change last ∷ []
-  on_last_behind change [] last = refl
-  on_last_behind change (x ∷ []) last = refl
-  on_last_behind change (x ∷ y ∷ said) last = ap (λ xs. x ∷ xs) (on_last_behind change (y ∷ said) last)
+  on_last_after : (change : Said → Said) (said : List Said) (last : Said) → on_last change (said ++ last ∷ []) ≡ said ++ change last ∷ []
+  on_last_after change [] last = refl
+  on_last_after change (x ∷ []) last = refl
+  on_last_after change (x ∷ y ∷ said) last = ap (λ xs. x ∷ xs) (on_last_after change (y ∷ said) last)
 
   abbrev in_paragraph : List Said → List Indent → Kind → List (List Glyph) → List Said
   in_paragraph said indents kind lines = said ++ Paragraph indents kind lines ∷ []
@@ -128,7 +128,7 @@ module _ (title : List (List Glyph)) where
 
   takes_line : (said : List Said) (indents : List Indent) (kind : Kind) (before : List (List Glyph)) (line : List Glyph)
       → here title (on_last (λ last. with_line last line) (in_paragraph said indents kind before)) indents Filled ≡ here title (in_paragraph said indents kind (before ++ line ∷ [])) indents Filled
-  takes_line said indents kind before line = ap (λ x. here title x indents Filled) (on_last_behind (λ last. with_line last line) said (Paragraph indents kind before))
+  takes_line said indents kind before line = ap (λ x. here title x indents Filled) (on_last_after (λ last. with_line last line) said (Paragraph indents kind before))
 
   module _ (section : List ℕ) (permitted : list_all is_permitted_byte section ≡ true) where
     line_leads : (read : Reading) (said : List Said) (indents : List Indent) (kind : Kind) (before : List (List Glyph)) (line : Line) → is_permitted_line line ≡ true → TakesLines read said indents kind before
@@ -180,16 +180,16 @@ module _ (title : List (List Glyph)) where
 
     -- ---- blocks
 
-    before_block : (behind : Bool) (said : List Said) (stand : Stand) → is_open stand ≡ true → (behind ≡ true → stand ≡ Fresh Plain)
-        → Leads (new_paragraph behind) (here title said [] stand) (here title said [] (Fresh Plain))
+    before_block : (after : Bool) (said : List Said) (stand : Stand) → is_open stand ≡ true → (after ≡ true → stand ≡ Fresh Plain)
+        → Leads (new_paragraph after) (here title said [] stand) (here title said [] (Fresh Plain))
     before_block true said stand o fresh = leads_to (ap (here title said []) (fresh refl)) leads_nothing
     before_block false said stand o fresh = asks (codes ".PP") (becomes (Fresh Plain)) refl (λ read. refl) (at title said [] stand) o
 
-    pub block_comes : (behind : Bool) (shown : BlockSaid) (said : List Said) (stand : Stand) → is_permitted_block shown ≡ true → is_open stand ≡ true → (behind ≡ true → stand ≡ Fresh Plain)
-        → Comes (block_text section behind shown) (here title said [] stand) title (said ++ block_kept section shown) []
-    block_comes behind (paragraph lines) said stand h o fresh = comes_front (before_block behind said stand o fresh) (paragraph_comes said [] Plain lines h)
-    block_comes behind (code lines) said stand h o fresh = comes_front (before_block behind said stand o fresh) (example_comes said [] (Fresh Plain) lines h refl)
-    block_comes behind (bullets items) said stand h o fresh = bullets_come [] items said stand h o
+    pub block_comes : (after : Bool) (shown : BlockSaid) (said : List Said) (stand : Stand) → is_permitted_block shown ≡ true → is_open stand ≡ true → (after ≡ true → stand ≡ Fresh Plain)
+        → Comes (block_text section after shown) (here title said [] stand) title (said ++ block_kept section shown) []
+    block_comes after (paragraph lines) said stand h o fresh = comes_front (before_block after said stand o fresh) (paragraph_comes said [] Plain lines h)
+    block_comes after (code lines) said stand h o fresh = comes_front (before_block after said stand o fresh) (example_comes said [] (Fresh Plain) lines h refl)
+    block_comes after (bullets items) said stand h o fresh = bullets_come [] items said stand h o
 
     inner_comes : (shown : BlockSaid) (said : List Said) (stand : Stand) → is_permitted_block shown ≡ true → is_open stand ≡ true
         → Comes (inner_text section shown) (here title said [] stand) title (said ++ inner_kept section shown) []
@@ -202,9 +202,9 @@ module _ (title : List (List Glyph)) where
     -- ---- entries
 
     -- blocks after what stands in the paragraph of a tag
-    behind_tagged : (said : List Said) (tag : List Glyph) (lines : List (List Glyph)) (blocks : List BlockSaid) (stand : Stand) → list_all is_permitted_block blocks ≡ true → is_open stand ≡ true
+    after_tagged : (said : List Said) (tag : List Glyph) (lines : List (List Glyph)) (blocks : List BlockSaid) (stand : Stand) → list_all is_permitted_block blocks ≡ true → is_open stand ≡ true
         → Comes (flat_map (inner_text section) blocks) (here title (in_paragraph said [] (Tagged tag) lines) [] stand) title (said ++ Paragraph [] (Tagged tag) lines ∷ flat_map (inner_kept section) blocks) []
-    behind_tagged said tag lines blocks stand h o =
+    after_tagged said tag lines blocks stand h o =
         comes_to (append_assoc said (Paragraph [] (Tagged tag) lines ∷ []) (flat_map (inner_kept section) blocks))
         (each_comes [] (inner_text section) (inner_kept section) is_permitted_block inner_comes blocks (in_paragraph said [] (Tagged tag) lines) stand h o)
 
@@ -214,9 +214,9 @@ module _ (title : List (List Glyph)) where
     body_comes said tag (paragraph lines ∷ blocks) h =
         let parts = and_parts (list_all is_permitted_line lines) (list_all is_permitted_block blocks) h in
         let first = first_comes said [] (Tagged tag) lines parts.0 in
-        comes_then first (behind_tagged said tag (lines_shown section lines) blocks first.after parts.1 first.opens)
-    body_comes said tag (code lines ∷ blocks) h = behind_tagged said tag [] (code lines ∷ blocks) Bodied h refl
-    body_comes said tag (bullets items ∷ blocks) h = behind_tagged said tag [] (bullets items ∷ blocks) Bodied h refl
+        comes_then first (after_tagged said tag (lines_shown section lines) blocks first.after parts.1 first.opens)
+    body_comes said tag (code lines ∷ blocks) h = after_tagged said tag [] (code lines ∷ blocks) Bodied h refl
+    body_comes said tag (bullets items ∷ blocks) h = after_tagged said tag [] (bullets items ∷ blocks) Bodied h refl
 
     entry_comes : (entry : EntrySaid) (said : List Said) (stand : Stand) → is_permitted_entry entry ≡ true → is_open stand ≡ true
         → Comes (entry_text section entry) (here title said [] stand) title (said ++ entry_kept section entry) []

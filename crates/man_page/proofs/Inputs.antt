@@ -74,12 +74,12 @@ step r line true b more = refl
 step r line false b [] = refl
 step r line false b (next ∷ more) = refl
 
-page_behind : (r : Option Reading) (line rest : List ℕ) → page_of r (line ∷ lines rest) ≡ page_from (next_line r line) rest
-page_behind r line [] = refl
-page_behind r line (b ∷ rest) = step r line (b == 10) b (lines rest)
+page_after : (r : Option Reading) (line rest : List ℕ) → page_of r (line ∷ lines rest) ≡ page_from (next_line r line) rest
+page_after r line [] = refl
+page_after r line (b ∷ rest) = step r line (b == 10) b (lines rest)
 
 pub leads_line : (line : List ℕ) (r s : Option Reading) → list_all is_in_line line ≡ true → next_line r line ≡ s → Leads (line ++ codes "\n") r s
-leads_line line r s h e = record { reads = λ rest. ap (page_of r) (split_line line rest h) ∙ page_behind r line rest ∙ ap (λ x. page_from x rest) e }
+leads_line line r s h e = record { reads = λ rest. ap (page_of r) (split_line line rest h) ∙ page_after r line rest ∙ ap (λ x. page_from x rest) e }
 
 -- ---- the signs before and after a text
 
@@ -125,14 +125,14 @@ last-append : (b : ℕ) (xs ys : List ℕ) → last_of b (xs ++ ys) ≡ last_of 
 last-append b [] ys = refl
 last-append b (c ∷ xs) ys = last-append c xs ys
 
-last_behind_sign : (front : Bool) (text : List ℕ) → (last_of 0 text == 32) ≡ false → (last_of (last_of 0 (sign_if front)) text == 32) ≡ false
-last_behind_sign true [] h = refl
-last_behind_sign true (b ∷ text) h = h
-last_behind_sign false text h = h
+last_after_sign : (front : Bool) (text : List ℕ) → (last_of 0 text == 32) ≡ false → (last_of (last_of 0 (sign_if front)) text == 32) ≡ false
+last_after_sign true [] h = refl
+last_after_sign true (b ∷ text) h = h
+last_after_sign false text h = h
 
 last_signed : (front back : Bool) (text : List ℕ) → (back ≡ false → (last_of 0 text == 32) ≡ false) → (last_of (last_of (last_of 0 (sign_if front)) text) (sign_if back) == 32) ≡ false
 last_signed front true text h = refl
-last_signed front false text h = last_behind_sign front text (h refl)
+last_signed front false text h = last_after_sign front text (h refl)
 
 ends_signed : (front back : Bool) (text : List ℕ) → (back ≡ false → (last_of 0 text == 32) ≡ false) → ends_in_blank (signed front back text) ≡ false
 ends_signed front back text h =

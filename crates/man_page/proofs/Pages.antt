@@ -21,20 +21,20 @@ use Rattle.man_page.proofs.Blocks.{Comes, block_comes, comes_front, comes_nothin
 module _ (title : List (List Glyph)) (section : List ℕ) (permitted : list_all is_permitted_byte section ≡ true) where
   -- a part is read, and after a heading the next text begins a paragraph
   abbrev PartComes : Bool → PartSaid → List Said → Stand → Type 0
-  PartComes behind part said stand = (p : Comes (part_text section behind part) (here title said [] stand) title (said ++ part_kept section part) []) × (is_heading part ≡ true → p.after ≡ Fresh Plain)
+  PartComes follows part said stand = (p : Comes (part_text section follows part) (here title said [] stand) title (said ++ part_kept section part) []) × (is_heading part ≡ true → p.after ≡ Fresh Plain)
 
-  part_comes : (behind : Bool) (part : PartSaid) (said : List Said) (stand : Stand) → is_permitted_part part ≡ true → is_open stand ≡ true → (behind ≡ true → stand ≡ Fresh Plain) → PartComes behind part said stand
-  part_comes behind (heading rank text) said stand h o fresh = (record { after = Fresh Plain; opens = refl; leads = heading_leads title rank text said stand (bytes_of text h) o }, λ _. refl)
-  part_comes behind (usage forms) said stand h o fresh = (forms_come title section permitted forms said stand h o, λ e. absurd cc)
-  part_comes behind (block shown) said stand h o fresh = (block_comes title section permitted behind shown said stand h o fresh, λ e. absurd cc)
-  part_comes behind (entries list) said stand h o fresh = (entries_come title section permitted list said stand h o, λ e. absurd cc)
+  part_comes : (follows : Bool) (part : PartSaid) (said : List Said) (stand : Stand) → is_permitted_part part ≡ true → is_open stand ≡ true → (follows ≡ true → stand ≡ Fresh Plain) → PartComes follows part said stand
+  part_comes follows (heading rank text) said stand h o fresh = (record { after = Fresh Plain; opens = refl; leads = heading_leads title rank text said stand (bytes_of text h) o }, λ _. refl)
+  part_comes follows (usage forms) said stand h o fresh = (forms_come title section permitted forms said stand h o, λ e. absurd cc)
+  part_comes follows (block shown) said stand h o fresh = (block_comes title section permitted follows shown said stand h o fresh, λ e. absurd cc)
+  part_comes follows (entries list) said stand h o fresh = (entries_come title section permitted list said stand h o, λ e. absurd cc)
 
-  parts_come : (behind : Bool) (parts : List PartSaid) (said : List Said) (stand : Stand) → list_all is_permitted_part parts ≡ true → is_open stand ≡ true → (behind ≡ true → stand ≡ Fresh Plain)
-      → Comes (parts_text section behind parts) (here title said [] stand) title (said ++ flat_map (part_kept section) parts) []
-  parts_come behind [] said stand h o fresh = comes_to (sym (append-nil said)) (comes_nothing title said [] stand o)
-  parts_come behind (part ∷ parts) said stand h o fresh =
+  parts_come : (follows : Bool) (parts : List PartSaid) (said : List Said) (stand : Stand) → list_all is_permitted_part parts ≡ true → is_open stand ≡ true → (follows ≡ true → stand ≡ Fresh Plain)
+      → Comes (parts_text section follows parts) (here title said [] stand) title (said ++ flat_map (part_kept section) parts) []
+  parts_come follows [] said stand h o fresh = comes_to (sym (append-nil said)) (comes_nothing title said [] stand o)
+  parts_come follows (part ∷ parts) said stand h o fresh =
       let both = and_parts (is_permitted_part part) (list_all is_permitted_part parts) h in
-      let first = part_comes behind part said stand both.0 o fresh in
+      let first = part_comes follows part said stand both.0 o fresh in
       comes_then first.0 (comes_to (append_assoc said (part_kept section part) (flat_map (part_kept section) parts))
       (parts_come (is_heading part) parts (said ++ part_kept section part) first.0.after both.1 first.0.opens first.1))
 

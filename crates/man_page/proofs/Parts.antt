@@ -7,7 +7,7 @@ use Rattle.std.specs.List.{list_any}
 use Rattle.page_model.specs.Content.{Piece, Line, BlockSaid, paragraph, code, bullets, PartSaid}
 use Rattle.man_page.specs.declared.escape.Role.{Role}
 use Rattle.man_page.specs.declared.escape.Role.TheVariants.{Text, Item}
-use Rattle.man_page.specs.Exact.{begins_behind, is_heading, part_text, parts_text, body_text, escaped, inner_text, input_line, is_blank, is_spaced_text, lines_text, piece_text, pieces_from, pieces_text, terms_text, title_line, title_text, wants_quotes}
+use Rattle.man_page.specs.Exact.{begins_after, is_heading, part_text, parts_text, body_text, escaped, inner_text, input_line, is_blank, is_spaced_text, lines_text, piece_text, pieces_from, pieces_text, terms_text, title_line, title_text, wants_quotes}
 use Rattle.man_page.specs.Steps.{first_text, further_line, further_term, title_role, title_word}
 use Rattle.man_page.specs.Kept.{TitleSaid}
 
@@ -51,14 +51,14 @@ pub title_by_role : (title : List ℕ) → (length title == 0) ≡ false → tit
 title_by_role [] h = cc
 title_by_role (b ∷ title) h = choice (is_spaced_text true (b ∷ title)) (b ∷ title)
 
-pub spaced_next : (behind : Bool) (bytes : List ℕ) (i : ℕ) → i < length bytes → is_spaced_text behind (drop i bytes) ≡ (if is_blank (get_or bytes i 0) then not behind && is_spaced_text true (drop (i + 1) bytes) else is_spaced_text false (drop (i + 1) bytes))
-spaced_next behind bytes i h = ap (is_spaced_text behind) (drop_next bytes i 0 h)
+pub spaced_next : (after : Bool) (bytes : List ℕ) (i : ℕ) → i < length bytes → is_spaced_text after (drop i bytes) ≡ (if is_blank (get_or bytes i 0) then not after && is_spaced_text true (drop (i + 1) bytes) else is_spaced_text false (drop (i + 1) bytes))
+spaced_next after bytes i h = ap (is_spaced_text after) (drop_next bytes i 0 h)
 
-pub parts_next : {X : Type 0} (section : List ℕ) (behind : Bool) (see : X → PartSaid) (parts : List X) (i : ℕ) (d : X) → i < length parts → parts_text section behind (map see (drop i parts)) ≡ part_text section behind (see (get_or parts i d)) ++ parts_text section (is_heading (see (get_or parts i d))) (map see (drop (i + 1) parts))
-parts_next section behind see parts i d h = ap (λ xs. parts_text section behind (map see xs)) (drop_next parts i d h)
+pub parts_next : {X : Type 0} (section : List ℕ) (after : Bool) (see : X → PartSaid) (parts : List X) (i : ℕ) (d : X) → i < length parts → parts_text section after (map see (drop i parts)) ≡ part_text section after (see (get_or parts i d)) ++ parts_text section (is_heading (see (get_or parts i d))) (map see (drop (i + 1) parts))
+parts_next section after see parts i d h = ap (λ xs. parts_text section after (map see xs)) (drop_next parts i d h)
 
 pub pieces_next : {X : Type 0} (role : Role) (guarded front : Bool) (section : List ℕ) (see : X → Piece) (pieces : List X) (i : ℕ) (d : X) → i < length pieces
-    → pieces_from role guarded front section (map see (drop i pieces)) ≡ piece_text role (guarded && front) section (see (get_or pieces i d)) ++ pieces_from role guarded (begins_behind front (see (get_or pieces i d))) section (map see (drop (i + 1) pieces))
+    → pieces_from role guarded front section (map see (drop i pieces)) ≡ piece_text role (guarded && front) section (see (get_or pieces i d)) ++ pieces_from role guarded (begins_after front (see (get_or pieces i d))) section (map see (drop (i + 1) pieces))
 pieces_next role guarded front section see pieces i d h = ap (λ xs. pieces_from role guarded front section (map see xs)) (drop_next pieces i d h)
 
 -- the title line, word by word, after what stands before it

@@ -9,7 +9,7 @@ use Rattle.page_model.specs.Content.{Piece, words, literal, value, link, page, L
 use Rattle.page_model.specs.Permitted.{are_permitted, is_permitted, is_permitted_byte, is_permitted_line, is_permitted_piece}
 use Rattle.man_page.specs.Sheet.{Font, Roman, Bold, Italic, Glyph}
 use Rattle.man_page.specs.Kept.{in_font, line_shown, piece_shown, shown_byte, terms_shown}
-use Rattle.man_page.specs.Exact.{begins_behind, begins_word, escaped, is_blank, is_letter, piece_text, pieces_from, pieces_text, terms_text}
+use Rattle.man_page.specs.Exact.{begins_after, begins_word, escaped, is_blank, is_letter, piece_text, pieces_from, pieces_text, terms_text}
 use Rattle.man_page.specs.Reader.{is_at_front, last_of}
 use Rattle.man_page.specs.declared.escape.Role.{Role}
 use Rattle.man_page.specs.declared.escape.Role.TheVariants.{Text}
@@ -29,10 +29,10 @@ optional wanted sign = if wanted then sign else []
 mark_read : (font : Font) (shown : List Glyph) → is_at_front shown ≡ true → run false (in_text font shown) (codes "\\%") ≡ in_text font shown
 mark_read font shown front = ap (λ (x : Bool). if x then in_text font shown else None) front
 
-at_front_behind : (shown : List Glyph) (glyph : Glyph) (more : List Glyph) → is_at_front (shown ++ glyph ∷ more) ≡ is_at_front (glyph ∷ more)
-at_front_behind [] glyph more = refl
-at_front_behind (first ∷ []) glyph more = refl
-at_front_behind (first ∷ next ∷ shown) glyph more = at_front_behind (next ∷ shown) glyph more
+at_front_after : (shown : List Glyph) (glyph : Glyph) (more : List Glyph) → is_at_front (shown ++ glyph ∷ more) ≡ is_at_front (glyph ∷ more)
+at_front_after [] glyph more = refl
+at_front_after (first ∷ []) glyph more = refl
+at_front_after (first ∷ next ∷ shown) glyph more = at_front_after (next ∷ shown) glyph more
 
 last_shown : (font : Font) (b : ℕ) (text : List ℕ) → is_at_front (in_font font (b ∷ text)) ≡ (shown_byte (last_of b text) == 32)
 last_shown font b [] = refl
@@ -49,12 +49,12 @@ blank_shows b =
 text_begins : (front : Bool) (font : Font) (text : List ℕ) (shown : List Glyph) → (front ≡ true → is_at_front shown ≡ true) → begins_word front text ≡ true → is_at_front (shown ++ in_font font text) ≡ true
 text_begins front font [] shown may e = ap is_at_front (append-nil shown) ∙ may e
 text_begins front font (b ∷ text) shown may e =
-    at_front_behind shown (record { byte = shown_byte b; font = font }) (in_font font text)
+    at_front_after shown (record { byte = shown_byte b; font = font }) (in_font font text)
     ∙ last_shown font b text
     ∙ blank_shows (last_of b text) e
 
 module _ (section : List ℕ) where
-  begins : (front : Bool) (piece : Piece) (shown : List Glyph) → (front ≡ true → is_at_front shown ≡ true) → begins_behind front piece ≡ true → is_at_front (shown ++ piece_shown section piece) ≡ true
+  begins : (front : Bool) (piece : Piece) (shown : List Glyph) → (front ≡ true → is_at_front shown ≡ true) → begins_after front piece ≡ true → is_at_front (shown ++ piece_shown section piece) ≡ true
   begins front (words text) shown may e = text_begins front Roman text shown may e
   begins front (literal text) shown may e = text_begins front Bold text shown may e
   begins front (value text) shown may e = text_begins front Italic text shown may e
@@ -105,9 +105,9 @@ module _ (role : Role) (filled : is_filled role ≡ true) where
         let parts = and_parts (is_permitted_piece piece) (is_permitted_line line) h in
         let more : List Glyph = shown ++ piece_shown section piece in
         let both = and_parts guarded front in
-        run_then false (in_text Roman shown) (in_text Roman more) (in_text Roman (shown ++ line_shown section (piece ∷ line))) (piece_text role (guarded && front) section piece) (pieces_from role guarded (begins_behind front piece) section line)
+        run_then false (in_text Roman shown) (in_text Roman more) (in_text Roman (shown ++ line_shown section (piece ∷ line))) (piece_text role (guarded && front) section piece) (pieces_from role guarded (begins_after front piece) section line)
         (piece_read (guarded && front) piece shown parts.0 (λ e. may (both e).0 (both e).1))
-        (pieces_from_read guarded (begins_behind front piece) line more parts.1 (λ g. begins section front piece shown (may g))
+        (pieces_from_read guarded (begins_after front piece) line more parts.1 (λ g. begins section front piece shown (may g))
         ∙ ap (in_text Roman) (append_assoc shown (piece_shown section piece) (line_shown section line)))
 
   pub pieces_read : (guarded : Bool) (section : List ℕ) → list_all is_permitted_byte section ≡ true → (line : Line) (shown : List Glyph) → is_permitted_line line ≡ true → (guarded ≡ true → is_at_front shown ≡ true)
@@ -139,13 +139,13 @@ pub record TakesSigns (p : ℕ → Bool) : Type 0 where
   pub back : list_all p (codes "\\fP") ≡ true
   pub whole : list_all p (codes "\\%") ≡ true
   pub before : list_all p (codes "\\fP(") ≡ true
-  pub behind : list_all p (codes ")") ≡ true
+  pub after : list_all p (codes ")") ≡ true
 
 pub text_signs : TakesSigns is_text_byte
-text_signs = record { bold = refl; italic = refl; back = refl; whole = refl; before = refl; behind = refl }
+text_signs = record { bold = refl; italic = refl; back = refl; whole = refl; before = refl; after = refl }
 
 pub solid_signs : TakesSigns is_solid
-solid_signs = record { bold = refl; italic = refl; back = refl; whole = refl; before = refl; behind = refl }
+solid_signs = record { bold = refl; italic = refl; back = refl; whole = refl; before = refl; after = refl }
 
 all_optional : (p : ℕ → Bool) (wanted : Bool) (sign : List ℕ) → list_all p sign ≡ true → list_all p (optional wanted sign) ≡ true
 all_optional p true sign h = h
@@ -165,14 +165,14 @@ module _ (p : ℕ → Bool) (signs : TakesSigns p) (role : Role) (writes : Write
     one_piece_bytes guarded (link text) h = all_written is_permitted_byte p role writes text (bytes_of text h)
     one_piece_bytes guarded (page name) h =
         all_both p (codes "\\fB") _ signs.bold (in_font_bytes (guarded && list_any is_letter name) name (codes "\\fP(" ++ (escaped role section ++ codes ")")) (bytes_of name h)
-        (all_both p (codes "\\fP(") (escaped role section ++ codes ")") signs.before (in_font_bytes false section (codes ")") permitted signs.behind)))
+        (all_both p (codes "\\fP(") (escaped role section ++ codes ")") signs.before (in_font_bytes false section (codes ")") permitted signs.after)))
 
     pieces_from_bytes : (guarded front : Bool) (line : Line) → is_permitted_line line ≡ true → list_all p (pieces_from role guarded front section line) ≡ true
     pieces_from_bytes guarded front [] h = refl
     pieces_from_bytes guarded front (piece ∷ line) h =
         let parts = and_parts (is_permitted_piece piece) (is_permitted_line line) h in
-        let behind : Bool = begins_behind front piece in
-        all_both p (piece_text role (guarded && front) section piece) (pieces_from role guarded behind section line) (one_piece_bytes (guarded && front) piece parts.0) (pieces_from_bytes guarded behind line parts.1)
+        let after : Bool = begins_after front piece in
+        all_both p (piece_text role (guarded && front) section piece) (pieces_from role guarded after section line) (one_piece_bytes (guarded && front) piece parts.0) (pieces_from_bytes guarded after line parts.1)
 
   pub pieces_bytes : (guarded : Bool) (section : List ℕ) → list_all is_permitted_byte section ≡ true → (line : Line) → is_permitted_line line ≡ true → list_all p (pieces_text role guarded section line) ≡ true
   pieces_bytes guarded section permitted line h = pieces_from_bytes section permitted guarded true line h

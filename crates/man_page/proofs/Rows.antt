@@ -43,8 +43,8 @@ writes = ((refl, refl), (refl, refl), (refl, refl), (refl, refl), (refl, refl), 
 
 -- ---- what the reader reads
 
-abbrev behind : List ℕ → Option Sheet
-behind bytes = read (codes ".TH a 1\n" ++ bytes)
+abbrev after : List ℕ → Option Sheet
+after bytes = read (codes ".TH a 1\n" ++ bytes)
 
 abbrev says : List Said → Option Sheet
 says said = Some (record { title = in_font Roman (codes "a") ∷ in_font Roman (codes "1") ∷ []; said = said })
@@ -54,70 +54,70 @@ plain bytes = Paragraph [] Plain (in_font Roman bytes ∷ []) ∷ []
 
 pub reads :
     -- lines that follow one another are one, with a blank between two
-    (behind (codes "a\nb\n") ≡ says (plain (codes "a b")))
+    (after (codes "a\nb\n") ≡ says (plain (codes "a b")))
     -- a request is not part of the text
-    × (behind (codes "a\n.PP\nb\n") ≡ says (plain (codes "a") ++ plain (codes "b")))
+    × (after (codes "a\n.PP\nb\n") ≡ says (plain (codes "a") ++ plain (codes "b")))
     -- but what follows a sign that shows nothing is
-    × (behind (codes "\\&.PP\n") ≡ says (plain (codes ".PP")))
+    × (after (codes "\\&.PP\n") ≡ says (plain (codes ".PP")))
     -- escapes
-    × (behind (codes "\\%\\-\\e\\~\\%\\(aq\\(ga\\(ha\\(ti\\(dq\\N'37'\n") ≡ says (plain (codes "-\\ '`^~\"%")))
+    × (after (codes "\\%\\-\\e\\~\\%\\(aq\\(ga\\(ha\\(ti\\(dq\\N'37'\n") ≡ says (plain (codes "-\\ '`^~\"%")))
     -- fonts
-    × (behind (codes "a\\fBb\\fP\\fIc\\fP\n") ≡ says (Paragraph [] Plain ((in_font Roman (codes "a") ++ (in_font Bold (codes "b") ++ in_font Italic (codes "c"))) ∷ []) ∷ []))
+    × (after (codes "a\\fBb\\fP\\fIc\\fP\n") ≡ says (Paragraph [] Plain ((in_font Roman (codes "a") ++ (in_font Bold (codes "b") ++ in_font Italic (codes "c"))) ∷ []) ∷ []))
     -- a tag and its paragraph
-    × (behind (codes ".TP\nt\na\n.br\nb\n") ≡ says (Paragraph [] (Tagged (in_font Roman (codes "t"))) (in_font Roman (codes "a") ∷ in_font Roman (codes "b") ∷ []) ∷ []))
+    × (after (codes ".TP\nt\na\n.br\nb\n") ≡ says (Paragraph [] (Tagged (in_font Roman (codes "t"))) (in_font Roman (codes "a") ∷ in_font Roman (codes "b") ∷ []) ∷ []))
     -- an item, also one without text
-    × (behind (codes ".IP \\(bu 2\na\n.IP \\(bu 2\n") ≡ says (Paragraph [] Bulleted (in_font Roman (codes "a") ∷ []) ∷ Paragraph [] Bulleted [] ∷ []))
+    × (after (codes ".IP \\(bu 2\na\n.IP \\(bu 2\n") ≡ says (Paragraph [] Bulleted (in_font Roman (codes "a") ∷ []) ∷ Paragraph [] Bulleted [] ∷ []))
     -- an indent, and one of a number of columns in it
-    × (behind (codes ".RS\na\n.RE\n") ≡ says (Paragraph (Usual ∷ []) Plain (in_font Roman (codes "a") ∷ []) ∷ []))
-    × (behind (codes ".RS\n.RS 12\na\n.RE\nb\n.RE\n") ≡ says (Paragraph (Columns 12 ∷ Usual ∷ []) Plain (in_font Roman (codes "a") ∷ []) ∷ Paragraph (Usual ∷ []) Plain (in_font Roman (codes "b") ∷ []) ∷ []))
+    × (after (codes ".RS\na\n.RE\n") ≡ says (Paragraph (Usual ∷ []) Plain (in_font Roman (codes "a") ∷ []) ∷ []))
+    × (after (codes ".RS\n.RS 12\na\n.RE\nb\n.RE\n") ≡ says (Paragraph (Columns 12 ∷ Usual ∷ []) Plain (in_font Roman (codes "a") ∷ []) ∷ Paragraph (Usual ∷ []) Plain (in_font Roman (codes "b") ∷ []) ∷ []))
     -- lines of an example, with their blanks
-    × (behind (codes ".EX\n  a\n\n.EE\n") ≡ says (Example [] (in_font Roman (codes "  a") ∷ [] ∷ []) ∷ []))
+    × (after (codes ".EX\n  a\n\n.EE\n") ≡ says (Example [] (in_font Roman (codes "  a") ∷ [] ∷ []) ∷ []))
 reads = (refl, refl, refl, refl, refl, refl, refl, refl, refl, refl)
 
 pub refuses :
     -- a page without a title line, with two, and with one whose quotes have no end
     (read (codes "a\n") ≡ None)
-    × (behind (codes ".TH b 1\n") ≡ None)
+    × (after (codes ".TH b 1\n") ≡ None)
     × (read (codes ".TH \"a 1\n") ≡ None)
     -- a text that does not end with a newline
-    × (behind (codes "a") ≡ None)
+    × (after (codes "a") ≡ None)
     -- a line that is empty, or has a blank at an end
-    × (behind (codes "\n") ≡ None)
-    × (behind (codes " a\n") ≡ None)
-    × (behind (codes "a \n") ≡ None)
+    × (after (codes "\n") ≡ None)
+    × (after (codes " a\n") ≡ None)
+    × (after (codes "a \n") ≡ None)
     -- other requests and escapes
-    × (behind (codes ".XX\n") ≡ None)
-    × (behind (codes "'a\n") ≡ None)
-    × (behind (codes "\\x\n") ≡ None)
-    × (behind (codes "a\\\n") ≡ None)
+    × (after (codes ".XX\n") ≡ None)
+    × (after (codes "'a\n") ≡ None)
+    × (after (codes "\\x\n") ≡ None)
+    × (after (codes "a\\\n") ≡ None)
     -- a character by its number that is more than one byte, a control character, and one without a number
-    × (behind (codes "\\N'233'\n") ≡ None)
-    × (behind (codes "\\N'10'\n") ≡ None)
-    × (behind (codes "\\N''\n") ≡ None)
+    × (after (codes "\\N'233'\n") ≡ None)
+    × (after (codes "\\N'10'\n") ≡ None)
+    × (after (codes "\\N''\n") ≡ None)
     -- a place to hyphenate, within a word and at its end
-    × (behind (codes "a\\%b\n") ≡ None)
-    × (behind (codes "(\\fB\\%\\-\\-a\\fP)\n") ≡ None)
-    × (behind (codes "a\\%\n") ≡ None)
+    × (after (codes "a\\%b\n") ≡ None)
+    × (after (codes "(\\fB\\%\\-\\-a\\fP)\n") ≡ None)
+    × (after (codes "a\\%\n") ≡ None)
     -- signs that are shown as others
-    × (behind (codes "a-b\n") ≡ None)
-    × (behind (codes "a'\n") ≡ None)
+    × (after (codes "a-b\n") ≡ None)
+    × (after (codes "a'\n") ≡ None)
     -- a font that does not end in its line
-    × (behind (codes "\\fBa\n") ≡ None)
+    × (after (codes "\\fBa\n") ≡ None)
     -- a heading in double quotes, and one in an indent
-    × (behind (codes ".SH \"a\"\n") ≡ None)
-    × (behind (codes ".RS\n.SH a\n.RE\n") ≡ None)
+    × (after (codes ".SH \"a\"\n") ≡ None)
+    × (after (codes ".RS\n.SH a\n.RE\n") ≡ None)
     -- indents and examples that do not pair
-    × (behind (codes ".RE\n") ≡ None)
-    × (behind (codes ".RS\na\n") ≡ None)
+    × (after (codes ".RE\n") ≡ None)
+    × (after (codes ".RS\na\n") ≡ None)
     -- an example after a tag, and a synopsis in an indent
-    × (behind (codes ".TP\nt\n.EX\na\n.EE\n") ≡ None)
-    × (behind (codes ".IP\n.EX\na\n.EE\n") ≡ None)
-    × (behind (codes ".RS\n.SY a\n.YS\n.RE\n") ≡ None)
+    × (after (codes ".TP\nt\n.EX\na\n.EE\n") ≡ None)
+    × (after (codes ".IP\n.EX\na\n.EE\n") ≡ None)
+    × (after (codes ".RS\n.SY a\n.YS\n.RE\n") ≡ None)
     -- an indent of no number
-    × (behind (codes ".RS 4x\na\n.RE\n") ≡ None)
-    × (behind (codes ".RS \na\n.RE\n") ≡ None)
-    × (behind (codes ".EX\na\n.PP\n.EE\n") ≡ None)
-    × (behind (codes ".EX\na\n") ≡ None)
+    × (after (codes ".RS 4x\na\n.RE\n") ≡ None)
+    × (after (codes ".RS \na\n.RE\n") ≡ None)
+    × (after (codes ".EX\na\n.PP\n.EE\n") ≡ None)
+    × (after (codes ".EX\na\n") ≡ None)
     -- a line break where there is no line
-    × (behind (codes ".br\na\n") ≡ None)
+    × (after (codes ".br\na\n") ≡ None)
 refuses = (refl, refl, refl, refl, refl, refl, refl, refl, refl, refl, refl, refl, refl, refl, refl, refl, refl, refl, refl, refl, refl, refl, refl, refl, refl, refl, refl, refl, refl, refl, refl, refl)

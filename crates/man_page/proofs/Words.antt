@@ -223,25 +223,25 @@ pub subsection_asks : (words : List ℕ) → line_of (codes ".SS " ++ words) ≡
 subsection_asks words = refl
 
 abbrev SpacedByte : ℕ → Type 0
-SpacedByte b = (behind : Bool) (rest : List ℕ) → is_spaced behind (escaped_byte Text b ++ rest) ≡ (if is_blank b then not behind && is_spaced true rest else is_spaced false rest)
+SpacedByte b = (after : Bool) (rest : List ℕ) → is_spaced after (escaped_byte Text b ++ rest) ≡ (if is_blank b then not after && is_spaced true rest else is_spaced false rest)
 
 spaced_sign : OfSigns SpacedByte
-spaced_sign = (λ behind rest. refl, λ behind rest. refl, λ behind rest. refl, λ behind rest. refl, λ behind rest. refl, λ behind rest. refl, λ behind rest. refl, λ behind rest. refl, λ behind rest. refl, λ behind rest. refl, λ behind rest. refl)
+spaced_sign = (λ after rest. refl, λ after rest. refl, λ after rest. refl, λ after rest. refl, λ after rest. refl, λ after rest. refl, λ after rest. refl, λ after rest. refl, λ after rest. refl, λ after rest. refl, λ after rest. refl)
 
 spaced_plain : (b : ℕ) → IsPlain b → SpacedByte b
-spaced_plain b p behind rest =
-    ap (λ x. is_spaced behind (x ++ rest)) (plain_escaped Text b p)
+spaced_plain b p after rest =
+    ap (λ x. is_spaced after (x ++ rest)) (plain_escaped Text b p)
     ∙ rw (ne_eqb b 32 p.no_blank, ne_eqb b 9 p.no_tab, ne_eqb b 10 p.no_newline, ne_eqb b 34 p.no_double_quote) refl
 
-spaced_text : (behind : Bool) (text : List ℕ) → is_spaced behind (escaped Text text) ≡ is_spaced_text behind text
-spaced_text behind [] = refl
-spaced_text behind (b ∷ text) =
-    by_signs SpacedByte spaced_sign spaced_plain b behind (escaped Text text)
-    ∙ ap (λ x. if is_blank b then not behind && x else is_spaced false (escaped Text text)) (spaced_text true text)
-    ∙ ap (λ x. if is_blank b then not behind && is_spaced_text true text else x) (spaced_text false text)
+spaced_text : (after : Bool) (text : List ℕ) → is_spaced after (escaped Text text) ≡ is_spaced_text after text
+spaced_text after [] = refl
+spaced_text after (b ∷ text) =
+    by_signs SpacedByte spaced_sign spaced_plain b after (escaped Text text)
+    ∙ ap (λ x. if is_blank b then not after && x else is_spaced false (escaped Text text)) (spaced_text true text)
+    ∙ ap (λ x. if is_blank b then not after && is_spaced_text true text else x) (spaced_text false text)
 
-solid_step : (behind : Bool) (b : ℕ) (bytes : List ℕ) → list_all is_solid (b ∷ bytes) ≡ true → is_spaced false bytes ≡ true → is_spaced behind (b ∷ bytes) ≡ true
-solid_step behind b bytes h g =
+solid_step : (after : Bool) (b : ℕ) (bytes : List ℕ) → list_all is_solid (b ∷ bytes) ≡ true → is_spaced false bytes ≡ true → is_spaced after (b ∷ bytes) ≡ true
+solid_step after b bytes h g =
     let parts = and_parts (is_solid b) (list_all is_solid bytes) h in
     let both = solid_parts b parts.0 in
     rw (both.1, both.0) g

@@ -114,19 +114,19 @@ abbrev pub begins_word : Bool → List ℕ → Bool
 begins_word front [] = front
 begins_word front (b ∷ text) = is_blank (last_of b text)
 
-abbrev pub begins_behind : Bool → Piece → Bool
-begins_behind front (words text) = begins_word front text
-begins_behind front (literal text) = begins_word front text
-begins_behind front (value text) = begins_word front text
-begins_behind front (link text) = begins_word front text
-begins_behind front (page name) = false
+abbrev pub begins_after : Bool → Piece → Bool
+begins_after front (words text) = begins_word front text
+begins_after front (literal text) = begins_word front text
+begins_after front (value text) = begins_word front text
+begins_after front (link text) = begins_word front text
+begins_after front (page name) = false
 
 -- pieces, the first of which is at the front of a word or not
 abbrev pub pieces_from : Role → Bool → Bool → List ℕ → Line → List ℕ
 pieces_from role guarded front section [] = []
 pieces_from role guarded front section (piece ∷ line) =
     piece_text role (guarded && front) section piece
-    ++ pieces_from role guarded (begins_behind front piece) section line
+    ++ pieces_from role guarded (begins_after front piece) section line
 
 abbrev pub pieces_text : Role → Bool → List ℕ → Line → List ℕ
 pieces_text role guarded section line = pieces_from role guarded true section line
@@ -152,9 +152,9 @@ new_paragraph true = []
 new_paragraph false = codes ".PP\n"
 
 abbrev pub block_text : List ℕ → Bool → BlockSaid → List ℕ
-block_text section behind_heading (paragraph lines) = new_paragraph behind_heading ++ lines_text section lines
-block_text section behind_heading (code lines) = new_paragraph behind_heading ++ example_text lines
-block_text section behind_heading (bullets items) = flat_map (bullet_text section) items
+block_text section after_heading (paragraph lines) = new_paragraph after_heading ++ lines_text section lines
+block_text section after_heading (code lines) = new_paragraph after_heading ++ example_text lines
+block_text section after_heading (bullets items) = flat_map (bullet_text section) items
 
 abbrev pub inner_text : List ℕ → BlockSaid → List ℕ
 inner_text section (paragraph lines) = codes ".IP\n" ++ lines_text section lines
@@ -230,9 +230,9 @@ heading_name Subsection = codes ".SS "
 
 -- whether words have one blank between two, and none at their ends
 abbrev pub is_spaced_text : Bool → List ℕ → Bool
-is_spaced_text behind_blank [] = not behind_blank
-is_spaced_text behind_blank (b ∷ text) =
-    if is_blank b then not behind_blank && is_spaced_text true text else is_spaced_text false text
+is_spaced_text after_blank [] = not after_blank
+is_spaced_text after_blank (b ∷ text) =
+    if is_blank b then not after_blank && is_spaced_text true text else is_spaced_text false text
 
 -- a title; where blanks would not be kept, no line breaks at them
 abbrev pub title_text : List ℕ → List ℕ
@@ -246,10 +246,10 @@ heading_text rank title = heading_name rank ++ (title_text title ++ codes "\n")
 -- ---- the page
 
 abbrev pub part_text : List ℕ → Bool → PartSaid → List ℕ
-part_text section behind_heading (heading rank title) = heading_text rank title
-part_text section behind_heading (usage forms) = flat_map (form_text section) forms
-part_text section behind_heading (block shown) = block_text section behind_heading shown
-part_text section behind_heading (entries list) = flat_map (entry_text section) list
+part_text section after_heading (heading rank title) = heading_text rank title
+part_text section after_heading (usage forms) = flat_map (form_text section) forms
+part_text section after_heading (block shown) = block_text section after_heading shown
+part_text section after_heading (entries list) = flat_map (entry_text section) list
 
 abbrev pub is_heading : PartSaid → Bool
 is_heading (heading rank title) = true
@@ -258,9 +258,9 @@ is_heading (block shown) = false
 is_heading (entries list) = false
 
 abbrev pub parts_text : List ℕ → Bool → List PartSaid → List ℕ
-parts_text section behind_heading [] = []
-parts_text section behind_heading (part ∷ parts) =
-    part_text section behind_heading part ++ parts_text section (is_heading part) parts
+parts_text section after_heading [] = []
+parts_text section after_heading (part ∷ parts) =
+    part_text section after_heading part ++ parts_text section (is_heading part) parts
 
 abbrev pub title_line : TitleSaid → List ℕ
 title_line title =

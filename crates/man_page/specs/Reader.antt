@@ -297,10 +297,10 @@ pub data Request : Type 0 where
   Input : List ℕ → Request
 
 -- what follows these bytes
-abbrev pub behind : List ℕ → List ℕ → Option (List ℕ)
-behind [] bytes = Some bytes
-behind (b ∷ front) [] = None
-behind (b ∷ front) (c ∷ bytes) = if b == c then behind front bytes else None
+abbrev pub after : List ℕ → List ℕ → Option (List ℕ)
+after [] bytes = Some bytes
+after (b ∷ front) [] = None
+after (b ∷ front) (c ∷ bytes) = if b == c then after front bytes else None
 
 -- a request with words, where the line begins with its name
 abbrev pub request_with : (List ℕ → Request) → Option (List ℕ) → Option Request → Option Request
@@ -337,11 +337,11 @@ request_of line =
     else if bytes_eq line (codes ".EX") then Some StartExample
     else if bytes_eq line (codes ".EE") then Some EndExample
     else if bytes_eq line (codes ".YS") then Some EndSynopsis
-    else indent_with (behind (codes ".RS ") line)
-    (request_with SectionHeading (behind (codes ".SH ") line)
-    (request_with SubsectionHeading (behind (codes ".SS ") line)
-    (request_with StartSynopsis (behind (codes ".SY ") line)
-    (request_with TitleLine (behind (codes ".TH ") line) None))))
+    else indent_with (after (codes ".RS ") line)
+    (request_with SectionHeading (after (codes ".SH ") line)
+    (request_with SubsectionHeading (after (codes ".SS ") line)
+    (request_with StartSynopsis (after (codes ".SY ") line)
+    (request_with TitleLine (after (codes ".TH ") line) None))))
 
 -- a line that begins with a dot is a request, and one that begins with a quote is one of another kind
 abbrev pub line_of : List ℕ → Option Request
@@ -466,9 +466,9 @@ if_open read next = if is_open read.stand then next else None
 -- Words with one blank between two are shown as they stand: in double quotes, with more blanks or with none they are
 -- not of this part.
 abbrev pub is_spaced : Bool → List ℕ → Bool
-is_spaced behind_blank [] = not behind_blank
-is_spaced behind_blank (b ∷ bytes) =
-    if b == blank then not behind_blank && is_spaced true bytes else not (b == double_quote) && is_spaced false bytes
+is_spaced after_blank [] = not after_blank
+is_spaced after_blank (b ∷ bytes) =
+    if b == blank then not after_blank && is_spaced true bytes else not (b == double_quote) && is_spaced false bytes
 
 abbrev pub heading_glyphs : List ℕ → Option (List Glyph)
 heading_glyphs words = if is_spaced true words then glyphs false words else None

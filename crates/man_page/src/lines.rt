@@ -5,7 +5,7 @@ ghost use Rattle.std.specs.Prelude.{string_bytes};
 ghost use Rattle.std.specs.List.{list_any};
 ghost use Rattle.page_model.specs.Content.{page};
 ghost use Rattle.page_model.specs.View.{line_of, piece_of};
-ghost use Rattle.man_page.specs.Exact.{begins_behind, begins_word, code_front, code_line, ends_sentence, escaped};
+ghost use Rattle.man_page.specs.Exact.{begins_after, begins_word, code_front, code_line, ends_sentence, escaped};
 ghost use Rattle.man_page.specs.Exact.{input_line, is_blank, is_closing, is_glyph_first, is_letter, is_stop};
 ghost use Rattle.man_page.specs.Exact.{item_back, line_back, line_front, piece_bytes, piece_text, pieces_from};
 ghost use Rattle.man_page.specs.Exact.{pieces_text, unhyphenated};
@@ -119,8 +119,8 @@ fn begins_word(text: &str, is_at_front: bool) -> bool
     is_blank(bytes[bytes.len() - 1])
 }
 
-fn begins_behind(piece: Inline<'_>, is_at_front: bool) -> bool
-    ensures { result ≡ begins_behind is_at_front (piece_of piece.entry) }
+fn begins_after(piece: Inline<'_>, is_at_front: bool) -> bool
+    ensures { result ≡ begins_after is_at_front (piece_of piece.entry) }
 {
     match piece {
         Inline::Words(text) | Inline::Literal(text) | Inline::Value(text) | Inline::Link(text) => {
@@ -152,7 +152,7 @@ pub fn push_pieces<A: Allocator>(
                 ..manner
             },
         )?;
-        is_at_front = begins_behind(*piece, is_at_front);
+        is_at_front = begins_after(*piece, is_at_front);
     }
     Ok(())
 }

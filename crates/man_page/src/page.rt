@@ -150,28 +150,28 @@ fn push_bullets<A: Allocator, B: Allocator>(
     Ok(())
 }
 
-fn new_paragraph(is_behind_heading: bool) -> &'static str
-    ensures { result.now ≡ new_paragraph is_behind_heading }
+fn new_paragraph(is_after_heading: bool) -> &'static str
+    ensures { result.now ≡ new_paragraph is_after_heading }
 {
-    if is_behind_heading { "" } else { ".PP\n" }
+    if is_after_heading { "" } else { ".PP\n" }
 }
 
 fn push_block<A: Allocator, B: Allocator>(
     writer: &mut Writer<A>,
     block: &Block<'_, B>,
     section: &str,
-    is_behind_heading: bool,
+    is_after_heading: bool,
 ) -> Result<(), AllocError>
     ensures { OnOk result (string_bytes writer.new.page
-        ≡ string_bytes writer.old.page ++ block_text section.now is_behind_heading (block_of block.now)) }
+        ≡ string_bytes writer.old.page ++ block_text section.now is_after_heading (block_of block.now)) }
 {
     match block {
         Block::Paragraph(lines) => {
-            writer.page.push_str(new_paragraph(is_behind_heading))?;
+            writer.page.push_str(new_paragraph(is_after_heading))?;
             push_lines(writer, lines.as_slice(), section)
         }
         Block::Code(lines) => {
-            writer.page.push_str(new_paragraph(is_behind_heading))?;
+            writer.page.push_str(new_paragraph(is_after_heading))?;
             push_example(writer, lines.as_slice())
         }
         Block::List(items) => push_bullets(writer, items.as_slice(), section),
@@ -425,15 +425,15 @@ fn is_spaced(title: &str) -> bool
     ensures { result ≡ is_spaced_text true title.now }
 {
     let bytes = title.as_bytes();
-    let mut is_behind_blank = true;
+    let mut is_after_blank = true;
     for byte in bytes {
         let is_blank_here = is_blank(*byte);
-        if is_blank_here && is_behind_blank {
+        if is_blank_here && is_after_blank {
             return false;
         }
-        is_behind_blank = is_blank_here;
+        is_after_blank = is_blank_here;
     }
-    !is_behind_blank
+    !is_after_blank
 }
 
 fn role_of_title(title: &str) -> Role
@@ -504,15 +504,15 @@ fn push_part<A: Allocator, B: Allocator>(
     writer: &mut Writer<A>,
     part: &Part<'_, B>,
     section: &str,
-    is_behind_heading: bool,
+    is_after_heading: bool,
 ) -> Result<(), AllocError>
     ensures { OnOk result (string_bytes writer.new.page
-        ≡ string_bytes writer.old.page ++ part_text section.now is_behind_heading (part_of part.now)) }
+        ≡ string_bytes writer.old.page ++ part_text section.now is_after_heading (part_of part.now)) }
 {
     match part {
         Part::Heading(rank, title) => push_heading(&mut writer.page, *rank, title),
         Part::Usage(forms) => push_forms(writer, forms.as_slice(), section),
-        Part::Block(block) => push_block(writer, block, section, is_behind_heading),
+        Part::Block(block) => push_block(writer, block, section, is_after_heading),
         Part::Entries(entries) => push_entries(writer, entries.as_slice(), section),
     }
 }
@@ -531,10 +531,10 @@ fn push_page_parts<A: Allocator, B: Allocator>(
     ensures { OnOk result (string_bytes writer.new.page
         ≡ string_bytes writer.old.page ++ parts_text section.now false (map part_of parts.now)) }
 {
-    let mut is_behind_heading = false;
+    let mut is_after_heading = false;
     for part in parts {
-        push_part(writer, part, section, is_behind_heading)?;
-        is_behind_heading = is_heading(part);
+        push_part(writer, part, section, is_after_heading)?;
+        is_after_heading = is_heading(part);
     }
     Ok(())
 }

@@ -14,7 +14,7 @@ use Rattle.markdown_page.specs.Sheet.{Glyph, Said, Heading, Item, Paragraph, Cod
 use Rattle.markdown_page.specs.Kept.{block_kept, body_kept, code_byte, code_kept, dash, entry_kept, item_kept, line_kept, line_shown, paragraph_kept, plain, rank_kept, seen, terms_shown}
 use Rattle.markdown_page.specs.Exact.{block_text, body_text, code_line, code_text, entry_text, further_line, indent, indented, item_text, line_text, lines_text, longest_of, paragraph_text, rank_text, terms_text, title_text, written}
 use Rattle.markdown_page.specs.Reader
-use Rattle.markdown_page.specs.Reader.{Between, Broken, FenceLine, Fenced, Filled, HeadingLine, Inlines, ItemLine, Kind, Reading, Stand, TextLine, Within, deeper, fenced_line, fenced_line_in, heading_line, inlines, is_code_byte, is_fence, is_open, is_text_line, item_line, kind_of, line_if, line_of, lines, longest_run, new_paragraph, next_line, on_last, page_of, same_paragraph, stand_behind, text_line, whole_page, with_heading, with_line, within}
+use Rattle.markdown_page.specs.Reader.{Between, Broken, FenceLine, Fenced, Filled, HeadingLine, Inlines, ItemLine, Kind, Reading, Stand, TextLine, Within, deeper, fenced_line, fenced_line_in, heading_line, inlines, is_code_byte, is_fence, is_open, is_text_line, item_line, kind_of, line_if, line_of, lines, longest_run, new_paragraph, next_line, on_last, page_of, same_paragraph, stand_after, text_line, whole_page, with_heading, with_line, within}
 use Rattle.markdown_page.proofs.Bools.{all_both, bool_cases, not_false, not_true, or_false, weaker}
 use Rattle.markdown_page.proofs.Loops.{at_least}
 use Rattle.markdown_page.proofs.Fronts.{graves_fence}
@@ -54,12 +54,12 @@ step r line true b more = refl
 step r line false b [] = refl
 step r line false b (next ∷ more) = refl
 
-page_behind : (r : Option Reading) (line rest : List ℕ) → page_of r (line ∷ lines rest) ≡ page_from (next_line r line) rest
-page_behind r line [] = refl
-page_behind r line (b ∷ rest) = step r line (b == 10) b (lines rest)
+page_after : (r : Option Reading) (line rest : List ℕ) → page_of r (line ∷ lines rest) ≡ page_from (next_line r line) rest
+page_after r line [] = refl
+page_after r line (b ∷ rest) = step r line (b == 10) b (lines rest)
 
 pub leads_line : (line : List ℕ) (r s : Option Reading) → list_all is_in_line line ≡ true → next_line r line ≡ s → Leads (line ++ codes "\n") r s
-leads_line line r s h e = record { reads = λ rest. ap (page_of r) (split_line line rest h) ∙ page_behind r line rest ∙ ap (λ x. page_from x rest) e }
+leads_line line r s h e = record { reads = λ rest. ap (page_of r) (split_line line rest h) ∙ page_after r line rest ∙ ap (λ x. page_from x rest) e }
 
 -- ---- how many items are open: those of a level, and more
 
@@ -138,7 +138,7 @@ in_paragraph said level lines = said ++ Paragraph level lines ∷ []
 -- a line after this prefix comes after these lines of a paragraph
 abbrev TakesLine : Option Reading → List ℕ → List Said → ℕ → List (List Glyph) → Type 0
 TakesLine from prefix said level before = (line : List ℕ) (x : Inlines) → Reads line x
-    → next_line from (prefix ++ line) ≡ on (in_paragraph said level (before ++ x.shown ∷ [])) level (stand_behind x.breaks)
+    → next_line from (prefix ++ line) ≡ on (in_paragraph said level (before ++ x.shown ∷ [])) level (stand_after x.breaks)
 
 paragraph_takes : (said : List Said) (level more : ℕ) → TakesLine (on said (above level more) Between) (indent level) said level []
 paragraph_takes said level more [] x p = let no : false ≡ true = p.text in cc
@@ -146,10 +146,10 @@ paragraph_takes said level more (b ∷ line) x p =
     next_open said level more Between b line TextLine refl (text_first b line p.text) (text_kind (b ∷ line) p.text)
     ∙ ap (new_paragraph said level) p.shows
 
-on_last_behind : (change : Said → Said) (said : List Said) (last : Said) → on_last change (said ++ last ∷ []) ≡ said ++ change last ∷ []
-on_last_behind change [] last = refl
-on_last_behind change (x ∷ []) last = refl
-on_last_behind change (x ∷ y ∷ said) last = ap (λ xs. x ∷ xs) (on_last_behind change (y ∷ said) last)
+on_last_after : (change : Said → Said) (said : List Said) (last : Said) → on_last change (said ++ last ∷ []) ≡ said ++ change last ∷ []
+on_last_after change [] last = refl
+on_last_after change (x ∷ []) last = refl
+on_last_after change (x ∷ y ∷ said) last = ap (λ xs. x ∷ xs) (on_last_after change (y ∷ said) last)
 
 break_takes : (said : List Said) (level : ℕ) (before : List (List Glyph)) → TakesLine (on (in_paragraph said level before) level Broken) (indent level) said level before
 break_takes said level before [] x p = let no : false ≡ true = p.text in cc
@@ -161,7 +161,7 @@ break_takes said level before (b ∷ line) x p =
     ∙ ap (line_if read (in_level level (b ∷ line))) (text_kind (b ∷ line) p.text)
     ∙ ap (λ (y : Bool). if y then same_paragraph read (inlines false (b ∷ line)) else None) same
     ∙ ap (same_paragraph read) p.shows
-    ∙ ap (λ y. on y level (stand_behind x.breaks)) (on_last_behind (λ last. with_line last x.shown) said (Paragraph level before))
+    ∙ ap (λ y. on y level (stand_after x.breaks)) (on_last_after (λ last. with_line last x.shown) said (Paragraph level before))
 
 item_takes : (said : List Said) (level more : ℕ) (stand : Stand) → is_open stand ≡ true
     → TakesLine (on said (above level more) stand) (indent level ++ codes "- ") (said ++ Item level ∷ []) (suc level) []
@@ -414,9 +414,9 @@ block_comes level (bullets items) said more stand h o =
 -- ---- entries
 
 -- what follows the first lines of an entry, in its item
-behind_first : (said : List Said) (blocks : List BlockSaid) → list_all is_permitted_block blocks ≡ true
+after_first : (said : List Said) (blocks : List BlockSaid) → list_all is_permitted_block blocks ≡ true
     → Comes (flat_map (block_text 1) blocks) (on said 1 Filled) 1 (said ++ flat_map (block_kept 1) blocks)
-behind_first said blocks h = each_comes 1 (block_text 1) (block_kept 1) is_permitted_block (block_comes 1) blocks said 0 Filled h refl
+after_first said blocks h = each_comes 1 (block_text 1) (block_kept 1) is_permitted_block (block_comes 1) blocks said 0 Filled h refl
 
 -- the items that are open in an item are open at the top too
 out_of_item : {bytes : List ℕ} {from : Option Reading} {said : List Said} → Comes bytes from 1 said → Comes bytes from 0 said
@@ -427,7 +427,7 @@ entry_parts : (said : List Said) (more : ℕ) (stand : Stand) → is_open stand 
 entry_parts said more stand o body glyphs p lines blocks h g =
     let first : List Said = Item 0 ∷ Paragraph 1 (seen glyphs ∷ map line_kept lines) ∷ [] in
     comes_front (item_lead 0 said more stand o body glyphs p lines h)
-    (comes_to (append_assoc said first (flat_map (block_kept 1) blocks)) (out_of_item (behind_first (said ++ first) blocks g)))
+    (comes_to (append_assoc said first (flat_map (block_kept 1) blocks)) (out_of_item (after_first (said ++ first) blocks g)))
 
 body_comes : (name : Option TargetSaid) (terms : List Line) (body : List BlockSaid) (said : List Said) (more : ℕ) (stand : Stand) → list_all is_permitted_line terms ≡ true → list_all is_permitted_block body ≡ true → is_open stand ≡ true
     → Comes (codes "- " ++ body_text (terms_text name terms) body) (on said more stand) 0 (said ++ Item 0 ∷ body_kept (terms_shown name terms) body)

@@ -34,13 +34,13 @@ left true y h = refl
 left false y h = absurd cc
 
 -- a byte after a backslash is a character, and no white space
-pub marked_is : (heading behind : Bool) (b : ℕ) (text : List ℕ) → is_escaped heading behind b text ≡ true → IsMark b
-marked_is heading behind b text h = elim (or_cases (is_sign b || (b == 35 && heading) || (b == 95 && not (behind && begins_in_word text)) || (b == 38 && may_refer text)) (b == 33 && is_end text) h) [
+pub marked_is : (heading after : Bool) (b : ℕ) (text : List ℕ) → is_escaped heading after b text ≡ true → IsMark b
+marked_is heading after b text h = elim (or_cases (is_sign b || (b == 35 && heading) || (b == 95 && not (after && begins_in_word text)) || (b == 38 && may_refer text)) (b == 33 && is_end text) h) [
   | inr e ↦ mark_at b 33 (omega arith, refl) (left (b == 33) (is_end text) e)
-  | inl h1 ↦ elim (or_cases (is_sign b || (b == 35 && heading) || (b == 95 && not (behind && begins_in_word text))) (b == 38 && may_refer text) h1) [
+  | inl h1 ↦ elim (or_cases (is_sign b || (b == 35 && heading) || (b == 95 && not (after && begins_in_word text))) (b == 38 && may_refer text) h1) [
     | inr e ↦ mark_at b 38 (omega arith, refl) (left (b == 38) (may_refer text) e)
-    | inl h2 ↦ elim (or_cases (is_sign b || (b == 35 && heading)) (b == 95 && not (behind && begins_in_word text)) h2) [
-      | inr e ↦ mark_at b 95 (omega arith, refl) (left (b == 95) (not (behind && begins_in_word text)) e)
+    | inl h2 ↦ elim (or_cases (is_sign b || (b == 35 && heading)) (b == 95 && not (after && begins_in_word text)) h2) [
+      | inr e ↦ mark_at b 95 (omega arith, refl) (left (b == 95) (not (after && begins_in_word text)) e)
       | inl h3 ↦ elim (or_cases (is_sign b) (b == 35 && heading) h3) [ inl e ↦ sign_is b e | inr e ↦ mark_at b 35 (omega arith, refl) (left (b == 35) heading e) ]
     ]
   ]
@@ -51,9 +51,9 @@ run_more text start at le h = grind (arith, length-drop start text, take_more (d
 
 -- what is written, what follows it and what is written of the others
 abbrev pub Written : Bool → List ℕ → List ℕ → List ℕ → ℕ → ℕ → Bool → Type 0
-Written heading text first out start at behind = out ++ (take (at - start) (drop start text) ++ escaped heading behind (drop at text)) ≡ first ++ escaped heading false text
+Written heading text first out start at after = out ++ (take (at - start) (drop start text) ++ escaped heading after (drop at text)) ≡ first ++ escaped heading false text
 
-module _ (heading : Bool) (text first out : List ℕ) (start at : ℕ) (behind : Bool) (le : start ≤ at) (h : at < length text) where
+module _ (heading : Bool) (text first out : List ℕ) (start at : ℕ) (after : Bool) (le : start ≤ at) (h : at < length text) where
   abbrev byte : ℕ
   byte = get_or text at 0
 
@@ -63,10 +63,10 @@ module _ (heading : Bool) (text first out : List ℕ) (start at : ℕ) (behind :
   abbrev so_far : List ℕ
   so_far = take (at - start) (drop start text)
 
-  next_is : Written heading text first out start at behind → out ++ (so_far ++ (mark_if (is_escaped heading behind byte rest) ++ (stand_for byte ++ escaped heading (is_word byte) rest))) ≡ first ++ escaped heading false text
-  next_is w = ap (λ x. out ++ (so_far ++ escaped heading behind x)) (sym (drop_next text at 0 h)) ∙ w
+  next_is : Written heading text first out start at after → out ++ (so_far ++ (mark_if (is_escaped heading after byte rest) ++ (stand_for byte ++ escaped heading (is_word byte) rest))) ≡ first ++ escaped heading false text
+  next_is w = ap (λ x. out ++ (so_far ++ escaped heading after x)) (sym (drop_next text at 0 h)) ∙ w
 
-  pub bare_step : is_escaped heading behind byte rest ≡ false → stand_for byte ≡ byte ∷ [] → Written heading text first out start at behind → Written heading text first out start (at + 1) (is_word byte)
+  pub bare_step : is_escaped heading after byte rest ≡ false → stand_for byte ≡ byte ∷ [] → Written heading text first out start at after → Written heading text first out start (at + 1) (is_word byte)
   bare_step e s w =
       ap (λ x. out ++ (x ++ escaped heading (is_word byte) rest)) (run_more text start at le h)
       ∙ ap (λ x. out ++ x) (append_assoc so_far (byte ∷ []) (escaped heading (is_word byte) rest))
@@ -77,7 +77,7 @@ module _ (heading : Bool) (text first out : List ℕ) (start at : ℕ) (behind :
   take_one : take (at + 1 - at) (drop at text) ≡ byte ∷ []
   take_one = ap (λ n. take n (drop at text)) (let e : at + 1 - at ≡ 1 = omega arith in e) ∙ ap (take 1) (drop_next text at 0 h)
 
-  pub marked_step : (mid new : List ℕ) → mid ≡ out ++ so_far → new ≡ mid ++ codes "\\" → is_escaped heading behind byte rest ≡ true → stand_for byte ≡ byte ∷ [] → Written heading text first out start at behind → Written heading text first new at (at + 1) (is_word byte)
+  pub marked_step : (mid new : List ℕ) → mid ≡ out ++ so_far → new ≡ mid ++ codes "\\" → is_escaped heading after byte rest ≡ true → stand_for byte ≡ byte ∷ [] → Written heading text first out start at after → Written heading text first new at (at + 1) (is_word byte)
   marked_step mid new m n e s w =
       ap (λ x. new ++ (x ++ escaped heading (is_word byte) rest)) take_one
       ∙ ap (λ x. x ++ (byte ∷ escaped heading (is_word byte) rest)) (n ∙ ap (λ x. x ++ codes "\\") m)
@@ -89,7 +89,7 @@ module _ (heading : Bool) (text first out : List ℕ) (start at : ℕ) (behind :
   take_none : take (at + 1 - (at + 1)) (drop (at + 1) text) ≡ []
   take_none = ap (λ n. take n (drop (at + 1) text)) (let e : at + 1 - (at + 1) ≡ 0 = omega arith in e)
 
-  pub replaced_step : (mid new put : List ℕ) → mid ≡ out ++ so_far → new ≡ mid ++ put → is_escaped heading behind byte rest ≡ false → stand_for byte ≡ put → Written heading text first out start at behind → Written heading text first new (at + 1) (at + 1) (is_word byte)
+  pub replaced_step : (mid new put : List ℕ) → mid ≡ out ++ so_far → new ≡ mid ++ put → is_escaped heading after byte rest ≡ false → stand_for byte ≡ put → Written heading text first out start at after → Written heading text first new (at + 1) (at + 1) (is_word byte)
   replaced_step mid new put m n e s w =
       ap (λ x. new ++ (x ++ escaped heading (is_word byte) rest)) take_none
       ∙ ap (λ x. x ++ escaped heading (is_word byte) rest) (n ∙ ap (λ x. x ++ put) m)
@@ -99,10 +99,10 @@ module _ (heading : Bool) (text first out : List ℕ) (start at : ℕ) (behind :
       ∙ next_is w
 
 -- what the loop sees of the text
-pub seen_escaped : (heading behind : Bool) (bytes text : List ℕ) (at : ℕ) (test : Bool) → bytes ≡ text → test ≡ is_escaped heading behind (get_or bytes at 0) (take (length bytes - (at + 1)) (drop (at + 1) bytes)) → is_escaped heading behind (get_or text at 0) (drop (at + 1) text) ≡ test
-seen_escaped heading behind bytes text at test e t =
+pub seen_escaped : (heading after : Bool) (bytes text : List ℕ) (at : ℕ) (test : Bool) → bytes ≡ text → test ≡ is_escaped heading after (get_or bytes at 0) (take (length bytes - (at + 1)) (drop (at + 1) bytes)) → is_escaped heading after (get_or text at 0) (drop (at + 1) text) ≡ test
+seen_escaped heading after bytes text at test e t =
     let fits : length (drop (at + 1) bytes) ≤ length bytes - (at + 1) = let l = length-drop (at + 1) bytes in omega arith in
-    sym (t ∙ ap (is_escaped heading behind (get_or bytes at 0)) (take_all (length bytes - (at + 1)) (drop (at + 1) bytes) fits) ∙ ap (λ x. is_escaped heading behind (get_or x at 0) (drop (at + 1) x)) e)
+    sym (t ∙ ap (is_escaped heading after (get_or bytes at 0)) (take_all (length bytes - (at + 1)) (drop (at + 1) bytes) fits) ∙ ap (λ x. is_escaped heading after (get_or x at 0) (drop (at + 1) x)) e)
 
 pub replaced_small : (b : ℕ) → (b == 9 || b == 10 || b == 123) ≡ true → b < 128
 replaced_small b h = elim (or_cases (b == 9 || b == 10) (b == 123) h) [

@@ -95,16 +95,16 @@ pub digits_boundary : (line : List ℕ) → IsUtf8 line → IsCharBoundary line 
 digits_boundary line u = boundary_at line (digits_of line) u (digits_few line) (digits_small line)
 
 abbrev from_digits : Bool → ℕ → List ℕ → List ℕ
-from_digits behind n line = take n line ++ (front_mark behind (drop n line) ++ with_end (drop n line))
+from_digits after n line = take n line ++ (front_mark after (drop n line) ++ with_end (drop n line))
 
-guarded_from : (behind : Bool) (line : List ℕ) → guarded behind line ≡ from_digits (behind || nat_lt 0 (digits_of line)) (digits_of line) line
-guarded_from behind [] = refl
-guarded_from behind (b ∷ line) = elim (bool_cases (is_digit b)) [
+guarded_from : (after : Bool) (line : List ℕ) → guarded after line ≡ from_digits (after || nat_lt 0 (digits_of line)) (digits_of line) line
+guarded_from after [] = refl
+guarded_from after (b ∷ line) = elim (bool_cases (is_digit b)) [
   | inl e ↦
       let some : nat_lt 0 (suc (digits_of line)) ≡ true = lt-ltb 0 (suc (digits_of line)) (omega arith) in
       let or_true : (x : Bool) → (x || true) ≡ true = or-true in
-      rw (e, some, or_true behind) (ap (λ x. b ∷ x) (guarded_from true line))
-  | inr e ↦ rw e (ap (λ (x : Bool). mark_if (wants_mark x b) ++ with_end (b ∷ line)) (sym (or-false behind)))
+      rw (e, some, or_true after) (ap (λ x. b ∷ x) (guarded_from true line))
+  | inr e ↦ rw e (ap (λ (x : Bool). mark_if (wants_mark x b) ++ with_end (b ∷ line)) (sym (or-false after)))
 ]
 
 pub guarded_is : (line : List ℕ) → guarded false line ≡ take (digits_of line) line ++ (front_mark (nat_lt 0 (digits_of line)) (drop (digits_of line) line) ++ with_end (drop (digits_of line) line))

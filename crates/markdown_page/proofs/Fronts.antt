@@ -8,7 +8,7 @@ use Rattle.page_model.specs.Permitted.{are_permitted, is_permitted_line}
 use Rattle.markdown_page.specs.Bytes.{graves, holds_definition, is_grave}
 use Rattle.markdown_page.specs.Sheet.{Glyph}
 use Rattle.markdown_page.specs.Kept.{first_term, further_term, is_link, line_bytes, line_shown, piece_shown, plain, shown_byte, spanned, target_address, terms_shown}
-use Rattle.markdown_page.specs.Exact.{behind_literal, escaped, first_span, further_span, leading_span, link_text, page_link, pieces_text, span_left, span_text, terms_text}
+use Rattle.markdown_page.specs.Exact.{after_literal, escaped, first_span, further_span, leading_span, link_text, page_link, pieces_text, span_left, span_text, terms_text}
 use Rattle.markdown_page.specs.Reader.{code_glyph, is_fence}
 use Rattle.markdown_page.proofs.Bools.{all_both, and_right, bool_cases, not_true}
 use Rattle.markdown_page.proofs.Spans.{is_solid, span_form}
@@ -24,13 +24,13 @@ pub graves_fence : (m n : ℕ) (text : List ℕ) → is_fence n (graves m ++ tex
 graves_fence zero n text = ap (λ x. is_fence x text) (let e : n ≡ 0 + n = omega arith in e)
 graves_fence (suc m) n text = graves_fence m (suc n) text ∙ ap (λ x. is_fence x text) (let e : m + suc n ≡ suc m + n = omega arith in e)
 
-any_behind : (p : ℕ → Bool) (a b : List ℕ) → list_any p b ≡ true → list_any p (a ++ b) ≡ true
-any_behind p [] b h = h
-any_behind p (x ∷ a) b h = elim (bool_cases (p x)) [ inl e ↦ rw e refl | inr e ↦ rw e (any_behind p a b h) ]
+any_after : (p : ℕ → Bool) (a b : List ℕ) → list_any p b ≡ true → list_any p (a ++ b) ≡ true
+any_after p [] b h = h
+any_after p (x ∷ a) b h = elim (bool_cases (p x)) [ inl e ↦ rw e refl | inr e ↦ rw e (any_after p a b h) ]
 
 between_fence : (n first : ℕ) (more rest : List ℕ) (count : ℕ) → (first == 96) ≡ false → is_fence n (((first ∷ more) ++ graves (suc count)) ++ rest) ≡ false
 between_fence n first more rest count h =
-    let any : list_any is_grave ((more ++ graves (suc count)) ++ rest) ≡ true = ap (list_any is_grave) (append_assoc more (graves (suc count)) rest) ∙ any_behind is_grave more (graves (suc count) ++ rest) refl in
+    let any : list_any is_grave ((more ++ graves (suc count)) ++ rest) ≡ true = ap (list_any is_grave) (append_assoc more (graves (suc count)) rest) ∙ any_after is_grave more (graves (suc count) ++ rest) refl in
     rw (h, any) (and_right (nat_le 3 n) false refl)
 
 pub span_fence : (text rest : List ℕ) → list_all is_solid text ≡ true → is_fence 0 rest ≡ false → is_fence 0 (span_text text ++ rest) ≡ false
@@ -49,15 +49,15 @@ piece_fence span written more solid free = ap (is_fence 0) (append_assoc (span_t
 abbrev NoFence : Line → Type 0
 NoFence line = (span : List ℕ) → list_all is_solid span ≡ true → is_fence 0 (pieces_text span line) ≡ false
 
-plain_fence : (line : Line) → NoFence line → (text : List ℕ) (span : List ℕ) → list_all is_solid span ≡ true → is_fence 0 (behind_literal span text (escaped false false text) ++ pieces_text (span_left span text) line) ≡ false
+plain_fence : (line : Line) → NoFence line → (text : List ℕ) (span : List ℕ) → list_all is_solid span ≡ true → is_fence 0 (after_literal span text (escaped false false text) ++ pieces_text (span_left span text) line) ≡ false
 plain_fence line later [] span solid = later span solid
 plain_fence line later (b ∷ text) span solid = piece_fence span (escaped false false (b ∷ text)) (pieces_text [] line) solid (escaped_free false false b text)
 
-link_fence : (line : Line) → NoFence line → (text : List ℕ) (span : List ℕ) → list_all is_solid span ≡ true → is_fence 0 (behind_literal span text (link_text text) ++ pieces_text (span_left span text) line) ≡ false
+link_fence : (line : Line) → NoFence line → (text : List ℕ) (span : List ℕ) → list_all is_solid span ≡ true → is_fence 0 (after_literal span text (link_text text) ++ pieces_text (span_left span text) line) ≡ false
 link_fence line later [] span solid = later span solid
 link_fence line later (b ∷ text) span solid = piece_fence span (link_text (b ∷ text)) (pieces_text [] line) solid (link_written (is_link (b ∷ text)) b text)
 
-page_fence : (line : Line) → NoFence line → (name : List ℕ) (span : List ℕ) → list_all is_solid span ≡ true → is_fence 0 (behind_literal span name (page_link name) ++ pieces_text (span_left span name) line) ≡ false
+page_fence : (line : Line) → NoFence line → (name : List ℕ) (span : List ℕ) → list_all is_solid span ≡ true → is_fence 0 (after_literal span name (page_link name) ++ pieces_text (span_left span name) line) ≡ false
 page_fence line later [] span solid = later span solid
 page_fence line later (b ∷ name) span solid = piece_fence span (page_link (b ∷ name)) (pieces_text [] line) solid refl
 
@@ -129,18 +129,18 @@ piece_alike line later span written g h =
     subst (λ x. AreAlike ((span_text span ++ written) ++ pieces_text [] line) x) (append_assoc (map code_glyph span) g (line_shown line))
     (alike_both (span_text span ++ written) (pieces_text [] line) (map code_glyph span ++ g) (line_shown line) (alike_both (span_text span) written (map code_glyph span) g (span_alike span) h) (later []))
 
-plain_alike : (line : Line) → LinesAlike line → (text span : List ℕ) → AreAlike (behind_literal span text (escaped false false text) ++ pieces_text (span_left span text) line) (map code_glyph span ++ (plain text ++ line_shown line))
+plain_alike : (line : Line) → LinesAlike line → (text span : List ℕ) → AreAlike (after_literal span text (escaped false false text) ++ pieces_text (span_left span text) line) (map code_glyph span ++ (plain text ++ line_shown line))
 plain_alike line later [] span = later span
 plain_alike line later (b ∷ text) span = piece_alike line later span (escaped false false (b ∷ text)) (plain (b ∷ text)) (free_alike (escaped false false (b ∷ text)) (plain (b ∷ text)) refl (escaped_free false false b text))
 
 link_shown_alike : (b : ℕ) (text : List ℕ) → AreAlike (link_text (b ∷ text)) (piece_shown (link (b ∷ text)))
 link_shown_alike b text = elim (bool_cases (is_link (b ∷ text))) [ inl e ↦ rw e refl | inr e ↦ rw e (free_alike (escaped false false (b ∷ text)) (plain (b ∷ text)) refl (escaped_free false false b text)) ]
 
-link_alike : (line : Line) → LinesAlike line → (text span : List ℕ) → AreAlike (behind_literal span text (link_text text) ++ pieces_text (span_left span text) line) (map code_glyph span ++ (piece_shown (link text) ++ line_shown line))
+link_alike : (line : Line) → LinesAlike line → (text span : List ℕ) → AreAlike (after_literal span text (link_text text) ++ pieces_text (span_left span text) line) (map code_glyph span ++ (piece_shown (link text) ++ line_shown line))
 link_alike line later [] span = later span
 link_alike line later (b ∷ text) span = piece_alike line later span (link_text (b ∷ text)) (piece_shown (link (b ∷ text))) (link_shown_alike b text)
 
-page_alike : (line : Line) → LinesAlike line → (name span : List ℕ) → AreAlike (behind_literal span name (page_link name) ++ pieces_text (span_left span name) line) (map code_glyph span ++ (piece_shown (page name) ++ line_shown line))
+page_alike : (line : Line) → LinesAlike line → (name span : List ℕ) → AreAlike (after_literal span name (page_link name) ++ pieces_text (span_left span name) line) (map code_glyph span ++ (piece_shown (page name) ++ line_shown line))
 page_alike line later [] span = later span
 page_alike line later (b ∷ name) span = piece_alike line later span (page_link (b ∷ name)) (piece_shown (page (b ∷ name))) refl
 

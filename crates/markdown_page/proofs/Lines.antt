@@ -11,7 +11,7 @@ use Rattle.markdown_page.specs.Sheet.{Glyph}
 use Rattle.markdown_page.specs.Kept.{dash, line_shown, plain, seen, terms_shown}
 use Rattle.markdown_page.specs.Exact.{escaped, framed, guarded, kept_blank, line_text, mark_if, terms_text, title_text, wants_mark, with_end, written}
 use Rattle.markdown_page.specs.Reader
-use Rattle.markdown_page.specs.Reader.{Address, Ampersand, Auto, Before, Bracket, Entity, Escape, Inlines, Mode, Number, Opening, Other, Span, Text, Underscore, before_of, behind_span, begins_in_blank, code_glyph, end_of_line, ends_in_blank, inlines, is_block_mark, is_control, is_fence, is_numbered, is_text_line, is_within_link, kind_of, TextLine, last_or, next_byte, plain_glyph, shows, start_of_line, text_byte_if, unpadded}
+use Rattle.markdown_page.specs.Reader.{Address, Ampersand, Auto, Before, Bracket, Entity, Escape, Inlines, Mode, Number, Opening, Other, Span, Text, Underscore, before_of, after_span, begins_in_blank, code_glyph, end_of_line, ends_in_blank, inlines, is_block_mark, is_control, is_fence, is_numbered, is_text_line, is_within_link, kind_of, TextLine, last_or, next_byte, plain_glyph, shows, start_of_line, text_byte_if, unpadded}
 use Rattle.markdown_page.proofs.Bools.{bool_cases, digit_range, not_false, or_cases, or_from}
 use Rattle.markdown_page.proofs.Texts.{at, finish, plain_next, run, text_reads, word_control, word_is_plain}
 use Rattle.markdown_page.proofs.Spans.{no_grave_first}
@@ -50,21 +50,21 @@ abbrev BlankKept : Bool → Mode → Type 0
 BlankKept heading mode = (outside : Option (List Glyph)) (shown : List Glyph) (breaks : Bool) (x : Inlines)
     → finish heading (next_byte heading (at outside shown mode) 32) (tail breaks) ≡ Some x → finish heading (at outside shown mode) (kept_blank ++ tail breaks) ≡ Some x
 
-behind_some : (heading : Bool) (test : Bool) (line : Reader.Line) (breaks : Bool) (x : Inlines)
+after_some : (heading : Bool) (test : Bool) (line : Reader.Line) (breaks : Bool) (x : Inlines)
     → finish heading (text_byte_if heading (if test then None else Some (record line { mode = Text Other })) 32) (tail breaks) ≡ Some x
     → finish heading (text_byte_if heading (if test then None else Some (record line { mode = Text Other })) 38) (codes "#32;" ++ tail breaks) ≡ Some x
-behind_some heading true line breaks x e = nothing_shows heading (tail breaks) x e
-behind_some heading false line breaks x e = e
+after_some heading true line breaks x e = nothing_shows heading (tail breaks) x e
+after_some heading false line breaks x e = e
 
 span_blank : (heading : Bool) (n : ℕ) (text : List ℕ) (count : ℕ) → BlankKept heading (Span n text count)
 span_blank heading n text count outside shown breaks x e = elim (bool_cases (count == suc n)) [
   | inl is ↦
       let line : Reader.Line = record { mode = Span n text count; shown = shown; outside = outside } in
-      let behind : Option Reader.Line = behind_span line (unpadded text) in
-      let blank : next_byte heading (Some line) 32 ≡ text_byte_if heading behind 32 = rw is refl in
-      let ampersand : next_byte heading (Some line) 38 ≡ text_byte_if heading behind 38 = rw is refl in
+      let after : Option Reader.Line = after_span line (unpadded text) in
+      let blank : next_byte heading (Some line) 32 ≡ text_byte_if heading after 32 = rw is refl in
+      let ampersand : next_byte heading (Some line) 38 ≡ text_byte_if heading after 38 = rw is refl in
       ap (λ s. finish heading s (codes "#32;" ++ tail breaks)) ampersand
-      ∙ behind_some heading (is_within_link outside && holds_definition (unpadded text)) (record { mode = Text Other; shown = shown ++ map code_glyph (unpadded text); outside = outside }) breaks x (ap (λ s. finish heading s (tail breaks)) (sym blank) ∙ e)
+      ∙ after_some heading (is_within_link outside && holds_definition (unpadded text)) (record { mode = Text Other; shown = shown ++ map code_glyph (unpadded text); outside = outside }) breaks x (ap (λ s. finish heading s (tail breaks)) (sym blank) ∙ e)
   | inr other ↦
       let step : next_byte heading (at outside shown (Span n text count)) 32 ≡ at outside shown (Span n (text ++ (graves count ++ 32 ∷ [])) 0) = rw other refl in
       open_span heading outside shown n (text ++ (graves count ++ 32 ∷ [])) breaks x (ap (λ s. finish heading s (tail breaks)) (sym step) ∙ e)
@@ -130,29 +130,29 @@ module _ (shown : List Glyph) (before : Before) (breaks : Bool) (x : Inlines) wh
     ]
   ]
 
-  marked_same : (behind : Bool) (b : ℕ) → wants_mark behind b ≡ true → ReadsSame b
+  marked_same : (after : Bool) (b : ℕ) → wants_mark after b ≡ true → ReadsSame b
   marked_same true b h = number_mark b h
   marked_same false b h = block_mark b h
 
-  mark_reads : (behind : Bool) (b : ℕ) (line : List ℕ) → finish false here (with_end (b ∷ line) ++ tail breaks) ≡ Some x → finish false here ((mark_if (wants_mark behind b) ++ with_end (b ∷ line)) ++ tail breaks) ≡ Some x
-  mark_reads behind b line e = elim (bool_cases (wants_mark behind b)) [
-    | inl is ↦ rw is (mark_same b line (marked_same behind b is) ∙ e)
+  mark_reads : (after : Bool) (b : ℕ) (line : List ℕ) → finish false here (with_end (b ∷ line) ++ tail breaks) ≡ Some x → finish false here ((mark_if (wants_mark after b) ++ with_end (b ∷ line)) ++ tail breaks) ≡ Some x
+  mark_reads after b line e = elim (bool_cases (wants_mark after b)) [
+    | inl is ↦ rw is (mark_same b line (marked_same after b is) ∙ e)
     | inr other ↦ rw other e
   ]
 
 digit_word : (b : ℕ) → is_digit b ≡ true → is_word b ≡ true
 digit_word b h = elim (bool_cases (is_letter b)) [ inl e ↦ rw e refl | inr e ↦ rw e h ]
 
-guarded_reads : (behind : Bool) (line : List ℕ) (shown : List Glyph) (before : Before) (breaks : Bool) (x : Inlines)
-    → finish false (at None shown (Text before)) (line ++ tail breaks) ≡ Some x → finish false (at None shown (Text before)) (guarded behind line ++ tail breaks) ≡ Some x
-guarded_reads behind [] shown before breaks x e = e
-guarded_reads behind (b ∷ line) shown before breaks x e = elim (bool_cases (is_digit b)) [
+guarded_reads : (after : Bool) (line : List ℕ) (shown : List Glyph) (before : Before) (breaks : Bool) (x : Inlines)
+    → finish false (at None shown (Text before)) (line ++ tail breaks) ≡ Some x → finish false (at None shown (Text before)) (guarded after line ++ tail breaks) ≡ Some x
+guarded_reads after [] shown before breaks x e = e
+guarded_reads after (b ∷ line) shown before breaks x e = elim (bool_cases (is_digit b)) [
   | inl is ↦
       let word : is_word b ≡ true = digit_word b is in
       let step : next_byte false (at None shown (Text before)) b ≡ at None (shown ++ plain_glyph b ∷ []) (Text (before_of b)) = plain_next false None shown before b (word_is_plain b word) (word_control false None b word) in
       let moved : finish false (at None (shown ++ plain_glyph b ∷ []) (Text (before_of b))) (line ++ tail breaks) ≡ Some x = ap (λ s. finish false s (line ++ tail breaks)) (sym step) ∙ e in
       rw is (ap (λ s. finish false s (guarded true line ++ tail breaks)) step ∙ guarded_reads true line (shown ++ plain_glyph b ∷ []) (before_of b) breaks x moved)
-  | inr other ↦ rw other (mark_reads shown before breaks x behind b line (with_end_reads false (at None shown (Text before)) (b ∷ line) breaks x e))
+  | inr other ↦ rw other (mark_reads shown before breaks x after b line (with_end_reads false (at None shown (Text before)) (b ∷ line) breaks x e))
 ]
 
 blank_shows : (heading breaks : Bool) → finish heading (Some start_of_line) (kept_blank ++ tail breaks) ≡ shows (seen []) breaks
@@ -203,11 +203,11 @@ last_end x (b ∷ c ∷ body) h = last_end b (c ∷ body) (λ e. absurd cc)
 digit_no_blank : (b : ℕ) → is_digit b ≡ true → (b == 32) ≡ false
 digit_no_blank b h = let r = digit_range b h in let low : 48 ≤ b = r.0 in ne_eqb b 32 (λ e. absurd (omega arith))
 
-last_guarded : (x : ℕ) (behind : Bool) (line : List ℕ) → (x == 32) ≡ false → (last_or x (guarded behind line) == 32) ≡ false
-last_guarded x behind [] h = h
-last_guarded x behind (b ∷ line) h = elim (bool_cases (is_digit b)) [
+last_guarded : (x : ℕ) (after : Bool) (line : List ℕ) → (x == 32) ≡ false → (last_or x (guarded after line) == 32) ≡ false
+last_guarded x after [] h = h
+last_guarded x after (b ∷ line) h = elim (bool_cases (is_digit b)) [
   | inl is ↦ rw is (last_guarded b true line (digit_no_blank b is))
-  | inr other ↦ rw other (ap (λ y. y == 32) (last_both x (mark_if (wants_mark behind b)) (with_end (b ∷ line))) ∙ last_end (last_or x (mark_if (wants_mark behind b))) (b ∷ line) (λ e. absurd cc))
+  | inr other ↦ rw other (ap (λ y. y == 32) (last_both x (mark_if (wants_mark after b)) (with_end (b ∷ line))) ∙ last_end (last_or x (mark_if (wants_mark after b))) (b ∷ line) (λ e. absurd cc))
 ]
 
 last_line : (body : List ℕ) → (last_or 0 (line_text body) == 32) ≡ false
@@ -257,28 +257,28 @@ fence_end n (b ∷ c ∷ line) breaks h = elim (bool_cases (b == 96)) [
   | inr g ↦ rw g (ap (λ (y : Bool). nat_le 3 n && not y) (any_end (c ∷ line) breaks) ∙ (rw g at h))
 ]
 
-numbered_tail : (behind breaks : Bool) → is_numbered behind (tail breaks) ≡ false
+numbered_tail : (after breaks : Bool) → is_numbered after (tail breaks) ≡ false
 numbered_tail true true = refl
 numbered_tail false true = refl
-numbered_tail behind false = refl
+numbered_tail after false = refl
 
 -- what follows the digits at the front does not continue a number
-numbered_end : (behind : Bool) (b : ℕ) (line : List ℕ) (breaks : Bool) → is_digit b ≡ false → wants_mark behind b ≡ false → is_numbered behind (with_end (b ∷ line) ++ tail breaks) ≡ false
+numbered_end : (after : Bool) (b : ℕ) (line : List ℕ) (breaks : Bool) → is_digit b ≡ false → wants_mark after b ≡ false → is_numbered after (with_end (b ∷ line) ++ tail breaks) ≡ false
 numbered_end true b [] breaks d w = elim (bool_cases (b == 32)) [ inl e ↦ rw e refl | inr e ↦ rw (e, d, w) refl ]
 numbered_end false b [] breaks d w = elim (bool_cases (b == 32)) [ inl e ↦ rw e refl | inr e ↦ rw (e, d) refl ]
 numbered_end true b (c ∷ line) breaks d w = rw (d, w) refl
 numbered_end false b (c ∷ line) breaks d w = rw d refl
 
-mark_numbered : (marked behind : Bool) (b : ℕ) (line : List ℕ) (breaks : Bool) → (marked ≡ false → is_numbered behind (with_end (b ∷ line) ++ tail breaks) ≡ false) → is_numbered behind ((mark_if marked ++ with_end (b ∷ line)) ++ tail breaks) ≡ false
+mark_numbered : (marked after : Bool) (b : ℕ) (line : List ℕ) (breaks : Bool) → (marked ≡ false → is_numbered after (with_end (b ∷ line) ++ tail breaks) ≡ false) → is_numbered after ((mark_if marked ++ with_end (b ∷ line)) ++ tail breaks) ≡ false
 mark_numbered true true b line breaks h = refl
 mark_numbered true false b line breaks h = refl
-mark_numbered false behind b line breaks h = h refl
+mark_numbered false after b line breaks h = h refl
 
-numbered_guarded : (behind : Bool) (line : List ℕ) (breaks : Bool) → is_numbered behind (guarded behind line ++ tail breaks) ≡ false
-numbered_guarded behind [] breaks = numbered_tail behind breaks
-numbered_guarded behind (b ∷ line) breaks = elim (bool_cases (is_digit b)) [
+numbered_guarded : (after : Bool) (line : List ℕ) (breaks : Bool) → is_numbered after (guarded after line ++ tail breaks) ≡ false
+numbered_guarded after [] breaks = numbered_tail after breaks
+numbered_guarded after (b ∷ line) breaks = elim (bool_cases (is_digit b)) [
   | inl is ↦ rw (is, is) (numbered_guarded true line breaks)
-  | inr other ↦ rw other (mark_numbered (wants_mark behind b) behind b line breaks (numbered_end behind b line breaks other))
+  | inr other ↦ rw other (mark_numbered (wants_mark after b) after b line breaks (numbered_end after b line breaks other))
 ]
 
 digit_no_mark : (b : ℕ) → is_digit b ≡ true → ((b == 32 || is_block_mark b) ≡ false) × ((b == 96) ≡ false)

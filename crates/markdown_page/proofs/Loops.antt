@@ -46,14 +46,14 @@ pub longest_init : (lines : List (List ℕ)) → longest_of lines ≡ max 2 (lon
 longest_init lines = let h = at_least lines in omega arith
 
 -- whether a text defines a link, after a bracket or not
-abbrev pub defines_behind : Bool → List ℕ → Bool
-defines_behind behind [] = false
-defines_behind behind (b ∷ text) = (behind && b == 58) || defines_behind (b == 93) text
+abbrev pub defines_after : Bool → List ℕ → Bool
+defines_after after [] = false
+defines_after after (b ∷ text) = (after && b == 58) || defines_after (b == 93) text
 
-pub defines_is : (text : List ℕ) → holds_definition text ≡ defines_behind false text
+pub defines_is : (text : List ℕ) → holds_definition text ≡ defines_after false text
 defines_is [] = refl
 defines_is (b ∷ []) = refl
 defines_is (b ∷ c ∷ text) = ap (λ (x : Bool). (b == 93 && c == 58) || x) (defines_is (c ∷ text))
 
-pub defines_next : (behind : Bool) (text : List ℕ) (i : ℕ) → i < length text → defines_behind behind (drop i text) ≡ ((behind && get_or text i 0 == 58) || defines_behind (get_or text i 0 == 93) (drop (i + 1) text))
-defines_next behind text i h = ap (defines_behind behind) (drop_next text i 0 h)
+pub defines_next : (after : Bool) (text : List ℕ) (i : ℕ) → i < length text → defines_after after (drop i text) ≡ ((after && get_or text i 0 == 58) || defines_after (get_or text i 0 == 93) (drop (i + 1) text))
+defines_next after text i h = ap (defines_after after) (drop_next text i 0 h)

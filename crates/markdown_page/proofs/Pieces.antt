@@ -12,7 +12,7 @@ use Rattle.markdown_page.specs.Bytes.{holds_definition, is_word}
 use Rattle.markdown_page.specs.Sheet.{Glyph}
 use Rattle.markdown_page.specs.Kept.{dash, encoded_byte, first_term, further_term, hex_digit, is_link, is_link_byte, is_unreserved, leading_to, line_bytes, line_shown, page_address, piece_shown, plain, shown_byte, spanned, target_address, terms_shown}
 use Rattle.markdown_page.specs.Slugs.{slug}
-use Rattle.markdown_page.specs.Exact.{auto_byte, auto_text, behind_literal, escaped, first_span, further_span, is_escaped, leading_span, leading_text, link_text, mark_if, page_link, pieces_text, span_left, span_text, term_span, terms_text}
+use Rattle.markdown_page.specs.Exact.{auto_byte, auto_text, after_literal, escaped, first_span, further_span, is_escaped, leading_span, leading_text, link_text, mark_if, page_link, pieces_text, span_left, span_text, term_span, terms_text}
 use Rattle.markdown_page.specs.Reader
 use Rattle.markdown_page.specs.Reader.{Address, Auto, Before, Bang, Mode, Other, Text, Word, code_glyph, end_of_line, is_address_byte, is_control, is_web_address, next_byte, plain_glyph}
 use Rattle.markdown_page.proofs.Bools.{all_both, bool_cases, not_false, not_true, or_cases, or_false, or_from}
@@ -59,9 +59,9 @@ no_grave_shown : (spaced : Bool) (b : ℕ) → (b == 96) ≡ false → ((if spac
 no_grave_shown true b h = refl
 no_grave_shown false b h = h
 
-unescaped : (heading behind : Bool) (b : ℕ) (text : List ℕ) → is_escaped heading behind b text ≡ false → (b == 96) ≡ false
-unescaped heading behind b text h = elim (bool_cases (b == 96)) [
-  | inl e ↦ let is : b ≡ 96 = eqb-true b 96 e in let sign : is_escaped heading behind 96 text ≡ false = subst (λ x. is_escaped heading behind x text ≡ false) is h in absurd cc
+unescaped : (heading after : Bool) (b : ℕ) (text : List ℕ) → is_escaped heading after b text ≡ false → (b == 96) ≡ false
+unescaped heading after b text h = elim (bool_cases (b == 96)) [
+  | inl e ↦ let is : b ≡ 96 = eqb-true b 96 e in let sign : is_escaped heading after 96 text ≡ false = subst (λ x. is_escaped heading after x text ≡ false) is h in absurd cc
   | inr e ↦ e
 ]
 
@@ -70,10 +70,10 @@ mark_free true braced b more h = refl
 mark_free false true b more h = refl
 mark_free false false b more h = not_false (b == 96) (h refl)
 
-pub escaped_free : (heading behind : Bool) (b : ℕ) (text : List ℕ) → begins_free (escaped heading behind (b ∷ text)) ≡ true
-escaped_free heading behind b text =
-    mark_free (is_escaped heading behind b text) (b == 123) (shown_byte b) (escaped heading (is_word b) text)
-    (λ h. no_grave_shown (b == 9 || b == 10) b (unescaped heading behind b text h))
+pub escaped_free : (heading after : Bool) (b : ℕ) (text : List ℕ) → begins_free (escaped heading after (b ∷ text)) ≡ true
+escaped_free heading after b text =
+    mark_free (is_escaped heading after b text) (b == 123) (shown_byte b) (escaped heading (is_word b) text)
+    (λ h. no_grave_shown (b == 9 || b == 10) b (unescaped heading after b text h))
 
 -- ---- autolinks
 
@@ -286,17 +286,17 @@ PiecesReach span line = LineReaches (pieces_text span line) (map code_glyph span
 
 -- a text without a style
 plain_then : (span text : List ℕ) (line : Line) → list_all is_solid span ≡ true → list_all is_permitted_byte text ≡ true → ((left : List ℕ) → list_all is_solid left ≡ true → PiecesReach left line)
-    → LineReaches (behind_literal span text (escaped false false text) ++ pieces_text (span_left span text) line) (map code_glyph span ++ (plain text ++ line_shown line))
+    → LineReaches (after_literal span text (escaped false false text) ++ pieces_text (span_left span text) line) (map code_glyph span ++ (plain text ++ line_shown line))
 plain_then span [] line solid h later = later span solid
 plain_then span (b ∷ text) line solid h later = piece_then span (escaped false false (b ∷ text)) (pieces_text [] line) (plain (b ∷ text)) (line_shown line) solid (escaped_free false false b text) (λ before shown calm. words_end false None (b ∷ text) before shown h calm) (later [] refl)
 
 link_then : (span text : List ℕ) (line : Line) → list_all is_solid span ≡ true → list_all is_permitted_byte text ≡ true → ((left : List ℕ) → list_all is_solid left ≡ true → PiecesReach left line)
-    → LineReaches (behind_literal span text (link_text text) ++ pieces_text (span_left span text) line) (map code_glyph span ++ (piece_shown (link text) ++ line_shown line))
+    → LineReaches (after_literal span text (link_text text) ++ pieces_text (span_left span text) line) (map code_glyph span ++ (piece_shown (link text) ++ line_shown line))
 link_then span [] line solid h later = later span solid
 link_then span (b ∷ text) line solid h later = piece_then span (link_text (b ∷ text)) (pieces_text [] line) (piece_shown (link (b ∷ text))) (line_shown line) solid (link_written (is_link (b ∷ text)) b text) (link_piece (b ∷ text) h) (later [] refl)
 
 page_then : (span name : List ℕ) (line : Line) → list_all is_solid span ≡ true → list_all is_permitted_byte name ≡ true → ((left : List ℕ) → list_all is_solid left ≡ true → PiecesReach left line)
-    → LineReaches (behind_literal span name (page_link name) ++ pieces_text (span_left span name) line) (map code_glyph span ++ (piece_shown (page name) ++ line_shown line))
+    → LineReaches (after_literal span name (page_link name) ++ pieces_text (span_left span name) line) (map code_glyph span ++ (piece_shown (page name) ++ line_shown line))
 page_then span [] line solid h later = later span solid
 page_then span (b ∷ name) line solid h later = piece_then span (page_link (b ∷ name)) (pieces_text [] line) (piece_shown (page (b ∷ name))) (line_shown line) solid refl (page_piece (b ∷ name) h) (later [] refl)
 

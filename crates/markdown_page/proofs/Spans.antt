@@ -32,9 +32,9 @@ ends_open run b (c ∷ text) h e =
       | inr other ↦ rw other (ends_open 0 c text h (λ _. refl))
     ]
 
-graves_behind : (n : ℕ) (text : List ℕ) → graves n ++ 96 ∷ text ≡ 96 ∷ (graves n ++ text)
-graves_behind zero text = refl
-graves_behind (suc n) text = ap (λ x. 96 ∷ x) (graves_behind n text)
+graves_after : (n : ℕ) (text : List ℕ) → graves n ++ 96 ∷ text ≡ 96 ∷ (graves n ++ text)
+graves_after zero text = refl
+graves_after (suc n) text = ap (λ x. 96 ∷ x) (graves_after n text)
 
 -- a text followed by a blank
 has_run_blank : (n run : ℕ) (text : List ℕ) → has_run (suc n) run (text ++ 32 ∷ []) ≡ has_run (suc n) run text
@@ -182,7 +182,7 @@ module _ (heading : Bool) (outside : Option (List Glyph)) where
             let step : next_byte heading (at outside shown (Span n before count)) b ≡ at outside shown (Span n before (suc count)) = rw (free, e) refl in
             ap (λ x. run heading x text) step
             ∙ span_inner n text (suc count) before shown (rw e at h) (rw e at o) parts.1
-            ∙ ap (λ x. at outside shown (Span n (before ++ x) 0)) (sym (graves_behind count text) ∙ ap (λ x. graves count ++ x ∷ text) (sym is))
+            ∙ ap (λ x. at outside shown (Span n (before ++ x) 0)) (sym (graves_after count text) ∙ ap (λ x. graves count ++ x ∷ text) (sym is))
         | inr e ↦
             let both = or_false (count == suc n) (has_run (suc n) 0 text) (rw e at h) in
             let step : next_byte heading (at outside shown (Span n before count)) b ≡ at outside shown (Span n (before ++ (graves count ++ b ∷ [])) 0) = rw (free, e, both.0) refl in

@@ -93,8 +93,8 @@ module _ (heading : Bool) where
 
     -- ---- one byte
 
-    plain_escaped : (b : ℕ) → IsPlain b → (behind : Bool) (text : List ℕ) → is_escaped heading behind b text ≡ false
-    plain_escaped b p behind text = rw (ne_eqb b 92 p.no_backslash, ne_eqb b 96 p.no_grave, ne_eqb b 42 p.no_asterisk, ne_eqb b 91 p.no_open, ne_eqb b 93 p.no_close, ne_eqb b 60 p.no_less, ne_eqb b 35 p.no_number_sign, ne_eqb b 95 p.no_underscore, ne_eqb b 38 p.no_ampersand, ne_eqb b 33 p.no_bang) refl
+    plain_escaped : (b : ℕ) → IsPlain b → (after : Bool) (text : List ℕ) → is_escaped heading after b text ≡ false
+    plain_escaped b p after text = rw (ne_eqb b 92 p.no_backslash, ne_eqb b 96 p.no_grave, ne_eqb b 42 p.no_asterisk, ne_eqb b 91 p.no_open, ne_eqb b 93 p.no_close, ne_eqb b 60 p.no_less, ne_eqb b 35 p.no_number_sign, ne_eqb b 95 p.no_underscore, ne_eqb b 38 p.no_ampersand, ne_eqb b 33 p.no_bang) refl
 
     plain_shown : (b : ℕ) → IsPlain b → shown_byte b ≡ b
     plain_shown b p = rw (ne_eqb b 9 p.no_tab, ne_eqb b 10 p.no_newline) refl
@@ -127,21 +127,21 @@ module _ (heading : Bool) where
 
     -- what is read of a text, after what stands before it
     abbrev TextReads : List ℕ → Type 0
-    TextReads text = (before : Before) (behind : Bool) (shown : List Glyph) → (behind ≡ true → before ≡ Word) → (is_end text ≡ true → is_bang before ≡ false)
-        → Shows (escaped heading behind text) (at outside shown (Text before)) (shown ++ plain text)
+    TextReads text = (before : Before) (after : Bool) (shown : List Glyph) → (after ≡ true → before ≡ Word) → (is_end text ≡ true → is_bang before ≡ false)
+        → Shows (escaped heading after text) (at outside shown (Text before)) (shown ++ plain text)
 
     -- a byte that is read as this one, and what follows it
-    then_text : (text : List ℕ) (b : ℕ) (first : List ℕ) (before : Before) (behind : Bool) (after : Before) (shown : List Glyph) → TextReads text
+    then_text : (text : List ℕ) (b : ℕ) (first : List ℕ) (before : Before) (follows : Bool) (after : Before) (shown : List Glyph) → TextReads text
         → ((more : List ℕ) → run heading (at outside shown (Text before)) (first ++ more) ≡ run heading (at outside (shown ++ plain (b ∷ [])) (Text after)) more)
-        → (behind ≡ true → after ≡ Word) → (is_end text ≡ true → is_bang after ≡ false)
-        → Shows (first ++ escaped heading behind text) (at outside shown (Text before)) (shown ++ plain (b ∷ text))
-    then_text text b first before behind after shown reads e w calm =
-        shows_from (e (escaped heading behind text)) (shows_to (append_assoc shown (plain (b ∷ [])) (plain text)) (reads after behind (shown ++ plain (b ∷ [])) w calm))
+        → (follows ≡ true → after ≡ Word) → (is_end text ≡ true → is_bang after ≡ false)
+        → Shows (first ++ escaped heading follows text) (at outside shown (Text before)) (shown ++ plain (b ∷ text))
+    then_text text b first before follows after shown reads e w calm =
+        shows_from (e (escaped heading follows text)) (shows_to (append_assoc shown (plain (b ∷ [])) (plain text)) (reads after follows (shown ++ plain (b ∷ [])) w calm))
 
     -- each byte of it
     abbrev ByteReads : List ℕ → Before → Bool → List Glyph → ℕ → Type 0
-    ByteReads text before behind shown b = is_permitted_byte b ≡ true → TextReads text → (behind ≡ true → before ≡ Word)
-        → Shows (escaped heading behind (b ∷ text)) (at outside shown (Text before)) (shown ++ plain (b ∷ text))
+    ByteReads text before after shown b = is_permitted_byte b ≡ true → TextReads text → (after ≡ true → before ≡ Word)
+        → Shows (escaped heading after (b ∷ text)) (at outside shown (Text before)) (shown ++ plain (b ∷ text))
 
     bare_word : (shown : List Glyph) (c : ℕ) (more : List ℕ) → IsPlain c → is_word c ≡ true → is_control c ≡ false
         → run heading (at outside shown Underscore) (c ∷ more) ≡ run heading (at outside (shown ++ plain (95 ∷ [])) (Text Other)) (c ∷ more)
@@ -173,7 +173,7 @@ module _ (heading : Bool) where
     abbrev mark_underscore : Bool → List ℕ → List ℕ
     mark_underscore plain text = mark_if ((not plain || false) || false) ++ (95 ∷ escaped heading false text)
 
-    underscore_reads : (text : List ℕ) (before : Before) (behind : Bool) (shown : List Glyph) → ByteReads text before behind shown 95
+    underscore_reads : (text : List ℕ) (before : Before) (after : Bool) (shown : List Glyph) → ByteReads text before after shown 95
     underscore_reads text before false shown h reads w = then_text text 95 (92 ∷ 95 ∷ []) before false Other shown reads (λ more. refl) (λ e. absurd cc) (λ e. refl)
     underscore_reads [] before true shown h reads w = then_text [] 95 (92 ∷ 95 ∷ []) before false Other shown reads (λ more. refl) (λ e. absurd cc) (λ e. refl)
     underscore_reads (c ∷ text) before true shown h reads w =
@@ -190,21 +190,21 @@ module _ (heading : Bool) where
     abbrev standing : (braced spaced : Bool) (c : ℕ) → List ℕ
     standing braced spaced c = if braced then codes "&#123;" else (if spaced then 32 else c) ∷ []
 
-    behind_ampersand : (marked braced spaced : Bool) (shown : List Glyph) (c : ℕ) (more : List ℕ) → (c == 35) ≡ false → is_letter c ≡ false
+    after_ampersand : (marked braced spaced : Bool) (shown : List Glyph) (c : ℕ) (more : List ℕ) → (c == 35) ≡ false → is_letter c ≡ false
         → run heading (at outside shown Ampersand) (mark_if marked ++ (standing braced spaced c ++ more)) ≡ run heading (at outside (shown ++ plain (38 ∷ [])) (Text Other)) (mark_if marked ++ (standing braced spaced c ++ more))
-    behind_ampersand true braced spaced shown c more h g = refl
-    behind_ampersand false true spaced shown c more h g = refl
-    behind_ampersand false false true shown c more h g = refl
-    behind_ampersand false false false shown c more h g =
+    after_ampersand true braced spaced shown c more h g = refl
+    after_ampersand false true spaced shown c more h g = refl
+    after_ampersand false false true shown c more h g = refl
+    after_ampersand false false false shown c more h g =
         let same : next_byte heading (at outside shown Ampersand) c ≡ next_byte heading (at outside (shown ++ plain (38 ∷ [])) (Text Other)) c = rw (h, g) refl in
         ap (λ x. run heading x more) same
 
     abbrev mark_ampersand : Bool → List ℕ → List ℕ
     mark_ampersand refers text = mark_if (refers || false) ++ (38 ∷ escaped heading false text)
 
-    ampersand_reads : (text : List ℕ) (before : Before) (behind : Bool) (shown : List Glyph) → ByteReads text before behind shown 38
-    ampersand_reads [] before behind shown h reads w = then_text [] 38 (92 ∷ 38 ∷ []) before false Other shown reads (λ more. refl) (λ e. absurd cc) (λ e. refl)
-    ampersand_reads (c ∷ text) before behind shown h reads w =
+    ampersand_reads : (text : List ℕ) (before : Before) (after : Bool) (shown : List Glyph) → ByteReads text before after shown 38
+    ampersand_reads [] before after shown h reads w = then_text [] 38 (92 ∷ 38 ∷ []) before false Other shown reads (λ more. refl) (λ e. absurd cc) (λ e. refl)
+    ampersand_reads (c ∷ text) before after shown h reads w =
         elim (bool_cases (c == 35 || is_letter c)) [
           | inl refers ↦
               subst (λ x. Shows (mark_ampersand x (c ∷ text)) (at outside shown (Text before)) (shown ++ plain (38 ∷ c ∷ text))) (sym refers)
@@ -212,17 +212,17 @@ module _ (heading : Bool) where
           | inr none ↦
               let both = or_false (c == 35) (is_letter c) none in
               subst (λ x. Shows (mark_ampersand x (c ∷ text)) (at outside shown (Text before)) (shown ++ plain (38 ∷ c ∷ text))) (sym none)
-              (shows_from (behind_ampersand (is_escaped heading false c text) (c == 123) (c == 9 || c == 10) shown c (escaped heading (is_word c) text) both.0 both.1)
+              (shows_from (after_ampersand (is_escaped heading false c text) (c == 123) (c == 9 || c == 10) shown c (escaped heading (is_word c) text) both.0 both.1)
               (shows_to (append_assoc shown (plain (38 ∷ [])) (plain (c ∷ text))) (reads Other false (shown ++ plain (38 ∷ [])) (λ e. absurd cc) (λ e. refl))))
         ]
 
-    bang_reads : (text : List ℕ) (before : Before) (behind : Bool) (shown : List Glyph) → ByteReads text before behind shown 33
-    bang_reads [] before behind shown h reads w = then_text [] 33 (92 ∷ 33 ∷ []) before false Other shown reads (λ more. refl) (λ e. absurd cc) (λ e. refl)
-    bang_reads (c ∷ text) before behind shown h reads w = then_text (c ∷ text) 33 (33 ∷ []) before false Bang shown reads (λ more. refl) (λ e. absurd cc) (λ e. absurd cc)
+    bang_reads : (text : List ℕ) (before : Before) (after : Bool) (shown : List Glyph) → ByteReads text before after shown 33
+    bang_reads [] before after shown h reads w = then_text [] 33 (92 ∷ 33 ∷ []) before false Other shown reads (λ more. refl) (λ e. absurd cc) (λ e. refl)
+    bang_reads (c ∷ text) before after shown h reads w = then_text (c ∷ text) 33 (33 ∷ []) before false Bang shown reads (λ more. refl) (λ e. absurd cc) (λ e. absurd cc)
 
-    plain_byte_reads : (text : List ℕ) (before : Before) (behind : Bool) (shown : List Glyph) (b : ℕ) → IsPlain b → ByteReads text before behind shown b
-    plain_byte_reads text before behind shown b p h reads w =
-        let is = plain_escaped b p behind text in
+    plain_byte_reads : (text : List ℕ) (before : Before) (after : Bool) (shown : List Glyph) (b : ℕ) → IsPlain b → ByteReads text before after shown b
+    plain_byte_reads text before after shown b p h reads w =
+        let is = plain_escaped b p after text in
         let same = plain_shown b p in
         subst (λ x. Shows (mark_if x ++ (stand_for b ++ escaped heading (is_word b) text)) (at outside shown (Text before)) (shown ++ plain (b ∷ text))) (sym is)
         (then_text text b (stand_for b) before (is_word b) (before_of b) shown reads
@@ -230,13 +230,13 @@ module _ (heading : Bool) where
         (word_before b) (λ _. before_calm b p))
 
 -- the number sign, in a heading and in other lines
-number_sign_reads : (heading : Bool) (outside : Option (List Glyph)) (text : List ℕ) (before : Before) (behind : Bool) (shown : List Glyph) → ByteReads heading outside text before behind shown 35
-number_sign_reads true outside text before behind shown h reads w = then_text true outside text 35 (92 ∷ 35 ∷ []) before false Other shown reads (λ more. refl) (λ e. absurd cc) (λ e. refl)
-number_sign_reads false outside text before behind shown h reads w = then_text false outside text 35 (35 ∷ []) before false Other shown reads (λ more. refl) (λ e. absurd cc) (λ e. refl)
+number_sign_reads : (heading : Bool) (outside : Option (List Glyph)) (text : List ℕ) (before : Before) (after : Bool) (shown : List Glyph) → ByteReads heading outside text before after shown 35
+number_sign_reads true outside text before after shown h reads w = then_text true outside text 35 (92 ∷ 35 ∷ []) before false Other shown reads (λ more. refl) (λ e. absurd cc) (λ e. refl)
+number_sign_reads false outside text before after shown h reads w = then_text false outside text 35 (35 ∷ []) before false Other shown reads (λ more. refl) (λ e. absurd cc) (λ e. refl)
 
 module _ (heading : Bool) (outside : Option (List Glyph)) where
-  sign_reads : (text : List ℕ) (before : Before) (behind : Bool) (shown : List Glyph) → OfSigns (ByteReads heading outside text before behind shown)
-  sign_reads text before behind shown = (
+  sign_reads : (text : List ℕ) (before : Before) (after : Bool) (shown : List Glyph) → OfSigns (ByteReads heading outside text before after shown)
+  sign_reads text before after shown = (
     λ h reads w. then_text heading outside text 92 (92 ∷ 92 ∷ []) before false Other shown reads (λ more. refl) (λ e. absurd cc) (λ e. refl),
     λ h reads w. then_text heading outside text 96 (92 ∷ 96 ∷ []) before false Other shown reads (λ more. refl) (λ e. absurd cc) (λ e. refl),
     λ h reads w. then_text heading outside text 42 (92 ∷ 42 ∷ []) before false Other shown reads (λ more. refl) (λ e. absurd cc) (λ e. refl),
@@ -244,16 +244,16 @@ module _ (heading : Bool) (outside : Option (List Glyph)) where
     λ h reads w. then_text heading outside text 93 (92 ∷ 93 ∷ []) before false Other shown reads (λ more. refl) (λ e. absurd cc) (λ e. refl),
     λ h reads w. then_text heading outside text 60 (92 ∷ 60 ∷ []) before false Other shown reads (λ more. refl) (λ e. absurd cc) (λ e. refl),
     λ h reads w. then_text heading outside text 123 (codes "&#123;") before false Other shown reads (λ more. refl) (λ e. absurd cc) (λ e. refl),
-    number_sign_reads heading outside text before behind shown,
-    underscore_reads heading outside text before behind shown,
-    ampersand_reads heading outside text before behind shown,
-    bang_reads heading outside text before behind shown,
+    number_sign_reads heading outside text before after shown,
+    underscore_reads heading outside text before after shown,
+    ampersand_reads heading outside text before after shown,
+    bang_reads heading outside text before after shown,
     λ h reads w. then_text heading outside text 9 (32 ∷ []) before false Other shown reads (λ more. refl) (λ e. absurd cc) (λ e. refl),
     λ h reads w. then_text heading outside text 10 (32 ∷ []) before false Other shown reads (λ more. refl) (λ e. absurd cc) (λ e. refl),
   )
 
   pub text_reads : (text : List ℕ) → list_all is_permitted_byte text ≡ true → TextReads heading outside text
-  text_reads [] h before behind shown w calm = record { after = before; calm = calm refl; leads = ap (λ x. at outside x (Text before)) (sym (append-nil shown)) }
-  text_reads (b ∷ text) h before behind shown w calm =
+  text_reads [] h before follows shown w calm = record { after = before; calm = calm refl; leads = ap (λ x. at outside x (Text before)) (sym (append-nil shown)) }
+  text_reads (b ∷ text) h before follows shown w calm =
       let parts = and_parts (is_permitted_byte b) (list_all is_permitted_byte text) h in
-      by_signs (ByteReads heading outside text before behind shown) (sign_reads text before behind shown) (plain_byte_reads heading outside text before behind shown) b parts.0 (text_reads text parts.1) w
+      by_signs (ByteReads heading outside text before follows shown) (sign_reads text before follows shown) (plain_byte_reads heading outside text before follows shown) b parts.0 (text_reads text parts.1) w

@@ -30,10 +30,10 @@ is_end (b ∷ text) = false
 -- Whether a byte is written with a backslash, where it is after a letter or a digit or not, and before this text: an
 -- exclamation mark at the end of a text may stand before a link.
 abbrev pub is_escaped : Bool → Bool → ℕ → List ℕ → Bool
-is_escaped in_heading behind_word b text =
+is_escaped in_heading after_word b text =
     is_sign b
     || (b == 35 && in_heading)
-    || (b == 95 && not (behind_word && begins_in_word text))
+    || (b == 95 && not (after_word && begins_in_word text))
     || (b == 38 && may_refer text)
     || (b == 33 && is_end text)
 
@@ -47,9 +47,9 @@ abbrev pub stand_for : ℕ → List ℕ
 stand_for b = if b == 123 then codes "&#123;" else shown_byte b ∷ []
 
 abbrev pub escaped : Bool → Bool → List ℕ → List ℕ
-escaped in_heading behind_word [] = []
-escaped in_heading behind_word (b ∷ text) =
-    mark_if (is_escaped in_heading behind_word b text) ++ (stand_for b ++ escaped in_heading (is_word b) text)
+escaped in_heading after_word [] = []
+escaped in_heading after_word (b ∷ text) =
+    mark_if (is_escaped in_heading after_word b text) ++ (stand_for b ++ escaped in_heading (is_word b) text)
 
 -- ---- code spans
 
@@ -98,9 +98,9 @@ link_text text = if is_link text then auto_text text else escaped false false te
 
 -- Literals that touch are one span, which is written before the next text. These are the bytes of the span so far, a
 -- piece that is not a literal, by its text, and what is written for it; one without a text is nothing.
-abbrev pub behind_literal : List ℕ → List ℕ → List ℕ → List ℕ
-behind_literal span [] written = []
-behind_literal span (b ∷ text) written = span_text span ++ written
+abbrev pub after_literal : List ℕ → List ℕ → List ℕ → List ℕ
+after_literal span [] written = []
+after_literal span (b ∷ text) written = span_text span ++ written
 
 abbrev pub span_left : List ℕ → List ℕ → List ℕ
 span_left span [] = span
@@ -109,14 +109,14 @@ span_left span (b ∷ text) = []
 abbrev pub pieces_text : List ℕ → Line → List ℕ
 pieces_text span [] = span_text span
 pieces_text span (words text ∷ line) =
-    behind_literal span text (escaped false false text) ++ pieces_text (span_left span text) line
+    after_literal span text (escaped false false text) ++ pieces_text (span_left span text) line
 pieces_text span (literal text ∷ line) = pieces_text (span ++ map shown_byte text) line
 pieces_text span (value text ∷ line) =
-    behind_literal span text (escaped false false text) ++ pieces_text (span_left span text) line
+    after_literal span text (escaped false false text) ++ pieces_text (span_left span text) line
 pieces_text span (link text ∷ line) =
-    behind_literal span text (link_text text) ++ pieces_text (span_left span text) line
+    after_literal span text (link_text text) ++ pieces_text (span_left span text) line
 pieces_text span (page name ∷ line) =
-    behind_literal span name (page_link name) ++ pieces_text (span_left span name) line
+    after_literal span name (page_link name) ++ pieces_text (span_left span name) line
 
 -- ---- lines
 
@@ -140,9 +140,9 @@ wants_mark false b = is_block_mark b
 
 -- a line that begins no block, after a digit at its front or not
 abbrev pub guarded : Bool → List ℕ → List ℕ
-guarded behind_digit [] = []
-guarded behind_digit (b ∷ line) =
-    if is_digit b then b ∷ guarded true line else mark_if (wants_mark behind_digit b) ++ with_end (b ∷ line)
+guarded after_digit [] = []
+guarded after_digit (b ∷ line) =
+    if is_digit b then b ∷ guarded true line else mark_if (wants_mark after_digit b) ++ with_end (b ∷ line)
 
 abbrev pub line_text : List ℕ → List ℕ
 line_text [] = kept_blank

@@ -161,8 +161,8 @@ is_within_link None = false
 is_within_link (Some outside) = true
 
 -- after a code span; the first link of a paragraph is not a link where this begins a link's definition
-abbrev pub behind_span : Line → List ℕ → Option Line
-behind_span line text =
+abbrev pub after_span : Line → List ℕ → Option Line
+after_span line text =
     if is_within_link line.outside && holds_definition text then None
     else Some (record line { mode = Text Other; shown = line.shown ++ map code_glyph text })
 
@@ -174,7 +174,7 @@ text_byte_if heading (Some line) b = text_byte heading line Other b
 abbrev pub span_byte : Bool → Line → ℕ → List ℕ → ℕ → ℕ → Option Line
 span_byte heading line n text run b =
     if b == grave then with_mode line (Span n text (suc run))
-    else if run == suc n then text_byte_if heading (behind_span line (unpadded text)) b
+    else if run == suc n then text_byte_if heading (after_span line (unpadded text)) b
     else with_mode line (Span n (text ++ (graves run ++ b ∷ [])) 0)
 
 abbrev pub opening_byte : Line → ℕ → ℕ → Option Line
@@ -207,14 +207,14 @@ bracket_byte line b = if b == 40 then with_mode line (Address []) else None
 abbrev pub is_address_byte : ℕ → Bool
 is_address_byte b = is_word b || (b == 35 || b == 37 || b == 45 || b == 46 || b == 95 || b == 126)
 
-abbrev pub behind_link : Line → Option (List Glyph) → List ℕ → Option Line
-behind_link line None address = None
-behind_link line (Some outside) address =
+abbrev pub after_link : Line → Option (List Glyph) → List ℕ → Option Line
+after_link line None address = None
+after_link line (Some outside) address =
     Some (record { mode = Text Other; shown = outside ++ leading address line.shown; outside = None })
 
 abbrev pub address_byte : Line → List ℕ → ℕ → Option Line
 address_byte line address b =
-    if b == 41 then behind_link line line.outside address
+    if b == 41 then after_link line line.outside address
     else if is_address_byte b then with_mode line (Address (address ++ b ∷ []))
     else None
 
@@ -254,7 +254,7 @@ whole_line line Underscore = None
 whole_line line Ampersand = shows (line.shown ++ plain_glyph 38 ∷ []) false
 whole_line line (Number n) = None
 whole_line line (Opening n) = None
-whole_line line (Span n text run) = if run == suc n then shows_if (behind_span line (unpadded text)) else None
+whole_line line (Span n text run) = if run == suc n then shows_if (after_span line (unpadded text)) else None
 whole_line line (Auto address) = None
 whole_line line (Entity address name) = None
 whole_line line Bracket = None
@@ -284,9 +284,9 @@ is_fence n (b ∷ line) = if b == grave then is_fence (suc n) line else nat_le 3
 
 -- whether it begins, after a digit or not, as an item with a number
 abbrev pub is_numbered : Bool → List ℕ → Bool
-is_numbered behind_digit [] = false
-is_numbered behind_digit (b ∷ line) =
-    if is_digit b then is_numbered true line else behind_digit && (b == 46 || b == 41)
+is_numbered after_digit [] = false
+is_numbered after_digit (b ∷ line) =
+    if is_digit b then is_numbered true line else after_digit && (b == 46 || b == 41)
 
 -- what may begin a block that is not a paragraph: `#`, `+`, `-`, `=`, `>`, `~`
 abbrev pub is_block_mark : ℕ → Bool
@@ -298,10 +298,10 @@ is_text_line (b ∷ line) =
     not (b == blank || is_block_mark b) && (not (is_numbered false (b ∷ line)) && not (is_fence 0 (b ∷ line)))
 
 -- what follows these bytes
-abbrev pub behind : List ℕ → List ℕ → Option (List ℕ)
-behind [] bytes = Some bytes
-behind (b ∷ front) [] = None
-behind (b ∷ front) (c ∷ bytes) = if b == c then behind front bytes else None
+abbrev pub after : List ℕ → List ℕ → Option (List ℕ)
+after [] bytes = Some bytes
+after (b ∷ front) [] = None
+after (b ∷ front) (c ∷ bytes) = if b == c then after front bytes else None
 
 abbrev pub kind_with : (List ℕ → Kind) → Option (List ℕ) → Option Kind → Option Kind
 kind_with kind None otherwise = otherwise
@@ -311,10 +311,10 @@ abbrev pub kind_of : List ℕ → Option Kind
 kind_of line =
     if is_text_line line then Some TextLine
     else if list_all is_grave line && nat_le 3 (length line) then Some (FenceLine (length line))
-    else kind_with ItemLine (behind (codes "- ") line)
-    (kind_with (HeadingLine 1) (behind (codes "# ") line)
-    (kind_with (HeadingLine 2) (behind (codes "## ") line)
-    (kind_with (HeadingLine 3) (behind (codes "### ") line) None)))
+    else kind_with ItemLine (after (codes "- ") line)
+    (kind_with (HeadingLine 1) (after (codes "# ") line)
+    (kind_with (HeadingLine 2) (after (codes "## ") line)
+    (kind_with (HeadingLine 3) (after (codes "### ") line) None)))
 
 -- ---- the page so far
 
@@ -351,9 +351,9 @@ within (suc depth) (b ∷ []) = record { level = 0; line = b ∷ [] }
 within (suc depth) (b ∷ c ∷ line) =
     if b == blank && c == blank then deeper (within depth line) else record { level = 0; line = b ∷ c ∷ line }
 
-abbrev pub stand_behind : Bool → Stand
-stand_behind true = Broken
-stand_behind false = Filled
+abbrev pub stand_after : Bool → Stand
+stand_after true = Broken
+stand_after false = Filled
 
 abbrev pub new_paragraph : List Said → ℕ → Option Inlines → Option Reading
 new_paragraph said level None = None
@@ -361,7 +361,7 @@ new_paragraph said level (Some line) =
     Some (record {
       said = said ++ Paragraph level (line.shown ∷ []) ∷ [];
       depth = level;
-      stand = stand_behind line.breaks;
+      stand = stand_after line.breaks;
     })
 
 abbrev pub with_line : Said → List Glyph → Said
@@ -379,7 +379,7 @@ abbrev pub same_paragraph : Reading → Option Inlines → Option Reading
 same_paragraph read None = None
 same_paragraph read (Some line) = Some (record read {
   said = on_last (λ last. with_line last line.shown) read.said;
-  stand = stand_behind line.breaks;
+  stand = stand_after line.breaks;
 })
 
 -- a line of text; one that continues a paragraph without a line break is not of this part

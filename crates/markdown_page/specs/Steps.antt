@@ -14,8 +14,8 @@ place_byte Span b = shown_byte b ∷ []
 place_byte Code b = code_byte b ∷ []
 
 -- what follows the text of a link
-abbrev pub behind_text : (address : List ℕ) → List ℕ
-behind_text address = codes "](" ++ (address ++ codes ")")
+abbrev pub after_text : (address : List ℕ) → List ℕ
+after_text address = codes "](" ++ (address ++ codes ")")
 
 -- ---- runs of backquotes
 
@@ -46,8 +46,8 @@ digits_of (b ∷ line) = if is_digit b then suc (digits_of line) else 0
 
 -- what stands before the rest of a line, after a digit or not
 abbrev pub front_mark : Bool → List ℕ → List ℕ
-front_mark behind_digit [] = []
-front_mark behind_digit (b ∷ line) = mark_if (wants_mark behind_digit b)
+front_mark after_digit [] = []
+front_mark after_digit (b ∷ line) = mark_if (wants_mark after_digit b)
 
 -- a line after the first of a paragraph
 abbrev pub written_line : ℕ → Line → List ℕ

@@ -59,12 +59,12 @@ fn push_term<A: Allocator>(line: &mut LineText<A>, term: &[Inline<'_>]) -> Resul
 fn holds_definition(text: &[u8]) -> bool
     ensures { result ≡ holds_definition text.now }
 {
-    let mut is_behind_bracket = false;
+    let mut is_after_bracket = false;
     for byte in text {
-        if is_behind_bracket && *byte == b':' {
+        if is_after_bracket && *byte == b':' {
             return true;
         }
-        is_behind_bracket = *byte == b']';
+        is_after_bracket = *byte == b']';
     }
     false
 }

@@ -52,12 +52,12 @@ fn may_refer(text: &[u8]) -> bool
 }
 
 // Whether a byte is written with a backslash, where it is after a letter or a digit or not, and before this text.
-fn is_escaped(in_heading: bool, is_behind_word: bool, byte: u8, text: &[u8]) -> bool
-    ensures { result ≡ is_escaped in_heading is_behind_word byte text.now }
+fn is_escaped(in_heading: bool, is_after_word: bool, byte: u8, text: &[u8]) -> bool
+    ensures { result ≡ is_escaped in_heading is_after_word byte text.now }
 {
     is_sign(byte)
         || (byte == b'#' && in_heading)
-        || (byte == b'_' && !(is_behind_word && begins_in_word(text)))
+        || (byte == b'_' && !(is_after_word && begins_in_word(text)))
         || (byte == b'&' && may_refer(text))
         || (byte == b'!' && text.is_empty())
 }
@@ -88,10 +88,10 @@ pub fn push_escaped<A: Allocator>(
 {
     let bytes = text.as_bytes();
     let mut start = 0;
-    let mut is_behind_word = false;
+    let mut is_after_word = false;
     for at in 0..bytes.len() {
         let byte = bytes[at];
-        if is_escaped(in_heading, is_behind_word, byte, &bytes[at + 1..]) {
+        if is_escaped(in_heading, is_after_word, byte, &bytes[at + 1..]) {
             out.push_str(&text[start..at])?;
             out.push_str("\\")?;
             start = at;
@@ -100,7 +100,7 @@ pub fn push_escaped<A: Allocator>(
             out.push_str(stand_in(byte))?;
             start = at + 1;
         }
-        is_behind_word = is_word(byte);
+        is_after_word = is_word(byte);
     }
     out.push_str(&text[start..])
 }

@@ -3,7 +3,7 @@
 ghost use Rattle.std.specs.Prelude.{◌≡◌, ◌++◌, ◌||◌, ◌==◌, [], ◌∷◌, List, drop, false, true, OnOk, string_bytes};
 ghost use Rattle.page_model.specs.Content.{Line};
 ghost use Rattle.page_model.specs.View.{line_of, piece_of};
-ghost use Rattle.markdown_page.specs.Exact.{behind_literal, escaped, framed, guarded, is_block_mark, kept_blank};
+ghost use Rattle.markdown_page.specs.Exact.{after_literal, escaped, framed, guarded, is_block_mark, kept_blank};
 ghost use Rattle.markdown_page.specs.Exact.{line_text, link_text, mark_if, page_link, pieces_text, span_left};
 ghost use Rattle.markdown_page.specs.Exact.{span_text};
 ghost use Rattle.markdown_page.specs.Exact.{wants_mark, with_end, written};
@@ -40,7 +40,7 @@ pub fn push_open_span<A: Allocator>(line: &mut LineText<A>) -> Result<(), AllocE
 
 fn push_words<A: Allocator>(line: &mut LineText<A>, text: &str) -> Result<(), AllocError>
     ensures written { OnOk result (string_bytes line.new.text ≡ string_bytes line.old.text
-        ++ behind_literal (string_bytes line.old.span) text.now (escaped false false text.now)) }
+        ++ after_literal (string_bytes line.old.span) text.now (escaped false false text.now)) }
     ensures left { OnOk result (string_bytes line.new.span ≡ span_left (string_bytes line.old.span) text.now) }
 {
     if text.is_empty() {
@@ -52,7 +52,7 @@ fn push_words<A: Allocator>(line: &mut LineText<A>, text: &str) -> Result<(), Al
 
 fn push_address<A: Allocator>(line: &mut LineText<A>, text: &str) -> Result<(), AllocError>
     ensures written { OnOk result (string_bytes line.new.text ≡ string_bytes line.old.text
-        ++ behind_literal (string_bytes line.old.span) text.now (link_text text.now)) }
+        ++ after_literal (string_bytes line.old.span) text.now (link_text text.now)) }
     ensures left { OnOk result (string_bytes line.new.span ≡ span_left (string_bytes line.old.span) text.now) }
 {
     if text.is_empty() {
@@ -64,7 +64,7 @@ fn push_address<A: Allocator>(line: &mut LineText<A>, text: &str) -> Result<(), 
 
 fn push_name<A: Allocator>(line: &mut LineText<A>, name: &str) -> Result<(), AllocError>
     ensures written { OnOk result (string_bytes line.new.text ≡ string_bytes line.old.text
-        ++ behind_literal (string_bytes line.old.span) name.now
+        ++ after_literal (string_bytes line.old.span) name.now
         (page_link name.now)) }
     ensures left { OnOk result (string_bytes line.new.span ≡ span_left (string_bytes line.old.span) name.now) }
 {
@@ -145,10 +145,10 @@ fn is_block_mark(byte: u8) -> bool
     matches!(byte, b'#' | b'+' | b'-' | b'=' | b'>' | b'~')
 }
 
-fn wants_mark(is_behind_digit: bool, byte: u8) -> bool
-    ensures { result ≡ wants_mark is_behind_digit byte }
+fn wants_mark(is_after_digit: bool, byte: u8) -> bool
+    ensures { result ≡ wants_mark is_after_digit byte }
 {
-    if is_behind_digit {
+    if is_after_digit {
         matches!(byte, b'.' | b')')
     } else {
         is_block_mark(byte)
@@ -161,12 +161,12 @@ fn mark_if(is_wanted: bool) -> &'static str
     if is_wanted { "\\" } else { "" }
 }
 
-fn front_mark(is_behind_digit: bool, line: &str) -> &'static str
-    ensures { result.now ≡ front_mark is_behind_digit line.now }
+fn front_mark(is_after_digit: bool, line: &str) -> &'static str
+    ensures { result.now ≡ front_mark is_after_digit line.now }
 {
     match line.as_bytes() {
         [] => "",
-        [byte, ..] => mark_if(wants_mark(is_behind_digit, *byte)),
+        [byte, ..] => mark_if(wants_mark(is_after_digit, *byte)),
     }
 }
 
@@ -188,7 +188,7 @@ fn begins_in_blank(line: &[u8]) -> bool
 }
 
 // Writes a line that begins with a blank.
-fn push_behind_blank<A: Allocator>(out: &mut String<A>, line: &str) -> Result<(), AllocError>
+fn push_after_blank<A: Allocator>(out: &mut String<A>, line: &str) -> Result<(), AllocError>
     requires { begins_in_blank line.now ≡ true }
     ensures { OnOk result (string_bytes out.new
         ≡ string_bytes out.old ++ (kept_blank ++ with_end (drop 1 line.now))) }
@@ -206,7 +206,7 @@ pub fn push_line<A: Allocator>(out: &mut String<A>, line: &str) -> Result<(), Al
         return out.push_str("&#32;");
     }
     if begins_in_blank(line.as_bytes()) {
-        push_behind_blank(out, line)
+        push_after_blank(out, line)
     } else {
         push_guarded(out, line)
     }
@@ -221,7 +221,7 @@ pub fn push_framed<A: Allocator>(out: &mut String<A>, line: &str) -> Result<(), 
         return out.push_str("&#32;");
     }
     if begins_in_blank(line.as_bytes()) {
-        push_behind_blank(out, line)
+        push_after_blank(out, line)
     } else {
         push_with_end(out, line)
     }

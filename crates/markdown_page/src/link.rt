@@ -7,7 +7,7 @@ ghost use Rattle.markdown_page.specs.Bytes.{begins_with};
 ghost use Rattle.markdown_page.specs.Exact.{auto_text, link_text, page_link};
 ghost use Rattle.markdown_page.specs.Kept.{encoded_byte, heading_address, hex_digit, is_link, is_link_byte};
 ghost use Rattle.markdown_page.specs.Kept.{is_unreserved, page_address, target_address};
-ghost use Rattle.markdown_page.specs.Steps.{behind_text};
+ghost use Rattle.markdown_page.specs.Steps.{after_text};
 
 use crate::escape::{is_word, push_escaped};
 use crate::replace::Place;
@@ -137,7 +137,7 @@ pub fn push_target<A: Allocator + Copy>(
     target: Target<'_>,
 ) -> Result<(), AllocError>
     ensures { OnOk result (string_bytes out.new
-        ≡ string_bytes out.old ++ behind_text (target_address (target_of target.entry))) }
+        ≡ string_bytes out.old ++ after_text (target_address (target_of target.entry))) }
 {
     out.push_str("](")?;
     push_address(alloc, out, target)?;

@@ -7,7 +7,7 @@ use Rattle.page_model.specs.declared.parts.Rank.TheVariants.{Section}
 use Rattle.description.specs.Content.{LevelSaid, level, GroupsSaid, no_groups, groups, GroupSaid, group, CommandsSaid, no_commands, commands, CommandSaid, command}
 use Rattle.description.specs.Words.{WordsSaid}
 use Rattle.description_usage.specs.Usage.{group_list}
-use Rattle.description_pages.specs.Chapters.{chapter_from, chapter_if_shown, chapter_with, chapters_in_group, chapters_on, command_chapters, group_chapters, last_name, parts_behind}
+use Rattle.description_pages.specs.Chapters.{chapter_from, chapter_if_shown, chapter_with, chapters_in_group, chapters_on, command_chapters, group_chapters, last_name, parts_after}
 use Rattle.description_pages.specs.Levels.{PageSaid, SubjectSaid, page_of}
 use Rattle.description_pages.specs.Subjects.{below, in_short, is_shown}
 use Rattle.description_pages.specs.declared.levels.Depth.TheVariants.{Deep}
@@ -43,13 +43,13 @@ last_is : (names : List (List ℕ)) → Each Permitted names → Permitted (last
 last_is names h = each_get Permitted names (length names - 1) [] (clean.clean_nil is_permitted) h
 
 module _ (w : WordsSaid) (k : WordsAre w) where
-  behind_is : (s : SubjectSaid) (h : SubjectIs s) → Each PartIs (parts_behind w (page_of w Full Deep s))
-  behind_is s h =
+  after_is : (s : SubjectSaid) (h : SubjectIs s) → Each PartIs (parts_after w (page_of w Full Deep s))
+  after_is s h =
       let said : PageSaid = page_of w Full Deep s in
       in_order_is w k Full Deep s.names h.names Section (record said { about = [] }) (about_left w k Full Deep s.names h.names said (page_is w k Full Deep s h))
 
   with_lower : (s : SubjectSaid) → SubjectIs s → (lower : List ChapterSaid) → Each ChapterIs lower → ChapterIs (chapter_with w s lower)
-  with_lower s h lower j = let said = page_is w k Full Deep s h in (said.title, last_is s.names h.names, said.about, behind_is s h, all_in lower j)
+  with_lower s h lower j = let said = page_is w k Full Deep s h in (said.title, last_is s.names h.names, said.about, after_is s h, all_in lower j)
 
   mutual
     on_level : (s : SubjectSaid) → SubjectIs s → (l : LevelSaid) → Each Permitted (level_texts l) → Each ChapterIs (chapters_on w s l)

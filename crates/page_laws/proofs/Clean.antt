@@ -123,15 +123,15 @@ module _ (good : ℕ → Bool) where
   alone a y small h = seam (a ∷ []) y (IsCharBoundary-after_ascii (a ∷ y) 0 h.utf8 (omega arith) small) h
 
   -- after it
-  pub cut_behind : (x : List ℕ) (a : ℕ) (y : List ℕ) → a < 128 → Clean good (x ++ a ∷ y) → Halves (x ++ a ∷ []) y
-  cut_behind x a y small h =
+  pub cut_after : (x : List ℕ) (a : ℕ) (y : List ℕ) → a < 128 → Clean good (x ++ a ∷ y) → Halves (x ++ a ∷ []) y
+  cut_after x a y small h =
       let before = cut_before x a y small h in
-      let behind = alone a y small before.back in
-      record { front = clean_append x (a ∷ []) before.front behind.front; back = behind.back }
+      let after = alone a y small before.back in
+      record { front = clean_append x (a ∷ []) before.front after.front; back = after.back }
 
   -- without it
   pub cut_out : (x : List ℕ) (a : ℕ) (y : List ℕ) → a < 128 → Clean good (x ++ a ∷ y) → Halves x y
-  cut_out x a y small h = record { front = (cut_before x a y small h).front; back = (cut_behind x a y small h).back }
+  cut_out x a y small h = record { front = (cut_before x a y small h).front; back = (cut_after x a y small h).back }
 
   -- the next byte counts as part of what stands before
   pub next : (p : List ℕ) (b : ℕ) (text : List ℕ) → Clean good (p ++ b ∷ text) → Clean good ((p ++ b ∷ []) ++ text)
@@ -166,8 +166,8 @@ module _ (good : ℕ → Bool) where
   -- a byte at which a text may be cut, before what was cut already
   pub split_step : (is_cut : Bool) (p : List ℕ) (b : ℕ) (text : List ℕ) (parts : List (List ℕ)) → (is_cut ≡ true → b < 128) → ((r : List ℕ) → Clean good (r ++ text) → Parts r parts) → Clean good (p ++ b ∷ text)
       → Parts p (if is_cut then [] ∷ parts else onto_first b parts)
-  split_step true p b text parts small behind h = let cut = cut_out p b text (small refl) h in new_part p parts cut.front (behind [] cut.back)
-  split_step false p b text parts small behind h = onto_part p b parts (behind (p ++ b ∷ []) (next p b text h))
+  split_step true p b text parts small after h = let cut = cut_out p b text (small refl) h in new_part p parts cut.front (after [] cut.back)
+  split_step false p b text parts small after h = onto_part p b parts (after (p ++ b ∷ []) (next p b text h))
 
   pub clean_if : (t : Bool) (x y : List ℕ) → Clean good x → Clean good y → Clean good (if t then x else y)
   clean_if true x y h k = h
@@ -182,8 +182,8 @@ module _ (good : ℕ → Bool) where
         let le : prefix_len test text ≤ length text = prefix_len-le-length test text in
         subst (IsCharBoundary text) (add-one n) (IsCharBoundary-after_ascii text n u (omega arith) (ascii (get_or text n 0) (prefix_len_passes test text n 0 (omega arith))))
 
-    pub clean_behind_front : (text : List ℕ) (n : ℕ) → n ≤ prefix_len test text → Clean good text → Clean good (drop n text)
-    clean_behind_front text n h k = clean_drop text n (front_boundary text n k.utf8 h) k
+    pub clean_after_front : (text : List ℕ) (n : ℕ) → n ≤ prefix_len test text → Clean good text → Clean good (drop n text)
+    clean_after_front text n h k = clean_drop text n (front_boundary text n k.utf8 h) k
 
     pub clean_up_to : (text : List ℕ) (n : ℕ) → n ≤ prefix_len test text → Clean good text → Clean good (take n text)
     clean_up_to text n h k = clean_take text n (front_boundary text n k.utf8 h) k
@@ -195,12 +195,12 @@ module _ (good : ℕ → Bool) where
       by (inl less) = clean_take text n (IsCharBoundary-before_ascii text n less (ascii (get_or text n 0) (h less))) k
       by (inr more) = subst (Clean good) (sym (take_all n text more)) k
 
-    split_behind : (p text : List ℕ) → Clean good (p ++ text) → Parts p (slice_split test text)
-    split_behind p [] h = (h, tt)
-    split_behind p (b ∷ text) h = split_step (test b) p b text (slice_split test text) (ascii b) (λ r k. split_behind r text k) h
+    split_after : (p text : List ℕ) → Clean good (p ++ text) → Parts p (slice_split test text)
+    split_after p [] h = (h, tt)
+    split_after p (b ∷ text) h = split_step (test b) p b text (slice_split test text) (ascii b) (λ r k. split_after r text k) h
 
     pub each_split : (text : List ℕ) → Clean good text → Each (Clean good) (slice_split test text)
-    each_split text h = each_part (slice_split test text) (split_behind [] text h)
+    each_split text h = each_part (slice_split test text) (split_after [] text h)
 
   pub clean_repeated : (n b : ℕ) → is_low good b ≡ true → Clean good (replicate n b)
   clean_repeated zero b h = clean_nil

@@ -4,7 +4,7 @@ use Rattle.page_model.specs.Content.{words, Line, BlockSaid, paragraph, code, bu
 use Rattle.page_model.specs.Permitted.{is_permitted}
 use Rattle.description.specs.Content.{NameSaid, short, long, both, SpellingSaid, named, syntax, OptSaid, PositionalSaid, CommandNames, CommandSaid, command, LevelSaid}
 use Rattle.description.specs.Words.{WordsSaid}
-use Rattle.description_usage.specs.Entries.{alias_notes, behind_lines, body, command_entry, command_notes, entry_if_said, initial_terms, named_terms, named_word, note, noted, noted_body, option_entry, option_notes, option_word, positional_entry, positional_notes, positional_terms, spelled_terms}
+use Rattle.description_usage.specs.Entries.{alias_notes, after_lines, body, command_entry, command_notes, entry_if_said, initial_terms, named_terms, named_word, note, noted, noted_body, option_entry, option_notes, option_word, positional_entry, positional_notes, positional_terms, spelled_terms}
 use Rattle.description_usage.specs.Lines.{joined}
 use Rattle.description_usage.specs.Names.{shown_value}
 use Rattle.description_usage.specs.Syntax.{syntax_line, ways}
@@ -69,12 +69,12 @@ CommandIs (command called help l) = NamedIs called help l
 
 pub command_known : (m : CommandSaid) → Each Permitted (command_texts m) → CommandIs m
 command_known (command called help l) h =
-    let behind = each_right Permitted (initial_text called.initial) (called.aliases ++ (text_of help ++ level_texts l)) h.1 in
-    let said = each_right Permitted called.aliases (text_of help ++ level_texts l) behind in
+    let after = each_right Permitted (initial_text called.initial) (called.aliases ++ (text_of help ++ level_texts l)) h.1 in
+    let said = each_right Permitted called.aliases (text_of help ++ level_texts l) after in
     record {
       name = h.0;
       initial = each_left Permitted (initial_text called.initial) (called.aliases ++ (text_of help ++ level_texts l)) h.1;
-      aliases = each_left Permitted called.aliases (text_of help ++ level_texts l) behind;
+      aliases = each_left Permitted called.aliases (text_of help ++ level_texts l) after;
       help = each_left Permitted (text_of help) (level_texts l) said;
       level = each_right Permitted (text_of help) (level_texts l) said;
     }
@@ -130,14 +130,14 @@ alias_notes_are word (name ∷ names) h k =
 
 -- ---- bodies
 
-behind_are : (notes : Line) (lines : List Line) → LineIs notes → Each LineIs lines → Each LineIs (behind_lines notes lines)
-behind_are notes [] h k = (h, tt)
-behind_are notes (line ∷ []) h k = (each_append PieceIs line (words (codes " ") ∷ notes) k.0 (fixed (codes " ") refl, h), tt)
-behind_are notes (line ∷ more ∷ lines) h k = (k.0, behind_are notes (more ∷ lines) h k.1)
+after_are : (notes : Line) (lines : List Line) → LineIs notes → Each LineIs lines → Each LineIs (after_lines notes lines)
+after_are notes [] h k = (h, tt)
+after_are notes (line ∷ []) h k = (each_append PieceIs line (words (codes " ") ∷ notes) k.0 (fixed (codes " ") refl, h), tt)
+after_are notes (line ∷ more ∷ lines) h k = (k.0, after_are notes (more ∷ lines) h k.1)
 
 noted_body_is : (notes : Line) (help : List BlockSaid) → LineIs notes → Each BlockIs help → Each BlockIs (noted_body notes help)
 noted_body_is notes [] h k = ((h, tt), tt)
-noted_body_is notes (paragraph lines ∷ []) h k = (behind_are notes lines h k.0, tt)
+noted_body_is notes (paragraph lines ∷ []) h k = (after_are notes lines h k.0, tt)
 noted_body_is notes (code lines ∷ []) h k = (k.0, ((h, tt), tt))
 noted_body_is notes (bullets items ∷ []) h k = (k.0, ((h, tt), tt))
 noted_body_is notes (paragraph lines ∷ more ∷ help) h k = each_append BlockIs (paragraph lines ∷ more ∷ help) (paragraph (notes ∷ []) ∷ []) k ((h, tt), tt)

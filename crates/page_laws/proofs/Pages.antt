@@ -20,10 +20,10 @@ use Rattle.description_pages.specs.Keys.{KeySaid, RowSaid, entries_once, positio
 use Rattle.description_pages.specs.Levels.{PageSaid, SubjectSaid, grouped_below, neighbours, notes_of, page_above, page_below, page_of, pages_below, sections_of, texts_of}
 use Rattle.description_pages.specs.Manuals.{manual_below, manual_of, manual_order, name_line, without_summary}
 use Rattle.description_pages.specs.Markdowns.{markdown_below, markdown_of}
-use Rattle.description_pages.specs.Once.{if_new, new_behind}
+use Rattle.description_pages.specs.Once.{if_new, new_after}
 use Rattle.description_pages.specs.References.{reference_blocks, with_references}
 use Rattle.description_pages.specs.Sections.{BodySaid, listed, told, SectionSaid, argument_section, choice_rows, command_rows, command_rows_of, command_target, given_blocks, group_rows, group_section, group_sections, joined_names, list_section, list_sections, option_rows, option_rows_of, option_section, page_name, row_if, shown_blocks, text_section, value_rows, value_rows_of, without_colon, without_last}
-use Rattle.description_pages.specs.Subjects.{below, below_commands, below_group, below_groups, below_level, commands_on, from_command, grouped, is_named, is_shown, led_to, listed as commands_listed, in_short, name_only, subjects_behind, subjects_below}
+use Rattle.description_pages.specs.Subjects.{below, below_commands, below_group, below_groups, below_level, commands_on, from_command, grouped, is_named, is_shown, led_to, listed as commands_listed, in_short, name_only, subjects_after, subjects_below}
 use Rattle.description_pages.specs.Summaries.{is_summary, summary, summary_of, without_full_stop, without_stop}
 use Rattle.description_pages.specs.Topics.{and_block, is_place, merged, own_section, own_sections, place_of, placed_blocks, placed_of, together, topic_blocks}
 use Rattle.description_pages.specs.declared.arranged.Case.{Case}
@@ -61,21 +61,21 @@ last_by true p b last e small h = clean.as_whole is_permitted p (cut_out is_perm
   same e = grind (arith, nat_tests)
 last_by false p b last e small h = h
 
-last_behind : (last : ℕ) → last < 128 → (p text : List ℕ) → Permitted (p ++ text) → Permitted (p ++ without_last last text)
-last_behind last small p [] h = h
-last_behind last small p (b ∷ []) h = last_by (b == last) p b last refl small h
-last_behind last small p (b ∷ c ∷ text) h = back_again is_permitted p b (without_last last (c ∷ text)) (last_behind last small (p ++ b ∷ []) (c ∷ text) (next is_permitted p b (c ∷ text) h))
+last_after : (last : ℕ) → last < 128 → (p text : List ℕ) → Permitted (p ++ text) → Permitted (p ++ without_last last text)
+last_after last small p [] h = h
+last_after last small p (b ∷ []) h = last_by (b == last) p b last refl small h
+last_after last small p (b ∷ c ∷ text) h = back_again is_permitted p b (without_last last (c ∷ text)) (last_after last small (p ++ b ∷ []) (c ∷ text) (next is_permitted p b (c ∷ text) h))
 
 colon_left : (title : List ℕ) → Permitted title → Permitted (without_colon title)
-colon_left title h = clean_trimmed is_permitted (without_last 58 title) (last_behind 58 (omega arith) [] title h)
+colon_left title h = clean_trimmed is_permitted (without_last 58 title) (last_after 58 (omega arith) [] title h)
 
-names_behind : (between : List ℕ) → Permitted between → (names : List (List ℕ)) → Each Permitted names → Permitted (flat_map (λ name. between ++ name) names)
-names_behind between b [] h = clean.clean_nil is_permitted
-names_behind between b (name ∷ names) h = clean_append is_permitted (between ++ name) (flat_map (λ name. between ++ name) names) (clean_append is_permitted between name b h.0) (names_behind between b names h.1)
+names_after : (between : List ℕ) → Permitted between → (names : List (List ℕ)) → Each Permitted names → Permitted (flat_map (λ name. between ++ name) names)
+names_after between b [] h = clean.clean_nil is_permitted
+names_after between b (name ∷ names) h = clean_append is_permitted (between ++ name) (flat_map (λ name. between ++ name) names) (clean_append is_permitted between name b h.0) (names_after between b names h.1)
 
 pub names_joined : (between : List ℕ) → Permitted between → (names : List (List ℕ)) → Each Permitted names → Permitted (joined_names between names)
 names_joined between b [] h = clean.clean_nil is_permitted
-names_joined between b (name ∷ names) h = clean_append is_permitted name (flat_map (λ name. between ++ name) names) h.0 (names_behind between b names h.1)
+names_joined between b (name ∷ names) h = clean_append is_permitted name (flat_map (λ name. between ++ name) names) h.0 (names_after between b names h.1)
 
 pub title_is : (names : List (List ℕ)) → Each Permitted names → Permitted (joined_names (codes " ") names)
 title_is = names_joined (codes " ") (fixed (codes " ") refl)
@@ -107,9 +107,9 @@ on_level (level t r os cs gs ps ms) h = each_append CommandIs (grouped gs) (comm
 
 -- ---- entries
 
-each_new : {X : Type 0} (Q : X → Type 0) (same : X → X → Bool) (before xs : List X) → Each Q xs → Each Q (new_behind same before xs)
+each_new : {X : Type 0} (Q : X → Type 0) (same : X → X → Bool) (before xs : List X) → Each Q xs → Each Q (new_after same before xs)
 each_new Q same before [] h = tt
-each_new Q same before (x ∷ xs) h = each_append Q (if_new same before x) (new_behind same (before ++ x ∷ []) xs) (each_unless Q _ (x ∷ []) (λ e. (h.0, tt))) (each_new Q same (before ++ x ∷ []) xs h.1)
+each_new Q same before (x ∷ xs) h = each_append Q (if_new same before x) (new_after same (before ++ x ∷ []) xs) (each_unless Q _ (x ∷ []) (λ e. (h.0, tt))) (each_new Q same (before ++ x ∷ []) xs h.1)
 
 module _ (w : WordsSaid) (k : WordsAre w) (detail : Detail) where
   abbrev RowIs : RowSaid → Type 0
@@ -151,7 +151,7 @@ module _ (w : WordsSaid) (k : WordsAre w) (detail : Detail) where
         (command_rows_are ms (each_right Permitted (command_texts m) (commands_texts ms) h))
 
     once : (rows : List RowSaid) → Each RowIs rows → Each EntryIs (entries_once rows)
-    once rows h = each_mapped EntryIs (λ row. row.entry) (new_behind (λ (x y : RowSaid). same_key x.key y.key) [] rows) (each_new RowIs (λ (x y : RowSaid). same_key x.key y.key) [] rows h)
+    once rows h = each_mapped EntryIs (λ row. row.entry) (new_after (λ (x y : RowSaid). same_key x.key y.key) [] rows) (each_new RowIs (λ (x y : RowSaid). same_key x.key y.key) [] rows h)
 
     -- ---- sections
 
@@ -395,7 +395,7 @@ some_is (b ∷ text) h = (h, tt)
 
 full_stop_left : (text : List ℕ) → Permitted text → Permitted (without_full_stop text)
 full_stop_left text h =
-    let bare = last_behind 32 (omega arith) [] (without_last 46 text) (last_behind 46 (omega arith) [] text h) in
+    let bare = last_after 32 (omega arith) [] (without_last 46 text) (last_after 46 (omega arith) [] text h) in
     clean_if is_permitted (ends_with ◌==◌ text (codes "..")) text (without_last 32 (without_last 46 text)) h bare
 
 stop_left : (line : Line) → LineIs line → LineIs (without_stop line)
@@ -501,5 +501,5 @@ names_are (o ∷ os) h = (record { spelling = h.0.spelling; value = h.0.value; d
 pub short_is : (s : SubjectSaid) → SubjectIs s → SubjectIs (in_short s)
 short_is s h = record { names = h.names; help = h.help; help_options = names_are s.help_options h.help_options; level = h.level }
 
-pub all_behind : (s : SubjectSaid) → SubjectIs s → Each SubjectIs (subjects_behind s)
-all_behind s h = all_below (in_short s) (short_is s h)
+pub all_after : (s : SubjectSaid) → SubjectIs s → Each SubjectIs (subjects_after s)
+all_after s h = all_below (in_short s) (short_is s h)

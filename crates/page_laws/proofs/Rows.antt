@@ -12,7 +12,7 @@ escaped_line name piece line = words name ∷ words (27 ∷ codes "- ") ∷ piec
 refused : (name : List ℕ) (piece : Piece) (line : Line) → is_permitted_part (block (paragraph (escaped_line name piece line ∷ []))) ≡ true → ⊥
 refused name piece line h =
     let shown = and_parts (is_permitted_line (escaped_line name piece line)) true h in
-    let behind : Line = words (27 ∷ codes "- ") ∷ piece ∷ line in
-    let further = and_parts (are_permitted name) (list_all is_permitted_piece behind) shown.0 in
+    let after : Line = words (27 ∷ codes "- ") ∷ piece ∷ line in
+    let further = and_parts (are_permitted name) (list_all is_permitted_piece after) shown.0 in
     let between = and_parts (are_permitted (27 ∷ codes "- ")) (list_all is_permitted_piece (piece ∷ line)) further.1 in
     false≢true between.0

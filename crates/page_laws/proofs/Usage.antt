@@ -13,15 +13,15 @@ use Rattle.page_model.specs.Content.{Piece, words, literal, value, link, page, L
 use Rattle.page_model.specs.Permitted.{is_permitted, piece_text}
 use Rattle.description.specs.Content.{short, long, both, SpellingSaid, named, syntax, OptSaid, ChoiceSaid, PositionalSaid, TopicSaid, TextsSaid, LevelSaid, level, GroupsSaid, no_groups, groups, GroupSaid, group, CommandsSaid}
 use Rattle.description.specs.Words.{WordsSaid}
-use Rattle.description_usage.specs.Forms.{behind_colon, blank_for_tab, bracket_of, depths, form_text, given_forms, is_empty, is_lone, is_stand_in, level_text, line_form, line_forms, line_parts, open_behind, part_line, parts_form, restored, restored_piece, shaped, shaped_behind, stand_in, text_forms, untabbed, usage_forms, without_lead}
+use Rattle.description_usage.specs.Forms.{after_colon, blank_for_tab, bracket_of, depths, form_text, given_forms, is_empty, is_lone, is_stand_in, level_text, line_form, line_forms, line_parts, open_after, part_line, parts_form, restored, restored_piece, shaped, shaped_after, stand_in, text_forms, untabbed, usage_forms, without_lead}
 use Rattle.description_usage.specs.Lines.{joined}
 use Rattle.description_usage.specs.Margins.{is_margin, without_back, without_front, without_margins}
-use Rattle.description_usage.specs.Names.{is_bare, long_line, short_line, shown_value, value_behind, value_piece}
-use Rattle.description_usage.specs.Syntax.{begins, first_way, is_closing, is_dash, is_metavar, is_name, is_negated, is_one_name, is_opening, is_outside, is_same, is_separator, is_word_byte, names_behind, onto_parts, onto_stretches, parts, parts_behind, pieces_behind, shown_line, stretch_names, stretch_pieces, stretches, syntax_line, syntax_names, syntax_word, way_of, ways, without_dashes, word_piece, word_pieces}
-use Rattle.description_usage.specs.Usage.{called, called_spelling, choice_items, command_items, dots, dots_line, enclosed, group_items, group_list, group_positionals, in_round, in_square, level_shows_command, member_items, option_item, option_items, plain_item, positional_item, positional_items, positionals_behind, repeated_value, shown_options, shown_positionals, strict_item, strict_value, usage_items}
+use Rattle.description_usage.specs.Names.{is_bare, long_line, short_line, shown_value, value_after, value_piece}
+use Rattle.description_usage.specs.Syntax.{begins, first_way, is_closing, is_dash, is_metavar, is_name, is_negated, is_one_name, is_opening, is_outside, is_same, is_separator, is_word_byte, names_after, onto_parts, onto_stretches, parts, parts_after, pieces_after, shown_line, stretch_names, stretch_pieces, stretches, syntax_line, syntax_names, syntax_word, way_of, ways, without_dashes, word_piece, word_pieces}
+use Rattle.description_usage.specs.Usage.{called, called_spelling, choice_items, command_items, dots, dots_line, enclosed, group_items, group_list, group_positionals, in_round, in_square, level_shows_command, member_items, option_item, option_items, plain_item, positional_item, positional_items, positionals_after, repeated_value, shown_options, shown_positionals, strict_item, strict_value, usage_items}
 use Rattle.page_laws.proofs.Each.{Each, each_append, each_if, each_left, each_right, each_weaker}
 use Rattle.page_laws.specs.Texts.{choice_texts, commands_texts, group_texts, groups_texts, level_texts, option_texts, own_texts, positional_texts, spelling_texts, text_of, topic_texts}
-use Rattle.page_laws.proofs.Clean.{Clean, Halves, Parts, back_again, clean_append, clean_before, clean_behind_front, clean_drop, clean_low, clean_mapped, clean_weaker, cut_before, cut_behind, cut_out, each_part, each_split, is_low, new_part, next, onto_part}
+use Rattle.page_laws.proofs.Clean.{Clean, Halves, Parts, back_again, clean_append, clean_before, clean_after_front, clean_drop, clean_low, clean_mapped, clean_weaker, cut_before, cut_after, cut_out, each_part, each_split, is_low, new_part, next, onto_part}
 use Rattle.page_laws.proofs.Clean as clean
 use Rattle.page_laws.proofs.Blocks.{LineIs, Permitted, PieceIs, each_changed}
 
@@ -35,7 +35,7 @@ same_either false false h = absurd (true≢false h)
 module _ (good : ℕ → Bool) where
   module _ (test : ℕ → Bool) (ascii : (c : ℕ) → test c ≡ true → c < 128) where
     between : (p : List ℕ) (b c : ℕ) (cs : List ℕ) → (test b ≡ true) ⊎ (test c ≡ true) → Clean good ((p ++ b ∷ []) ++ c ∷ cs) → Halves good (p ++ b ∷ []) (c ∷ cs)
-    between p b c cs (inl e) h = cut_behind good p b (c ∷ cs) (ascii b e) (back_again good p b (c ∷ cs) h)
+    between p b c cs (inl e) h = cut_after good p b (c ∷ cs) (ascii b e) (back_again good p b (c ∷ cs) h)
     between p b c cs (inr e) h = cut_before good (p ++ b ∷ []) c cs (ascii c e) h
 
     stretch_by : (p : List ℕ) (b c : ℕ) (cs : List ℕ) (ss : List (List ℕ)) (t : Bool) → is_same (test b) (test c) ≡ t → Parts good (p ++ b ∷ []) ((c ∷ cs) ∷ ss)
@@ -48,24 +48,24 @@ module _ (good : ℕ → Bool) where
     stretch_step p b ([] ∷ ss) h = (clean.whole good (p ++ b ∷ []) h.0, h.1)
     stretch_step p b ((c ∷ cs) ∷ ss) h = stretch_by p b c cs ss (is_same (test b) (test c)) refl h
 
-    stretches_behind : (p text : List ℕ) → Clean good (p ++ text) → Parts good p (stretches test text)
-    stretches_behind p [] h = clean.whole good p h
-    stretches_behind p (b ∷ text) h = stretch_step p b (stretches test text) (stretches_behind (p ++ b ∷ []) text (next good p b text h))
+    stretches_after : (p text : List ℕ) → Clean good (p ++ text) → Parts good p (stretches test text)
+    stretches_after p [] h = clean.whole good p h
+    stretches_after p (b ∷ text) h = stretch_step p b (stretches test text) (stretches_after (p ++ b ∷ []) text (next good p b text h))
 
     each_stretch : (text : List ℕ) → Clean good text → Each (Clean good) (stretches test text)
-    each_stretch text h = each_part good (stretches test text) (stretches_behind [] text h)
+    each_stretch text h = each_part good (stretches test text) (stretches_after [] text h)
 
   part_step : (is_cut : Bool) (p : List ℕ) (b : ℕ) (text : List ℕ) (ps : List (List ℕ)) → (is_cut ≡ true → b < 128) → ((r : List ℕ) → Clean good (r ++ text) → Parts good r ps) → Clean good (p ++ b ∷ text) → Parts good p (onto_parts is_cut b ps)
-  part_step true p b text ps small behind h = let cut = cut_out good p b text (small refl) h in new_part good p ps cut.front (behind [] cut.back)
-  part_step false p b text ps small behind h = onto_part good p b ps (behind (p ++ b ∷ []) (next good p b text h))
+  part_step true p b text ps small after h = let cut = cut_out good p b text (small refl) h in new_part good p ps cut.front (after [] cut.back)
+  part_step false p b text ps small after h = onto_part good p b ps (after (p ++ b ∷ []) (next good p b text h))
 
   mark_small : (mark b : ℕ) (outside : Bool) → mark < 128 → (b == mark && outside) ≡ true → b < 128
   mark_small mark b outside small h = grind (arith, and_parts, nat_tests)
 
-  parts_from : (mark : ℕ) → mark < 128 → (before p text : List ℕ) → Clean good (p ++ text) → Parts good p (parts_behind mark before text)
+  parts_from : (mark : ℕ) → mark < 128 → (before p text : List ℕ) → Clean good (p ++ text) → Parts good p (parts_after mark before text)
   parts_from mark small before p [] h = (h, tt)
   parts_from mark small before p (b ∷ text) h =
-      part_step (b == mark && is_outside before) p b text (parts_behind mark (before ++ b ∷ []) text) (mark_small mark b (is_outside before) small) (λ r k. parts_from mark small (before ++ b ∷ []) r text k) h
+      part_step (b == mark && is_outside before) p b text (parts_after mark (before ++ b ∷ []) text) (mark_small mark b (is_outside before) small) (λ r k. parts_from mark small (before ++ b ∷ []) r text k) h
 
   parts_are : (mark : ℕ) → mark < 128 → (text : List ℕ) → Clean good text → Each (Clean good) (parts mark text)
   parts_are mark small text h = each_part good (parts mark text) (parts_from mark small [] [] text h)
@@ -92,10 +92,10 @@ module _ (good : ℕ → Bool) where
   stretch_are true text h = (h, tt)
   stretch_are false text h = words_are text h
 
-  pieces_are : (before : List ℕ) (texts : List (List ℕ)) → Each (Clean good) texts → Pieces (pieces_behind before texts)
+  pieces_are : (before : List ℕ) (texts : List (List ℕ)) → Each (Clean good) texts → Pieces (pieces_after before texts)
   pieces_are before [] h = tt
   pieces_are before (text ∷ texts) h =
-      each_append (λ piece. Clean good (piece_text piece)) (stretch_pieces before text) (pieces_behind (before ++ text) texts) (stretch_are (is_name before text || is_negated before text) text h.0) (pieces_are (before ++ text) texts h.1)
+      each_append (λ piece. Clean good (piece_text piece)) (stretch_pieces before text) (pieces_after (before ++ text) texts) (stretch_are (is_name before text || is_negated before text) text h.0) (pieces_are (before ++ text) texts h.1)
 
   pub syntax_is : (text : List ℕ) → Clean good text → Pieces (syntax_line text)
   syntax_is text h = pieces_are [] (stretches is_separator text) (each_stretch is_separator separator_ascii text h)
@@ -106,7 +106,7 @@ margin_ascii : (b : ℕ) → is_margin b ≡ true → b < 128
 margin_ascii b h = grind (arith, nat_tests)
 
 front_is : (text : List ℕ) → Permitted text → Permitted (without_front text)
-front_is text h = clean_behind_front is_permitted is_margin margin_ascii text (prefix_len is_margin text) (omega arith) h
+front_is text h = clean_after_front is_permitted is_margin margin_ascii text (prefix_len is_margin text) (omega arith) h
 
 last_passes : (test : ℕ → Bool) (text : List ℕ) → length text - suffix_len test text < length text → test (get_or text (length text - suffix_len test text) 0) ≡ true
 last_passes test text less =
@@ -150,15 +150,15 @@ shown_is text h =
 dash_ascii : (b : ℕ) → is_dash b ≡ true → b < 128
 dash_ascii b h = grind (arith, nat_tests)
 
-names_are : (before : List ℕ) (texts : List (List ℕ)) → Each Permitted texts → Each Permitted (names_behind before texts)
+names_are : (before : List ℕ) (texts : List (List ℕ)) → Each Permitted texts → Each Permitted (names_after before texts)
 names_are before [] h = tt
 names_are before (text ∷ texts) h =
-    each_append Permitted (stretch_names before text) (names_behind (before ++ text) texts) (each_if Permitted (is_outside before && (is_name before text || is_negated before text)) (text ∷ []) (h.0, tt))
+    each_append Permitted (stretch_names before text) (names_after (before ++ text) texts) (each_if Permitted (is_outside before && (is_name before text || is_negated before text)) (text ∷ []) (h.0, tt))
     (names_are (before ++ text) texts h.1)
 
 first_name_is : (names : List (List ℕ)) (text : List ℕ) → Each Permitted names → Permitted text → Permitted (unwrap_or (option_map without_dashes (slice_get names 0)) text)
 first_name_is [] text h k = k
-first_name_is (name ∷ names) text h k = clean_behind_front is_permitted is_dash dash_ascii name (prefix_len is_dash name) (omega arith) h.0
+first_name_is (name ∷ names) text h k = clean_after_front is_permitted is_dash dash_ascii name (prefix_len is_dash name) (omega arith) h.0
 
 pub syntax_word_is : (text : List ℕ) → Permitted text → Permitted (syntax_word text)
 syntax_word_is text h =
@@ -181,15 +181,15 @@ value_is word h = value_by (is_bare word) word h
 abbrev pub GivenIs : Option (List ℕ) → Type 0
 GivenIs o = Each Permitted (text_of o)
 
-behind_is : (between : List ℕ) → Permitted between → (word : Option (List ℕ)) → GivenIs word → LineIs (value_behind between word)
-behind_is between b None h = tt
-behind_is between b (Some word) h = (b, (value_is word h.0, tt))
+after_is : (between : List ℕ) → Permitted between → (word : Option (List ℕ)) → GivenIs word → LineIs (value_after between word)
+after_is between b None h = tt
+after_is between b (Some word) h = (b, (value_is word h.0, tt))
 
 pub short_is : (c : ℕ) (word : Option (List ℕ)) → Permitted (encode_utf8 c) → GivenIs word → LineIs (short_line c word)
-short_is c word h k = (clean_append is_permitted (codes "-") (encode_utf8 c) (fixed (codes "-") refl) h, behind_is (codes " ") (fixed (codes " ") refl) word k)
+short_is c word h k = (clean_append is_permitted (codes "-") (encode_utf8 c) (fixed (codes "-") refl) h, after_is (codes " ") (fixed (codes " ") refl) word k)
 
 pub long_is : (name : List ℕ) (word : Option (List ℕ)) → Permitted name → GivenIs word → LineIs (long_line name word)
-long_is name word h k = (clean_append is_permitted (codes "--") name (fixed (codes "--") refl) h, behind_is (codes "=") (fixed (codes "=") refl) word k)
+long_is name word h k = (clean_append is_permitted (codes "--") name (fixed (codes "--") refl) h, after_is (codes "=") (fixed (codes "=") refl) word k)
 
 -- ---- what is known of the parts of a level
 
@@ -330,7 +330,7 @@ plain_is p h = line_if p.required (repeated_value p) (in_square p.repeated (valu
 positional_is : (before : List PositionalSaid) (p : PositionalSaid) → PositionalIs p → LineIs (positional_item before p)
 positional_is before p h = line_if _ (strict_item p) (plain_item p) (strict_is p h) (plain_is p h)
 
-positionals_are : (before ps : List PositionalSaid) → Each PositionalIs ps → Each LineIs (positionals_behind before ps)
+positionals_are : (before ps : List PositionalSaid) → Each PositionalIs ps → Each LineIs (positionals_after before ps)
 positionals_are before [] h = tt
 positionals_are before (p ∷ ps) h = (positional_is before p h.0, positionals_are (before ++ p ∷ []) ps h.1)
 
@@ -454,22 +454,22 @@ bracket_by false true x y e = refl
 bracket_by false false x y e = absurd (true≢false (sym e))
 
 lone_bracket : (opened : List ℕ) (b : ℕ) (after : List ℕ) → is_lone opened b after ≡ true → (is_opening b || is_closing b) ≡ true
-lone_bracket opened b after h = bracket_by (is_opening b) (is_closing b) (list_all (nat_lt (length opened)) (depths (open_behind opened b) after)) (length (open_behind opened b) == length opened) h
+lone_bracket opened b after h = bracket_by (is_opening b) (is_closing b) (list_all (nat_lt (length opened)) (depths (open_after opened b) after)) (length (open_after opened b) == length opened) h
 
 stand_low : (b : ℕ) → (is_opening b || is_closing b) ≡ true → is_low is_shaped (stand_in b) ≡ true
 stand_low b h = grind (arith, nat_tests)
 
 shaped_step : (t : Bool) (p : List ℕ) (b : ℕ) (text rest : List ℕ) → (t ≡ true → (is_opening b || is_closing b) ≡ true) → ((q : List ℕ) → Clean is_shaped (q ++ text) → Clean is_shaped (q ++ rest)) → Clean is_shaped (p ++ b ∷ text)
     → Clean is_shaped (p ++ (if t then stand_in b else b) ∷ rest)
-shaped_step true p b text rest lone behind h =
+shaped_step true p b text rest lone after h =
     let cut = cut_out is_shaped p b text (small_bracket b (lone refl)) h in
-    clean_append is_shaped p (stand_in b ∷ rest) cut.front (clean_append is_shaped (stand_in b ∷ []) rest (clean_low is_shaped (stand_in b ∷ []) (and_from (is_low is_shaped (stand_in b)) true (stand_low b (lone refl)) refl)) (behind [] cut.back))
-shaped_step false p b text rest lone behind h = back_again is_shaped p b rest (behind (p ++ b ∷ []) (next is_shaped p b text h))
+    clean_append is_shaped p (stand_in b ∷ rest) cut.front (clean_append is_shaped (stand_in b ∷ []) rest (clean_low is_shaped (stand_in b ∷ []) (and_from (is_low is_shaped (stand_in b)) true (stand_low b (lone refl)) refl)) (after [] cut.back))
+shaped_step false p b text rest lone after h = back_again is_shaped p b rest (after (p ++ b ∷ []) (next is_shaped p b text h))
 
-shaped_from : (opened p text : List ℕ) → Clean is_shaped (p ++ text) → Clean is_shaped (p ++ shaped_behind opened text)
+shaped_from : (opened p text : List ℕ) → Clean is_shaped (p ++ text) → Clean is_shaped (p ++ shaped_after opened text)
 shaped_from opened p [] h = h
 shaped_from opened p (b ∷ text) h =
-    shaped_step (is_lone opened b text) p b text (shaped_behind (open_behind opened b) text) (lone_bracket opened b text) (λ q k. shaped_from (open_behind opened b) q text k) h
+    shaped_step (is_lone opened b text) p b text (shaped_after (open_after opened b) text) (lone_bracket opened b text) (λ q k. shaped_from (open_after opened b) q text k) h
 
 bracket_high : (b : ℕ) → 128 ≤ b → bracket_of b ≡ b
 bracket_high b h = grind (arith, nat_tests)
@@ -532,7 +532,7 @@ colon_by : (t : Bool) (b : ℕ) (bs line : List ℕ) → (t ≡ true → b < 128
 colon_by true b bs line small h k = front_is bs (cut_out is_permitted [] b bs (small refl) k).back
 colon_by false b bs line small h k = h
 
-colon_is : (rest line : List ℕ) → Permitted line → Permitted rest → Permitted (unwrap_or (behind_colon rest) line)
+colon_is : (rest line : List ℕ) → Permitted line → Permitted rest → Permitted (unwrap_or (after_colon rest) line)
 colon_is [] line h k = h
 colon_is (b ∷ bs) line h k = colon_by (b == 58 && (is_empty bs || begins (λ c. c == 32) bs)) b bs line (colon_small b (is_empty bs || begins (λ c. c == 32) bs)) h k
 
@@ -542,7 +542,7 @@ rest_is word line e h k =
     let same = ap length e in
     clean_drop is_permitted line (length word) (IsCharBoundary-from_take line (length word) k.utf8 (omega arith) (subst IsUtf8 (sym e) h.utf8)) k
 
-lead_by : (t : Bool) (word line : List ℕ) → (t ≡ true → take (length word) line ≡ word) → Permitted word → Permitted line → Permitted (unwrap_or (option_and_then behind_colon (if t then Some (drop (length word) line) else None)) line)
+lead_by : (t : Bool) (word line : List ℕ) → (t ≡ true → take (length word) line ≡ word) → Permitted word → Permitted line → Permitted (unwrap_or (option_and_then after_colon (if t then Some (drop (length word) line) else None)) line)
 lead_by true word line e h k = colon_is (drop (length word) line) line k (rest_is word line (e refl) h k)
 lead_by false word line e h k = k
 

@@ -9,7 +9,7 @@ use Rattle.description_pages.specs.Levels.{SubjectSaid}
 use Rattle.description_pages.specs.Manuals.{manual_below, manual_of}
 use Rattle.description_pages.specs.Markdowns.{markdown_below, markdown_of}
 use Rattle.description_pages.specs.Sections.{joined_names, page_name}
-use Rattle.description_pages.specs.Subjects.{led_to, subjects_behind}
+use Rattle.description_pages.specs.Subjects.{led_to, subjects_after}
 use Rattle.description_pages.specs.declared.levels.Depth.{Depth}
 use Rattle.description_pages.specs.declared.sections.Detail.{Detail}
 use Rattle.page_laws.specs.Laws.{is_fit}
@@ -27,11 +27,11 @@ pub record IsPermitted (fixed : WordsSaid) (s : SubjectSaid) : Type 0 where
   -- in markdown, with the title above
   pub markdown_title : are_permitted (joined_names (codes " ") s.names) ≡ true
   pub markdown : (depth : Depth) → list_all is_permitted_part (markdown_of fixed depth s) ≡ true
-  pub deep_markdown : list_all is_permitted_part (flat_map (markdown_below fixed) (subjects_behind s)) ≡ true
+  pub deep_markdown : list_all is_permitted_part (flat_map (markdown_below fixed) (subjects_after s)) ≡ true
   -- as a manual page, with the name in its title line
   pub manual_name : are_permitted (page_name s.names) ≡ true
   pub manual : list_all is_permitted_part (manual_of fixed s) ≡ true
-  pub deep_manual : list_all is_permitted_part (flat_map (manual_below fixed) (subjects_behind s)) ≡ true
+  pub deep_manual : list_all is_permitted_part (flat_map (manual_below fixed) (subjects_after s)) ≡ true
   -- with all levels below it, as a page in HTML has them
   pub chapter : list_all are_permitted (chapter_texts (chapter_from fixed s)) ≡ true
 

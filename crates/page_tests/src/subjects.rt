@@ -3,7 +3,7 @@ use crate::refusals::{BYTES, STEP, roomy, taken};
 use bumpalo::Bump;
 use description::{Command, Group, Level};
 use description_pages::levels::LevelSubject;
-use description_pages::subjects::{all_behind, all_from, enter, page_name, title};
+use description_pages::subjects::{all_after, all_from, enter, page_name, title};
 use std::alloc::{AllocError, Global};
 use std::process::Abort;
 
@@ -154,7 +154,7 @@ fn are_found<'p>(
     let Some(store) = enter(arena, subject, "store")? else {
         return Ok(false);
     };
-    let below = all_behind(arena, store)?;
+    let below = all_after(arena, store)?;
     Ok(
         have_titles(arena, all.as_slice(), TITLES)?
             && have_titles(arena, below.as_slice(), BELOW)?

@@ -143,9 +143,9 @@ fn page(alloc: Global, place: Place, text: &'static str) -> Result<String, PageF
 
 fn is_written(rt: &impl Abort, out: Global, &(place, text, want): &Row) -> bool {
     let page = page(out, place, text).expect(rt, "a page");
-    let (before, behind) = around(place);
+    let (before, after) = around(place);
     let written = page.as_str().strip_prefix(before);
-    let is_that = written.and_then(|rest| rest.strip_suffix(behind)) == Some(want);
+    let is_that = written.and_then(|rest| rest.strip_suffix(after)) == Some(want);
     drop(page);
     is_that
 }

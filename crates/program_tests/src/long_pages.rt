@@ -158,12 +158,12 @@ const PIECES: &[(&Frame, &str, &str)] = &[
 /// Pushes a word between these two.
 pub fn push_between(
     text: &mut String,
-    [before, behind]: [&str; 2],
+    [before, after]: [&str; 2],
     word: &str,
 ) -> Result<(), AllocError> {
     text.push_str(before)?;
     text.push_str(word)?;
-    text.push_str(behind)
+    text.push_str(after)
 }
 
 // A text with many words of their own, each of which fills a line, between these two.

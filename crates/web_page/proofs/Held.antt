@@ -15,7 +15,7 @@ use Rattle.web_page.proofs.Nodes.{joined-assoc, joined-none, are_fit-joined, are
 use Rattle.web_page.proofs.Pages.{IsBodyContent, body_of, fit_head, front_reads, page_reads}
 use Rattle.web_page.proofs.Readings.{CanStart, ReadAttributes, break_reads, each_tag, end_reads, run, run-append, run_then, start_reads, text_reads}
 use Rattle.web_page.proofs.Settles.{settles}
-use Rattle.web_page.proofs.White.{clean_white, elements-behind, elements-with_words, white_reads}
+use Rattle.web_page.proofs.White.{clean_white, elements-after, elements-with_words, white_reads}
 use Rattle.web_page.proofs.Texts.{IsClean, is_ascii_byte, clean-append, clean-ascii, clean-escaped, clean-nil, kept_text}
 use Rattle.web_page.specs.declared.elements.Child.{Child}
 use Rattle.web_page.specs.declared.elements.Child.TheVariants.{Words, Inner}
@@ -356,27 +356,27 @@ whole_held bytes here o u may =
 -- what follows the front
 pub content_held : {at : ℕ} (bytes : List ℕ) (here : Open) (o : IsOngoing bytes at here []) → ends here ≡ true → ReadsInBody o.content.content o.draft.nodes
 unfolding reading_of
-content_held bytes here o may front language head f before behind white white_behind =
+content_held bytes here o may front language head f before after white white_after =
     let at = at_body here o.draft.open_elements o.draft.nodes o.are_open may in
     let c = o.content in
     let content : List ℕ = c.content in
     let nodes : Nodes = o.draft.nodes in
     let space : Nodes = with_words none before in
     let open_body : Nodes → Reading = λ x. reading Content (Some (body_of language head x)) in
-    let found : Nodes = with_words (joined space nodes) behind in
+    let found : Nodes = with_words (joined space nodes) after in
     let moves : in_page language head space o.draft ≡ body_of language head (joined space nodes) =
     ap (λ list. in_page language head space (record { open_elements = list; nodes = nodes })) (at.body.2 ∙ at.body.3.is) in
     let reads_content : run (open_body space) content ≡ open_body (joined space nodes) =
     ap (λ x. run (open_body x) content) (sym (joined-none space)) ∙ c.reads language head space ∙ ap (λ draft. reading Content (Some draft)) moves in
-    let reads : run begin (front ++ (before ++ (content ++ behind))) ≡ open_body found =
-    run_then begin (open_body none) (open_body found) front (before ++ (content ++ behind)) f.reads
-    (run_then (open_body none) (open_body space) (open_body found) before (content ++ behind) (white_reads (body_of language head none) before white)
-    (run_then (open_body space) (open_body (joined space nodes)) (open_body found) content behind reads_content (white_reads (body_of language head (joined space nodes)) behind white_behind))) in
+    let reads : run begin (front ++ (before ++ (content ++ after))) ≡ open_body found =
+    run_then begin (open_body none) (open_body found) front (before ++ (content ++ after)) f.reads
+    (run_then (open_body none) (open_body space) (open_body found) before (content ++ after) (white_reads (body_of language head none) before white)
+    (run_then (open_body space) (open_body (joined space nodes)) (open_body found) content after reads_content (white_reads (body_of language head (joined space nodes)) after white_after))) in
     let settles_so : settled Body found ≡ Some nodes =
-    elements-with_words (joined space nodes) behind white_behind ∙ elements-behind before nodes white ∙ settles Body nodes at.content.ordered at.content.kept in
+    elements-with_words (joined space nodes) after white_after ∙ elements-after before nodes white ∙ settles Body nodes at.content.ordered at.content.kept in
     let parts = and_parts (is_utf8 front) (list_all is_permitted (chars front)) f.is_text in
-    let clean = clean-append front (before ++ (content ++ behind)) (record { utf8 = IsUtf8-from_is_utf8 front parts.0; permitted = parts.1 })
-    (clean-append before (content ++ behind) (clean_white before white) (clean-append content behind (record { utf8 = c.utf8; permitted = c.permitted }) (clean_white behind white_behind))) in
+    let clean = clean-append front (before ++ (content ++ after)) (record { utf8 = IsUtf8-from_is_utf8 front parts.0; permitted = parts.1 })
+    (clean-append before (content ++ after) (clean_white before white) (clean-append content after (record { utf8 = c.utf8; permitted = c.permitted }) (clean_white after white_after))) in
     subst (λ x. ReadsAs x (page_of language head nodes))
-    (append_assoc front (before ++ (content ++ behind)) page_end ∙ ap (λ x. front ++ x) (append_assoc before (content ++ behind) page_end ∙ ap (λ x. before ++ x) (append_assoc content behind page_end)))
-    (page_reads (front ++ (before ++ (content ++ behind))) language head found nodes clean reads settles_so f.is_language f.fit f.encoded at.content)
+    (append_assoc front (before ++ (content ++ after)) page_end ∙ ap (λ x. front ++ x) (append_assoc before (content ++ after) page_end ∙ ap (λ x. before ++ x) (append_assoc content after page_end)))
+    (page_reads (front ++ (before ++ (content ++ after))) language head found nodes clean reads settles_so f.is_language f.fit f.encoded at.content)

@@ -76,16 +76,16 @@ takes_after tag before (text bytes none) = true
 takes_after tag before (text bytes rest) = takes_after tag (Some Words) rest
 takes_after tag before (element inner given content rest) = takes_after tag (Some (Inner inner)) rest
 
-takes_behind_text : (tag : Tag) (before : Option Child) (bytes : List ℕ) (nodes : Nodes) → takes_after tag (Some Words) nodes ≡ true → takes_after tag before (text bytes nodes) ≡ true
-takes_behind_text tag before bytes nodes h4 = grind arith
+takes_after_text : (tag : Tag) (before : Option Child) (bytes : List ℕ) (nodes : Nodes) → takes_after tag (Some Words) nodes ≡ true → takes_after tag before (text bytes nodes) ≡ true
+takes_after_text tag before bytes nodes h4 = grind arith
 
 takes_from_may : (tag : Tag) (before : Option Child) (nodes : Nodes) → may_hold tag (last_child before nodes) Words ≡ true → takes_after tag before nodes ≡ true
 takes_from_may tag before none h = h
-takes_from_may tag before (text bytes rest) h = takes_behind_text tag before bytes rest (takes_from_may tag (Some Words) rest h)
+takes_from_may tag before (text bytes rest) h = takes_after_text tag before bytes rest (takes_from_may tag (Some Words) rest h)
 takes_from_may tag before (element inner given content rest) h = takes_from_may tag (Some (Inner inner)) rest h
 
 takes_after-with_byte : (tag : Tag) (before : Option Child) (nodes : Nodes) (b : ℕ) → takes_after tag before (with_byte nodes b) ≡ true
-takes_after-with_byte tag before (text bytes (text more rest)) b = takes_behind_text tag before bytes (with_byte (text more rest) b) (takes_after-with_byte tag (Some Words) (text more rest) b)
+takes_after-with_byte tag before (text bytes (text more rest)) b = takes_after_text tag before bytes (with_byte (text more rest) b) (takes_after-with_byte tag (Some Words) (text more rest) b)
 takes_after-with_byte tag before (text bytes (element inner given content rest)) b = takes_after-with_byte tag (Some Words) (element inner given content rest) b
 takes_after-with_byte tag before (element inner given content rest) b = takes_after-with_byte tag (Some (Inner inner)) rest b
 takes_after-with_byte tag before x b = grind arith

@@ -75,23 +75,23 @@ front_reads language title style kept_language kept_title kept_style no_sign =
     let empty : Attribute = record { name = codes "lang"; value = [] } in
     let full : Attribute = record { name = codes "lang"; value = language } in
     let ended : Reading = reading Content (Some (with_end_in (style_frame title ∷ head_frame ∷ html_frame language ∷ []) (with_words none style))) in
-    let behind_style : List ℕ = style ++ codes "</style></head><body>" in
-    let behind_title : List ℕ = codes "</title><style>" ++ behind_style in
-    let from_title : List ℕ = escaped false title ++ behind_title in
+    let after_style : List ℕ = style ++ codes "</style></head><body>" in
+    let after_title : List ℕ = codes "</title><style>" ++ after_style in
+    let from_title : List ℕ = escaped false title ++ after_title in
     let from_head : List ℕ = codes "<head><meta charset=\"utf-8\"><meta name=\"viewport\" content=\"width=device-width\"><title>" ++ from_title in
-    let behind_language : List ℕ = codes "\">" ++ from_head in
+    let after_language : List ℕ = codes "\">" ++ from_head in
     let whole : Reading = reading Content (Some (new_page language title style)) in
-    let style_part : run (reading Raw (Some (in_style language title none))) behind_style ≡ whole =
+    let style_part : run (reading Raw (Some (in_style language title none))) after_style ≡ whole =
     style_reads style (in_style language title none) (codes "/style></head><body>") no_sign
     ∙ run_then (reading RawSign (Some (in_style language title (with_words none style)))) ended whole (codes "/style>") (codes "</head><body>") (style_ends language title (with_words none style) (words_settle Style style (style_in_order style) kept_style)) refl in
     let title_part : run (reading Content (Some (in_title language none))) from_title ≡ whole =
-    run_then (reading Content (Some (in_title language none))) (reading Content (Some (in_title language (with_words none title)))) whole (escaped false title) behind_title (text_reads (in_title language none) title)
-    (run_then (reading Content (Some (in_title language (with_words none title)))) (reading Raw (Some (in_style language title none))) whole (codes "</title><style>") behind_style (to_style language title kept_title) style_part) in
-    let head_part : run (at_language full) behind_language ≡ whole =
+    run_then (reading Content (Some (in_title language none))) (reading Content (Some (in_title language (with_words none title)))) whole (escaped false title) after_title (text_reads (in_title language none) title)
+    (run_then (reading Content (Some (in_title language (with_words none title)))) (reading Raw (Some (in_style language title none))) whole (codes "</title><style>") after_style (to_style language title kept_title) style_part) in
+    let head_part : run (at_language full) after_language ≡ whole =
     run_then (at_language full) (reading Content (Some (html_open language))) whole (codes "\">") from_head (first_tag language kept_language)
     (run_then (reading Content (Some (html_open language))) (reading Content (Some (in_title language none))) whole (codes "<head><meta charset=\"utf-8\"><meta name=\"viewport\" content=\"width=device-width\"><title>") from_title (to_title language) title_part) in
-    run_then begin (at_language empty) whole (codes "<!DOCTYPE html><html lang=\"") (escaped true language ++ behind_language) refl
-    (run_then (at_language empty) (at_language full) whole (escaped true language) behind_language (value_reads opening empty (Some no_draft) language) head_part)
+    run_then begin (at_language empty) whole (codes "<!DOCTYPE html><html lang=\"") (escaped true language ++ after_language) refl
+    (run_then (at_language empty) (at_language full) whole (escaped true language) after_language (value_reads opening empty (Some no_draft) language) head_part)
 
 pub clean_front : (language title style : List ℕ) → IsUtf8 language → are_written language ≡ true → IsUtf8 title → are_written title ≡ true → IsUtf8 style → are_written style ≡ true → IsClean (page_front language title style)
 clean_front language title style a b c d e f =

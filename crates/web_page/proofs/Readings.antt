@@ -7,7 +7,7 @@ use Rattle.std.proofs.lemmas.Bool.{and_parts, and_from, or_parts, ne_eqb, cases_
 use Rattle.std.proofs.lemmas.List.Sums.{fold-append}
 use Rattle.web_page.specs.Tree.{Attribute, Nodes, none, is_tag, name_of, tags}
 use Rattle.web_page.specs.Reader
-use Rattle.web_page.specs.Reader.{Draft, Frame, Mode, Opening, Reading, Token, Start, End, Content, BehindPre, Raw, RawSign, Sign, StartName, EndName, Inside, Name, Equals, Value, BehindValue, are_attributes, behind_start, built, is_letter, is_name_byte, is_void, is_white, next, reading, settled, takes_elements, with_byte, with_element, with_start, with_tag}
+use Rattle.web_page.specs.Reader.{Draft, Frame, Mode, Opening, Reading, Token, Start, End, Content, AfterPre, Raw, RawSign, Sign, StartName, EndName, Inside, Name, Equals, Value, AfterValue, are_attributes, after_start, built, is_letter, is_name_byte, is_void, is_white, next, reading, settled, takes_elements, with_byte, with_element, with_start, with_tag}
 use Rattle.web_page.specs.Calls.{attribute, has_end_sign, with_end_in, with_text}
 use Rattle.web_page.specs.Exact.{attributes_text, end_text, escaped, escaped_byte, start_text, tag_end}
 use Rattle.web_page.specs.Steps.Stored.{named}
@@ -97,11 +97,11 @@ end_name_reads : (draft : Option Draft) (before name : List ℕ) → list_all is
 end_name_reads draft before [] h = ap (λ x. reading (EndName x) draft) (sym (append-nil before))
 end_name_reads draft before (b ∷ name) h = grind (arith, end_name_reads draft (before ++ b ∷ []) name, and_parts, ne_eqb, not_greater, append_assoc)
 
-name_behind_sign : (draft : Option Draft) (name : List ℕ) → is_name name ≡ true → run (reading Sign draft) name ≡ reading (StartName name) draft
-name_behind_sign draft name h2 = grind (arith, and_parts, ne_eqb, not_slash, start_name_reads)
+name_after_sign : (draft : Option Draft) (name : List ℕ) → is_name name ≡ true → run (reading Sign draft) name ≡ reading (StartName name) draft
+name_after_sign draft name h2 = grind (arith, and_parts, ne_eqb, not_slash, start_name_reads)
 
-name_behind_slash : (draft : Option Draft) (name : List ℕ) → is_name name ≡ true → run (reading (EndName []) draft) name ≡ reading (EndName name) draft
-name_behind_slash draft name h2 = grind (arith, and_parts, end_name_reads, and_from, name_byte)
+name_after_slash : (draft : Option Draft) (name : List ℕ) → is_name name ≡ true → run (reading (EndName []) draft) name ≡ reading (EndName name) draft
+name_after_slash draft name h2 = grind (arith, and_parts, end_name_reads, and_from, name_byte)
 
 -- ---- start tags
 
@@ -118,16 +118,16 @@ named_pre tag = truths _ _ (each_tag (λ other. same_truth (bytes_eq (name_of ot
 named_style : (tag : Tag) → bytes_eq (name_of tag) (codes "style") ≡ is_tag Style tag
 named_style tag = truths _ _ (each_tag (λ other. same_truth (bytes_eq (name_of other) (codes "style")) (is_tag Style other)) refl tag)
 
-abbrev behind_pre : Bool → Mode
-behind_pre pre = if pre then BehindPre else Content
+abbrev after_pre : Bool → Mode
+after_pre pre = if pre then AfterPre else Content
 
 abbrev newline_if : Bool → List ℕ
 newline_if pre = if pre then codes "\n" else []
 
-mode_behind : (tag : Tag) → is_tag Style tag ≡ false → behind_start (name_of tag) ≡ behind_pre (is_tag (Of Pre) tag)
-mode_behind tag h = rw (named_pre tag, named_style tag, h) refl
+mode_after : (tag : Tag) → is_tag Style tag ≡ false → after_start (name_of tag) ≡ after_pre (is_tag (Of Pre) tag)
+mode_after tag h = rw (named_pre tag, named_style tag, h) refl
 
-newline_reads : (draft : Option Draft) (pre : Bool) → run (reading (behind_pre pre) draft) (newline_if pre) ≡ reading Content draft
+newline_reads : (draft : Option Draft) (pre : Bool) → run (reading (after_pre pre) draft) (newline_if pre) ≡ reading Content draft
 newline_reads draft pre = grind arith
 
 two_parts : (pre : Bool) → (if pre then codes ">\n" else codes ">") ≡ codes ">" ++ newline_if pre
@@ -162,14 +162,14 @@ target_attribute value name draft = value_ends (codes "href") value name draft
 pub start_reads : (draft : Draft) (tag : Tag) (given : List Attribute) → CanStart draft tag given → ReadAttributes given → run (at_content draft) (start_text tag given) ≡ at_content (with_start draft tag given)
 start_reads draft tag given can attributes =
     let pre : Bool = is_tag (Of Pre) tag in
-    let tag_ends : run (reading (StartName (name_of tag)) (Some draft)) (attributes_text given ++ codes ">") ≡ reading (behind_pre pre) (Some (with_start draft tag given)) =
-    attributes (name_of tag) (Some draft) ∙ ap (λ mode. reading mode (built (Some draft) (Start (name_of tag) given))) (mode_behind tag can.not_style) ∙ ap (reading (behind_pre pre)) (start_builds draft tag given can) in
+    let tag_ends : run (reading (StartName (name_of tag)) (Some draft)) (attributes_text given ++ codes ">") ≡ reading (after_pre pre) (Some (with_start draft tag given)) =
+    attributes (name_of tag) (Some draft) ∙ ap (λ mode. reading mode (built (Some draft) (Start (name_of tag) given))) (mode_after tag can.not_style) ∙ ap (reading (after_pre pre)) (start_builds draft tag given can) in
     let whole_end : run (reading (StartName (name_of tag)) (Some draft)) (attributes_text given ++ tag_end tag) ≡ at_content (with_start draft tag given) =
     ap (λ x. run (reading (StartName (name_of tag)) (Some draft)) (attributes_text given ++ x)) (two_parts pre)
     ∙ ap (run (reading (StartName (name_of tag)) (Some draft))) (sym (append_assoc (attributes_text given) (codes ">") (newline_if pre)))
     ∙ run_then _ _ _ (attributes_text given ++ codes ">") (newline_if pre) tag_ends (newline_reads (Some (with_start draft tag given)) pre) in
     run_then (at_content draft) (reading Sign (Some draft)) _ (codes "<") (name_of tag ++ (attributes_text given ++ tag_end tag)) refl
-    (run_then (reading Sign (Some draft)) (reading (StartName (name_of tag)) (Some draft)) _ (name_of tag) (attributes_text given ++ tag_end tag) (name_behind_sign (Some draft) (name_of tag) (name_is_name tag)) whole_end)
+    (run_then (reading Sign (Some draft)) (reading (StartName (name_of tag)) (Some draft)) _ (name_of tag) (attributes_text given ++ tag_end tag) (name_after_sign (Some draft) (name_of tag) (name_is_name tag)) whole_end)
 
 pub break_reads : (draft : Draft) → takes_elements draft.open_elements ≡ true → run (at_content draft) (codes "<br>") ≡ at_content (with_element draft Br [] none)
 break_reads draft takes = rw takes refl
@@ -178,7 +178,7 @@ break_reads draft takes = rw takes refl
 
 pub end_settles : (frame : Frame) (frames : List Frame) (found nodes : Nodes) → settled frame.tag found ≡ Some nodes
     → run (at_content (record { open_elements = frame ∷ frames; nodes = found })) (end_text frame.tag) ≡ at_content (with_end_in (frame ∷ frames) nodes)
-end_settles frame frames found nodes settles = grind (arith, same_name, run_then, name_behind_slash, name_is_name)
+end_settles frame frames found nodes settles = grind (arith, same_name, run_then, name_after_slash, name_is_name)
 
 pub end_reads : (frame : Frame) (frames : List Frame) (nodes : Nodes) → settled frame.tag nodes ≡ Some nodes
     → run (at_content (record { open_elements = frame ∷ frames; nodes = nodes })) (end_text frame.tag) ≡ at_content (with_end_in (frame ∷ frames) nodes)
@@ -186,8 +186,8 @@ end_reads frame frames nodes settles = end_settles frame frames nodes nodes sett
 
 -- ---- a style
 
-no_sign_behind : (b : ℕ) (bytes : List ℕ) → has_end_sign (b ∷ bytes) ≡ false → has_end_sign bytes ≡ false
-no_sign_behind b bytes h2 = grind (arith, or_parts)
+no_sign_after : (b : ℕ) (bytes : List ℕ) → has_end_sign (b ∷ bytes) ≡ false → has_end_sign bytes ≡ false
+no_sign_after b bytes h2 = grind (arith, or_parts)
 
 no_slash : (b : ℕ) (bytes : List ℕ) → has_end_sign (60 ∷ b ∷ bytes) ≡ false → b ≢ 47
 no_slash b bytes h e = grind (arith, or_parts)
@@ -203,10 +203,10 @@ abbrev SignReads : List ℕ → Type 0
 SignReads style = (draft : Draft) (rest : List ℕ) → has_end_sign (60 ∷ style) ≡ false → run (reading RawSign (Some draft)) (style ++ 60 ∷ rest) ≡ run (reading RawSign (Some (with_text (with_one draft 60) style))) rest
 
 raw_step : (b : ℕ) (bytes : List ℕ) → RawReads bytes → SignReads bytes → RawReads (b ∷ bytes)
-raw_step b bytes raw sign draft rest h = grind (arith, cases_eq, ne_eqb, no_sign_behind)
+raw_step b bytes raw sign draft rest h = grind (arith, cases_eq, ne_eqb, no_sign_after)
 
 sign_step : (b : ℕ) (bytes : List ℕ) → RawReads bytes → SignReads bytes → SignReads (b ∷ bytes)
-sign_step b bytes raw sign draft rest h = grind (arith, cases_eq, no_sign_behind, ne_eqb, no_slash)
+sign_step b bytes raw sign draft rest h = grind (arith, cases_eq, no_sign_after, ne_eqb, no_slash)
 
 both_read : (style : List ℕ) → RawReads style × SignReads style
 both_read [] = (λ draft rest h. refl, λ draft rest h. refl)

@@ -22,12 +22,12 @@ head_text = codes "<head><meta charset=\"utf-8\"><title>T</title><style></style>
 abbrev before_main : List ℕ
 before_main = codes "<!DOCTYPE html><html lang=\"en\">" ++ head_text ++ codes "<body><main>"
 
-abbrev behind_main : List ℕ
-behind_main = codes "</main></body></html>"
+abbrev after_main : List ℕ
+after_main = codes "</main></body></html>"
 
 -- what is read where main has this content
 abbrev main_of : List ℕ → Option Nodes
-main_of bytes = read (before_main ++ bytes ++ behind_main)
+main_of bytes = read (before_main ++ bytes ++ after_main)
 
 abbrev attribute : List ℕ → List ℕ → List Attribute
 attribute name value = record { name = name; value = value } ∷ []

@@ -13,7 +13,7 @@ use Rattle.web_page.specs.Exact.{attributes_text, escaped, start_text, tag_end}
 use Rattle.web_page.specs.Steps.Open.{attributes_of, is_inner, may_give}
 use Rattle.web_page.proofs.Held.{IsStart}
 use Rattle.web_page.proofs.Readings.{each_tag, id_attribute, no_attributes, target_attribute}
-use Rattle.web_page.proofs.Texts.{IsClean, clean-append, clean-ascii, clean-escaped, clean-nil, hash_utf8, is_ascii_byte, kept_text, written_behind_hash}
+use Rattle.web_page.proofs.Texts.{IsClean, clean-append, clean-ascii, clean-escaped, clean-nil, hash_utf8, is_ascii_byte, kept_text, written_after_hash}
 use Rattle.web_page.specs.declared.elements.Element.{Element}
 use Rattle.web_page.specs.declared.elements.Tag.{Tag}
 use Rattle.web_page.specs.declared.elements.Tag.TheVariants.{Style, Of}
@@ -65,7 +65,7 @@ start_is tag Place value u may =
     let both = and_parts (is_inner tag && fits_attributes tag (attribute (codes "href") target)) (are_written value) may in
     let parts = and_parts (is_inner tag) (fits_attributes tag (attribute (codes "href") target)) both.0 in
     let utf8 : IsUtf8 target = IsUtf8-append (codes "#") value hash_utf8 u in
-    let written : are_written target ≡ true = written_behind_hash value ∙ both.1 in
+    let written : are_written target ≡ true = written_after_hash value ∙ both.1 in
     record { fits = parts.1; distinct = lone (codes "href") target utf8 written; ends = not_void tag parts.0; not_style = no_style tag parts.0; read = target_attribute target; clean = clean_tag tag (attribute (codes "href") target) (clean_attribute (codes "href") target refl utf8 written) }
 
 -- an element of the body may stand without an attribute

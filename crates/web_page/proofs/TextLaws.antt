@@ -17,21 +17,21 @@ pub at_front : (b : ℕ) (bytes : List ℕ) → with_words none (b ∷ bytes) �
 at_front b bytes = on_text (b ∷ []) bytes
 
 -- a byte after nodes whose last is an element, or a text after one
-byte_behind : (nodes content : Nodes) (tag : Tag) (given : List Attribute) (b : ℕ) → with_byte (joined nodes (element tag given content none)) b ≡ joined nodes (element tag given content (text (b ∷ []) none))
-byte_behind (text bytes (text more rest)) content tag given b = ap (text bytes) (byte_behind (text more rest) content tag given b)
-byte_behind (text bytes (element inner others within rest)) content tag given b = ap (text bytes) (byte_behind (element inner others within rest) content tag given b)
-byte_behind (element inner others within rest) content tag given b = ap (element inner others within) (byte_behind rest content tag given b)
-byte_behind x content tag given b = grind arith
+byte_after : (nodes content : Nodes) (tag : Tag) (given : List Attribute) (b : ℕ) → with_byte (joined nodes (element tag given content none)) b ≡ joined nodes (element tag given content (text (b ∷ []) none))
+byte_after (text bytes (text more rest)) content tag given b = ap (text bytes) (byte_after (text more rest) content tag given b)
+byte_after (text bytes (element inner others within rest)) content tag given b = ap (text bytes) (byte_after (element inner others within rest) content tag given b)
+byte_after (element inner others within rest) content tag given b = ap (element inner others within) (byte_after rest content tag given b)
+byte_after x content tag given b = grind arith
 
-next_behind : (nodes content : Nodes) (tag : Tag) (given : List Attribute) (before : List ℕ) (b : ℕ) → with_byte (joined nodes (element tag given content (text before none))) b ≡ joined nodes (element tag given content (text (before ++ b ∷ []) none))
-next_behind (text bytes (text more rest)) content tag given before b = ap (text bytes) (next_behind (text more rest) content tag given before b)
-next_behind (text bytes (element inner others within rest)) content tag given before b = ap (text bytes) (next_behind (element inner others within rest) content tag given before b)
-next_behind (element inner others within rest) content tag given before b = ap (element inner others within) (next_behind rest content tag given before b)
-next_behind x content tag given before b = grind arith
+next_after : (nodes content : Nodes) (tag : Tag) (given : List Attribute) (before : List ℕ) (b : ℕ) → with_byte (joined nodes (element tag given content (text before none))) b ≡ joined nodes (element tag given content (text (before ++ b ∷ []) none))
+next_after (text bytes (text more rest)) content tag given before b = ap (text bytes) (next_after (text more rest) content tag given before b)
+next_after (text bytes (element inner others within rest)) content tag given before b = ap (text bytes) (next_after (element inner others within rest) content tag given before b)
+next_after (element inner others within rest) content tag given before b = ap (element inner others within) (next_after rest content tag given before b)
+next_after x content tag given before b = grind arith
 
-more_behind : (nodes content : Nodes) (tag : Tag) (given : List Attribute) (before bytes : List ℕ) → with_words (joined nodes (element tag given content (text before none))) bytes ≡ joined nodes (element tag given content (text (before ++ bytes) none))
-more_behind nodes content tag given before [] = ap (λ x. joined nodes (element tag given content (text x none))) (sym (append-nil before))
-more_behind nodes content tag given before (b ∷ bytes) = grind (arith, more_behind nodes content tag given (before ++ b ∷ []) bytes, next_behind, append_assoc)
+more_after : (nodes content : Nodes) (tag : Tag) (given : List Attribute) (before bytes : List ℕ) → with_words (joined nodes (element tag given content (text before none))) bytes ≡ joined nodes (element tag given content (text (before ++ bytes) none))
+more_after nodes content tag given before [] = ap (λ x. joined nodes (element tag given content (text x none))) (sym (append-nil before))
+more_after nodes content tag given before (b ∷ bytes) = grind (arith, more_after nodes content tag given (before ++ b ∷ []) bytes, next_after, append_assoc)
 
-pub behind : (nodes content : Nodes) (tag : Tag) (given : List Attribute) (b : ℕ) (bytes : List ℕ) → with_words (joined nodes (element tag given content none)) (b ∷ bytes) ≡ joined nodes (element tag given content (text (b ∷ bytes) none))
-behind nodes content tag given b bytes = ap (λ x. with_words x bytes) (byte_behind nodes content tag given b) ∙ more_behind nodes content tag given (b ∷ []) bytes
+pub after : (nodes content : Nodes) (tag : Tag) (given : List Attribute) (b : ℕ) (bytes : List ℕ) → with_words (joined nodes (element tag given content none)) (b ∷ bytes) ≡ joined nodes (element tag given content (text (b ∷ bytes) none))
+after nodes content tag given b bytes = ap (λ x. with_words x bytes) (byte_after nodes content tag given b) ∙ more_after nodes content tag given (b ∷ []) bytes

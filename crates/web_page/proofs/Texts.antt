@@ -122,8 +122,8 @@ one_hash = refl
 pub hash_utf8 : IsUtf8 (codes "#")
 hash_utf8 = (clean-ascii (codes "#") refl).utf8
 
-pub written_behind_hash : (bytes : List ℕ) → are_written (codes "#" ++ bytes) ≡ are_written bytes
-written_behind_hash bytes = ap (list_all is_written) (chars-append (codes "#") bytes hash_utf8 ∙ ap (λ cs. cs ++ chars bytes) one_hash)
+pub written_after_hash : (bytes : List ℕ) → are_written (codes "#" ++ bytes) ≡ are_written bytes
+written_after_hash bytes = ap (list_all is_written) (chars-append (codes "#") bytes hash_utf8 ∙ ap (λ cs. cs ++ chars bytes) one_hash)
 
 pub clean-escaped : (v : Bool) (bytes : List ℕ) → IsUtf8 bytes → are_written bytes ≡ true → IsClean (escaped v bytes)
 clean-escaped v bytes u w = subst (λ x. IsClean (escaped v x)) u.1.1 (clean_characters v u.0 u.1.0 (written_characters bytes u w))

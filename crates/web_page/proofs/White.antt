@@ -74,6 +74,6 @@ elements-with_words nodes (b ∷ bytes) h =
     let both = and_parts (is_white b) (list_all is_white bytes) h in
     elements-with_words (with_byte nodes b) bytes both.1 ∙ elements-with_byte nodes b both.0
 
-pub elements-behind : (bytes : List ℕ) (nodes : Nodes) → list_all is_white bytes ≡ true → elements_of (joined (with_words none bytes) nodes) ≡ elements_of nodes
-elements-behind [] nodes h = refl
-elements-behind (b ∷ bytes) nodes h = ap (λ x. elements_of (joined x nodes)) (at_front b bytes) ∙ rw h refl
+pub elements-after : (bytes : List ℕ) (nodes : Nodes) → list_all is_white bytes ≡ true → elements_of (joined (with_words none bytes) nodes) ≡ elements_of nodes
+elements-after [] nodes h = refl
+elements-after (b ∷ bytes) nodes h = ap (λ x. elements_of (joined x nodes)) (at_front b bytes) ∙ rw h refl

@@ -251,5 +251,5 @@ pub record IsFront (front language : List ℕ) (head : Nodes) : Type 0 where
 abbrev pub ReadsInBody : List ℕ → Nodes → Type 0
 ReadsInBody bytes nodes =
     (front language : List ℕ) (head : Nodes) → IsFront front language head
-    → (before behind : List ℕ) → list_all is_white before ≡ true → list_all is_white behind ≡ true
-    → ReadsAs (front ++ (before ++ (bytes ++ (behind ++ codes "</body></html>")))) (page_of language head nodes)
+    → (before after : List ℕ) → list_all is_white before ≡ true → list_all is_white after ≡ true
+    → ReadsAs (front ++ (before ++ (bytes ++ (after ++ codes "</body></html>")))) (page_of language head nodes)

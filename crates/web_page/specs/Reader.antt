@@ -201,7 +201,7 @@ pub data Mode : Type 0 where
   -- in content: texts, tags and references
   Content : Mode
   -- directly after the start tag of a pre
-  BehindPre : Mode
+  AfterPre : Mode
   -- in a style, which has no references; and there after a `<`
   Raw : Mode
   RawSign : Mode
@@ -223,7 +223,7 @@ pub data Mode : Type 0 where
   Value : Opening → Attribute → Mode
   ValueReference : Opening → Attribute → List ℕ → Mode
   -- after its value
-  BehindValue : Opening → Mode
+  AfterValue : Opening → Mode
 
 -- where the tokenizer is, and the tree so far, unless the text is refused
 pub record Reading : Type 0 where
@@ -237,15 +237,15 @@ abbrev pub refused : Reading
 refused = reading Content None
 
 -- how the text goes on after a start tag of this name
-abbrev pub behind_start : List ℕ → Mode
-behind_start name =
-    if bytes_eq name (codes "pre") then BehindPre
+abbrev pub after_start : List ℕ → Mode
+after_start name =
+    if bytes_eq name (codes "pre") then AfterPre
     else if bytes_eq name (codes "style") then Raw
     else Content
 
 -- a start tag is whole
 abbrev pub with_tag : Option Draft → Opening → Reading
-with_tag draft opening = reading (behind_start opening.name) (built draft (Start opening.name opening.attributes))
+with_tag draft opening = reading (after_start opening.name) (built draft (Start opening.name opening.attributes))
 
 -- a byte of text
 abbrev pub with_character : Mode → Option Draft → ℕ → Reading
@@ -270,9 +270,9 @@ abbrev pub with_attribute : Opening → Attribute → Opening
 with_attribute opening attribute = record opening { attributes = opening.attributes ++ attribute ∷ [] }
 
 -- after a byte of the document type
-abbrev pub behind_doctype : List ℕ → Mode
-behind_doctype [] = Content
-behind_doctype (b ∷ bytes) = Doctype (b ∷ bytes)
+abbrev pub after_doctype : List ℕ → Mode
+after_doctype [] = Content
+after_doctype (b ∷ bytes) = Doctype (b ∷ bytes)
 
 -- the next byte in content: `<`, `&` or text
 abbrev pub content_byte : Option Draft → ℕ → Reading
@@ -284,9 +284,9 @@ content_byte draft b =
 -- the next byte in a mode
 abbrev pub next_byte : Mode → Option Draft → ℕ → Reading
 next_byte (Doctype []) draft b = refused
-next_byte (Doctype (due ∷ rest)) draft b = if b == due then reading (behind_doctype rest) draft else refused
+next_byte (Doctype (due ∷ rest)) draft b = if b == due then reading (after_doctype rest) draft else refused
 next_byte Content draft b = content_byte draft b
-next_byte BehindPre draft b = if b == 10 then reading Content draft else content_byte draft b
+next_byte AfterPre draft b = if b == 10 then reading Content draft else content_byte draft b
 next_byte Raw draft b = if b == 60 then reading RawSign draft else with_character Raw draft b
 next_byte RawSign draft b =
     if b == 47 then reading (EndName []) draft
@@ -321,13 +321,13 @@ next_byte (Equals opening name) draft b =
     if b == 34 then reading (Value opening (record { name = name; value = [] })) draft
     else refused
 next_byte (Value opening attribute) draft b =
-    if b == 34 then reading (BehindValue (with_attribute opening attribute)) draft
+    if b == 34 then reading (AfterValue (with_attribute opening attribute)) draft
     else if b == 38 then reading (ValueReference opening attribute []) draft
     else with_value opening attribute draft b
 next_byte (ValueReference opening attribute name) draft b =
     if b == 59 then with_value_reference opening attribute draft (referent name)
     else reading (ValueReference opening attribute (name ++ b ∷ [])) draft
-next_byte (BehindValue opening) draft b =
+next_byte (AfterValue opening) draft b =
     if b == 62 then with_tag draft opening
     else if is_white b then reading (Inside opening) draft
     else refused

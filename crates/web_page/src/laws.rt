@@ -18,7 +18,7 @@ pub fn texts_join()
 {}
 
 /// A text at the front or after an element is a node of its own, letter for letter, and one after a text continues it.
-#[tactic(auto, using(crate::proofs::TextLaws::at_front, crate::proofs::TextLaws::behind, crate::proofs::TextLaws::on_text))]
+#[tactic(auto, using(crate::proofs::TextLaws::at_front, crate::proofs::TextLaws::after, crate::proofs::TextLaws::on_text))]
 pub fn texts_stay()
     ensures first { (b : ℕ) (bytes : List ℕ) → with_words none (b ∷ bytes) ≡ text (b ∷ bytes) none }
     ensures after_element { (nodes content : Nodes) (tag : Tag) (given : List Attribute) (b : ℕ) (bytes : List ℕ)

@@ -94,7 +94,7 @@ fn is_after(tags: &[Tag], before: Option<Child>) -> bool
     }
 }
 
-fn is_behind_phrasing(before: Option<Child>) -> bool
+fn is_after_phrasing(before: Option<Child>) -> bool
     ensures { result ≡ is_after is_phrasing before }
 {
     match before {
@@ -112,8 +112,8 @@ fn may_item_hold(before: Option<Child>, child: Child) -> bool
 fn may_description_hold(before: Option<Child>, child: Child) -> bool
     ensures { result ≡ element_may_hold Element.Dd before child }
 {
-    (is_phrasing(child) && (before.is_none() || is_behind_phrasing(before)))
-        || (is_child(&[P, PRE, UL, DL], child) && !is_behind_phrasing(before))
+    (is_phrasing(child) && (before.is_none() || is_after_phrasing(before)))
+        || (is_child(&[P, PRE, UL, DL], child) && !is_after_phrasing(before))
 }
 
 fn may_element_hold(element: Element, before: Option<Child>, child: Child) -> bool

@@ -377,7 +377,7 @@ impl<A: Allocator> Page<A> {
     ///
     /// `Character` comes where the id has a character that is not permitted; the other errors are those of `start`, as
     /// for `start_link`. After an error the page is as before.
-    #[tactic(auto, using(crate::proofs::Texts::written_behind_hash))]
+    #[tactic(auto, using(crate::proofs::Texts::written_after_hash))]
     pub fn start_link_to_id(&mut self, id: &str) -> Result<(), PageError>
         ensures ok { OnOk result (self.new
             ≡ with_start self.old Tag.A (attribute (codes "href") (codes "#" ++ id.now))) }

@@ -60,9 +60,9 @@ module _ (m : ℕ) where
       let fits : count_by is_group_start ended + count_by is_group_start rest ≤ m = subst (λ n. n ≤ m) (ap (count_by is_group_start) (sym moved) ∙ count-append is_group_start ended rest) h in
       let later = all_within p ended (closed_after before d j k inner clear) (subst (λ xs. count_by is_group_start xs ≤ m) (sym moved) h) in
       let at_end = All-cons Within (opened ++ inner, group_end k) (placed_after ended rest) (inside (opened ++ inner, group_end k) (omega arith) (omega arith)) later in
-      let behind = All-same Within (placed_after opened (inner ++ group_end k ∷ rest)) (placed_after opened inner ++ placed_after (opened ++ inner) (group_end k ∷ rest)) (placed_after-append opened inner (group_end k ∷ rest))
+      let after = All-same Within (placed_after opened (inner ++ group_end k ∷ rest)) (placed_after opened inner ++ placed_after (opened ++ inner) (group_end k ∷ rest)) (placed_after-append opened inner (group_end k ∷ rest))
       (All-append Within (placed_after opened inner) (placed_after (opened ++ inner) (group_end k ∷ rest)) (inner_within opened inner clear (omega arith) (omega arith)) at_end) in
-      rw is (All-cons Within (before, group_start d j) (placed_after opened (inner ++ group_end k ∷ rest)) (inside (before, group_start d j) (omega arith) (omega arith)) behind)
+      rw is (All-cons Within (before, group_start d j) (placed_after opened (inner ++ group_end k ∷ rest)) (inside (before, group_start d j) (omega arith) (omega arith)) after)
 
 pub falls_under_written : FallsUnderWritten
 falls_under_written es is = all_within (count_by is_group_start es) (blocks_paired (item_list_blocks es is) refl) [] refl (omega arith)

@@ -163,13 +163,13 @@ group_whole P {es} (outer e rest is clear p) h before n o =
     rw (is, skipped) (group_whole P p (All-tail P e rest all) (before ++ e ∷ []) n (open_same before e clear ∙ o))
 group_whole P {es} (whole d j k inner rest is clear p) h before n o =
     let all : All P (group_start d j ∷ (inner ++ group_end k ∷ rest)) = subst (All P) is h in
-    let behind : All P (inner ++ group_end k ∷ rest) = All-tail P (group_start d j) (inner ++ group_end k ∷ rest) all in
-    let others : All P rest = All-tail P (group_end k) rest (all_back P inner (group_end k ∷ rest) behind) in
+    let after : All P (inner ++ group_end k ∷ rest) = All-tail P (group_start d j) (inner ++ group_end k ∷ rest) all in
+    let others : All P rest = All-tail P (group_end k) rest (all_back P inner (group_end k ∷ rest) after) in
     let next : List Entry = (opened before d j k inner clear ++ inner) ++ group_end k ∷ [] in
     let more : (members_after next rest n ≡ []) ⊎ IsWholeGroup P (members_after next rest n) = group_whole P p others next n (closed_after before d j k inner clear) in
     rw is
     (subst (λ xs. (xs ≡ []) ⊎ IsWholeGroup P xs) (sym (members_of_group before d j k inner clear rest n))
-    (by (n == number before d j k inner clear) refl (All-head P (group_start d j) (inner ++ group_end k ∷ rest) all) (all_front P inner (group_end k ∷ rest) behind) more)) where
+    (by (n == number before d j k inner clear) refl (All-head P (group_start d j) (inner ++ group_end k ∷ rest) all) (all_front P inner (group_end k ∷ rest) after) more)) where
       by : (t : Bool) → (n == number before d j k inner clear) ≡ t → P (group_start d j) → All P inner
           → (members_after ((opened before d j k inner clear ++ inner) ++ group_end k ∷ []) rest n ≡ []) ⊎ IsWholeGroup P (members_after ((opened before d j k inner clear ++ inner) ++ group_end k ∷ []) rest n)
           → (group_of before d j k inner clear n ++ members_after ((opened before d j k inner clear ++ inner) ++ group_end k ∷ []) rest n ≡ []) ⊎ IsWholeGroup P (group_of before d j k inner clear n ++ members_after ((opened before d j k inner clear ++ inner) ++ group_end k ∷ []) rest n)

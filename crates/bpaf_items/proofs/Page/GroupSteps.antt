@@ -29,11 +29,11 @@ module _ (e : Entry) (es : List Entry) (clear : is_group_mark e ≡ false) (pair
   none_before : count_by is_group_start (e ∷ []) ≡ 0
   none_before = count_same [] e clear
 
-  members_behind : (n : ℕ) → members_after (e ∷ []) es n ≡ members_after [] es n
-  members_behind n = grind (arith, shifted paired whole_before (e ∷ []) n refl, open_same, none_before, shifted paired whole_before)
+  members_shift : (n : ℕ) → members_after (e ∷ []) es n ≡ members_after [] es n
+  members_shift n = grind (arith, shifted paired whole_before (e ∷ []) n refl, open_same, none_before, shifted paired whole_before)
 
   outer_members : (n : ℕ) → group_members (e ∷ es) n ≡ group_members es n
-  outer_members n = grind (arith, outside_no_group, closed_outside, clear, members_behind)
+  outer_members n = grind (arith, outside_no_group, closed_outside, clear, members_shift)
 
   pub outer_lists : (included : Bool) (texts : Texts) → group_lists included texts (e ∷ es) ≡ group_lists included texts es
   outer_lists included texts = grind (arith, same_for_each, outer_members, count-cons, not_start)
@@ -163,8 +163,8 @@ module _ {B : Type 0} where
       (takes_group included texts (map entry_of items) (entry_of first) (map entry_of (drop 1 items)) before now outside paired (first_of items first some is) starts
       (written ∙ ap (λ es. with_writes before (list_writes included texts (kept_entries es))) same))
 
-  pub left_behind : (items rest : List (HelpItem B)) (count : ℕ) → rest ≡ drop count items → map entry_of rest ≡ drop count (map entry_of items)
-  left_behind items rest count is = ap (map entry_of) is ∙ sym (drop-map entry_of count items)
+  pub left_after : (items rest : List (HelpItem B)) (count : ℕ) → rest ≡ drop count items → map entry_of rest ≡ drop count (map entry_of items)
+  left_after items rest count is = ap (map entry_of) is ∙ sym (drop-map entry_of count items)
 
   pub heading_is : (included : Bool) (texts : Texts) (title : List ℕ) (items : List (Bor (HelpItem B))) → 0 < length items
       → title_front title ++ (list_writes included texts (map entry_at items) ++ heading_end) ≡ heading_writes included texts title (map entry_at items)

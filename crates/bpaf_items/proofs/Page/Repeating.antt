@@ -29,8 +29,8 @@ or_none b = grind arith
 or_again : (a b : Bool) → (a || b) ≡ (a || (a || b))
 or_again a b = grind arith
 
-behind : (a b c : Bool) → (b || (a || c)) ≡ (a || (b || c))
-behind a b c = grind arith
+after : (a b c : Bool) → (b || (a || c)) ≡ (a || (b || c))
+after a b c = grind arith
 
 number_same : (m n : ℕ) (b : Bool) → (b ≡ true → m ≡ n) → ((m == n) && b) ≡ b
 number_same m n b h3 = grind (arith, eq-eqb)
@@ -68,7 +68,7 @@ module _ {B : Type 0} where
           let same = keys_equiv.congr (key_in x.1) (key_in y.1) q (sym (is_same x y own all.0) ∙ ap is_eq e) in
           let tests : test x ≡ test y = keys_equiv.symm q (key_in x.1) ∙ same ∙ keys_equiv.symm (key_in y.1) q in
           or_again (test y) (has_key keys q) ∙ ap (λ b. b || (test y || has_key keys q)) (sym tests)
-      by Greater e rest = ap (λ b. test y || b) rest ∙ behind (test x) (test y) (has_key keys q)
+      by Greater e rest = ap (λ b. test y || b) rest ∙ after (test x) (test y) (has_key keys q)
 
 pub puts_key : {B : Type 0} (keys after : List (Hashed B)) (x : Hashed B) (is_new : Bool) → IsHashed x → is_new ≡ not (list_any (is_at (cmp x)) keys) → after ≡ insert_key cmp keys x
     → AreHashed keys → PutsKey keys after (key_in x.1) is_new

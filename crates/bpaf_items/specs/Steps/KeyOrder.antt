@@ -80,8 +80,11 @@ keys_are (flag_key m h) (flag_key n i) e =
     cc (names_are m n (first_so (same_name m n) _ e), helps_are h i (second_so (same_name m n) _ e))
 keys_are (argument_key m v h) (argument_key n w i) e =
     let rest = second_so (same_name m n) (same_text v w && same_help h i) e in
-    cc (names_are m n (first_so (same_name m n) _ e), texts_are v w (first_so (same_text v w) _ rest),
-        helps_are h i (second_so (same_text v w) _ rest))
+    cc (
+      names_are m n (first_so (same_name m n) _ e),
+      texts_are v w (first_so (same_text v w) _ rest),
+      helps_are h i (second_so (same_text v w) _ rest),
+    )
 keys_are k l e = cc
 
 pub key_fed : (k l : Key) → same_key k l ≡ true → key_input k ≡ key_input l

@@ -17,9 +17,9 @@ marked_special : (q : Apostrophes) (before : List ℕ) (prev s : ℕ) → (is_li
 marked_special q before prev s h k = grind arith
 
 -- a line starts only after a newline
-line_behind : (q : Apostrophes) (label : Escape) → IsText label → (x : Bool) (bytes : List ℕ) (i j : ℕ) → i ≡ j + 1 → j < length bytes
+line_after : (q : Apostrophes) (label : Escape) → IsText label → (x : Bool) (bytes : List ℕ) (i j : ℕ) → i ≡ j + 1 → j < length bytes
     → is_line_start (written x ++ text_after q (written x) (map (Byte label) (take i bytes))) ≡ true → (slice_index bytes j == newline) ≡ true
-line_behind q label is x bytes i j e lt h = by is
+line_after q label is x bytes i j e lt h = by is
   where
     last : take i bytes ≡ take j bytes ++ get_or bytes j 0 ∷ []
     last = ap (λ k. take k bytes) e ∙ take_more bytes j 0 lt
@@ -39,10 +39,10 @@ marked_text q label is x bytes i m s lt (inl odd) few shown same = absurd (omega
 marked_text q label is x bytes i m s lt (inr right) few shown same =
     let prev = slice_index bytes (i - 1) in
     let known : m ≡ mark prev s = right.1 ∙ same prev in
-    let behind : i ≡ i - 1 + 1 = omega (arith, right.0) in
+    let after : i ≡ i - 1 + 1 = omega (arith, right.0) in
     let inside : i - 1 < length bytes = omega (arith, right.0, lt) in
     shown
-    ∙ marked_special q (written x ++ text_after q (written x) (map (Byte label) (take i bytes))) prev s (line_behind q label is x bytes i (i - 1) behind inside) (omega (arith, known, few))
+    ∙ marked_special q (written x ++ text_after q (written x) (map (Byte label) (take i bytes))) prev s (line_after q label is x bytes i (i - 1) after inside) (omega (arith, known, few))
     ∙ ap (λ n. if n == 2 then 92 ∷ s ∷ [] else s ∷ []) (sym known)
 
 -- one more byte is marked

@@ -146,7 +146,7 @@ def blocks(lines):
         if lines.is_at("PP"):
             lines.take("PP")
         elif found and lines.is_at_text():
-            raise Refused("a text behind a block")
+            raise Refused("a text after a block")
         found.append(code(lines) if lines.is_at("RS") else element("paragraph", *filled(lines)))
     return found
 

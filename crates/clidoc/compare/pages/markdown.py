@@ -129,13 +129,13 @@ def is_letter(letter):
 
 def escapes(text, place, in_heading):
     """Whether a backslash stands before a letter, wherever its line begins."""
-    letter, before, behind = text[place], text[:place][-1:], text[place + 1 : place + 2]
+    letter, before, after = text[place], text[:place][-1:], text[place + 1 : place + 2]
     if letter == "_":
-        return not (before and is_letter(before) and behind and is_letter(behind))
+        return not (before and is_letter(before) and after and is_letter(after))
     if letter == "&":
-        return behind in ("", "#") or behind.isascii() and behind.isalpha()
+        return after in ("", "#") or after.isascii() and after.isalpha()
     if letter == "!":
-        return not behind
+        return not after
     return letter in ALWAYS or in_heading and letter == "#"
 
 

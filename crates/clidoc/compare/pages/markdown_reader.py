@@ -169,9 +169,9 @@ def bare(match, text):
     """A letter that stands for itself, or its number."""
     if match["number"]:
         return chr(int(match["number"]))
-    letter, before, behind = match["letter"], text[: match.start()][-1:], text[match.end() :][:1]
-    is_intraword = before.isalnum() and behind.isalnum()
-    is_entity = letter == "&" and re.match(r"[#A-Za-z]", behind)
+    letter, before, after = match["letter"], text[: match.start()][-1:], text[match.end() :][:1]
+    is_intraword = before.isalnum() and after.isalnum()
+    is_entity = letter == "&" and re.match(r"[#A-Za-z]", after)
     if letter in ("*", "]") or is_entity or letter == "_" and not is_intraword:
         raise Refused(f"a letter that means more: {text[match.start():]}")
     return match["escaped"] or letter

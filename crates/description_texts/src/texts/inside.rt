@@ -25,7 +25,7 @@ fn push_links<'a>(
     while let Some(link) = first_link(rest) {
         push_words(pieces, link.before)?;
         push_apart(arena, pieces, Inline::Link(link.address))?;
-        rest = link.behind;
+        rest = link.after;
     }
     push_words(pieces, rest)
 }
@@ -37,7 +37,7 @@ fn push_quoted<'a>(
     pair: Pair<'a>,
 ) -> Result<(), AllocError>
     ensures { OnOk result (draft_of pieces.new ≡ with_pieces (draft_of pieces.old)
-        (quoted pair.entry.before.now pair.entry.inner.now pair.entry.behind.now)) }
+        (quoted pair.entry.before.now pair.entry.inner.now pair.entry.after.now)) }
 {
     if are_all_white(pair.inner.as_bytes()) {
         push_words(pieces, "`")?;
@@ -60,7 +60,7 @@ fn push_marked<'a>(
     while let Some(pair) = first_pair(rest) {
         push_links(arena, pieces, pair.before)?;
         push_quoted(arena, pieces, pair)?;
-        rest = pair.behind;
+        rest = pair.after;
     }
     push_links(arena, pieces, rest)
 }

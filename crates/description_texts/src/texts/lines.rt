@@ -144,9 +144,9 @@ pub fn lines<'a>(arena: &'a Bump, text: &'a str) -> Result<Vec<&'a str, &'a Bump
 {
     let mut found = Vec::new(arena);
     let mut rest = text;
-    while let Some((line, behind)) = rest.split_once('\n') {
+    while let Some((line, after)) = rest.split_once('\n') {
         found.push(with_blank_front(arena, line)?)?;
-        rest = behind;
+        rest = after;
     }
     found.push(with_blank_front(arena, rest)?)?;
     Ok(found)

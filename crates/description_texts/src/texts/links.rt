@@ -11,7 +11,7 @@ ghost use Rattle.description_texts.specs.TextsView.{IsLinkAt};
 pub struct Link<'a> {
     pub before: &'a str,
     pub address: &'a str,
-    pub behind: &'a str,
+    pub after: &'a str,
 }
 
 fn is_link_byte(byte: u8) -> bool
@@ -72,8 +72,8 @@ fn link_len(bytes: &[u8], at: usize) -> usize
 pub fn first_link(text: &str) -> Option<Link<'_>>
     ensures { MatchOption result
         (links text.now ≡ map word text.now)
-        (λ found. (links text.now ≡ map word found.before.now ++ link found.address.now ∷ links found.behind.now)
-        × (length found.behind.now < length text.now)) }
+        (λ found. (links text.now ≡ map word found.before.now ++ link found.address.now ∷ links found.after.now)
+        × (length found.after.now < length text.now)) }
 {
     let bytes = text.as_bytes();
     for at in 0..bytes.len() {
@@ -82,7 +82,7 @@ pub fn first_link(text: &str) -> Option<Link<'_>>
             return Some(Link {
                 before: &text[..at],
                 address: &text[at + 1..at + 1 + len],
-                behind: &text[at + 2 + len..],
+                after: &text[at + 2 + len..],
             });
         }
     }

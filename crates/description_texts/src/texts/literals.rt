@@ -13,7 +13,7 @@ use crate::texts::spacing::{is_edge_back, is_edge_front, without_white_end, with
 pub struct Pair<'a> {
     pub before: &'a str,
     pub inner: &'a str,
-    pub behind: &'a str,
+    pub after: &'a str,
 }
 
 fn is_quote_at(bytes: &[u8], at: usize) -> bool
@@ -27,11 +27,11 @@ fn is_quote_at(bytes: &[u8], at: usize) -> bool
 }
 
 // Whether at a place there is a backquote with no other beside it.
-fn is_lone(bytes: &[u8], at: usize, is_behind_quote: bool) -> bool
+fn is_lone(bytes: &[u8], at: usize, is_after_quote: bool) -> bool
     requires { at < length bytes.now }
-    ensures { result ≡ is_lone is_behind_quote (slice_index bytes.now at) (drop (at + 1) bytes.now) }
+    ensures { result ≡ is_lone is_after_quote (slice_index bytes.now at) (drop (at + 1) bytes.now) }
 {
-    bytes[at] == b'`' && !is_behind_quote && !is_quote_at(bytes, at + 1)
+    bytes[at] == b'`' && !is_after_quote && !is_quote_at(bytes, at + 1)
 }
 
 // Cuts a text at its first backquote with no other beside it.
@@ -39,12 +39,12 @@ fn split_lone(text: &str) -> Option<(&str, &str)>
     ensures { MatchOption result (lone_parts text.now ≡ text.now ∷ []) (λ cut. IsLoneCut text.now cut.0.now cut.1.now) }
 {
     let bytes = text.as_bytes();
-    let mut is_behind_quote = false;
+    let mut is_after_quote = false;
     for at in 0..bytes.len() {
-        if is_lone(bytes, at, is_behind_quote) {
+        if is_lone(bytes, at, is_after_quote) {
             return Some((&text[..at], &text[at + 1..]));
         }
-        is_behind_quote = bytes[at] == b'`';
+        is_after_quote = bytes[at] == b'`';
     }
     None
 }
@@ -54,19 +54,19 @@ pub fn first_pair(text: &str) -> Option<Pair<'_>>
     ensures { MatchOption result
         (by_turns (lone_parts text.now) ≡ links text.now)
         (λ pair. (by_turns (lone_parts text.now) ≡ links pair.before.now
-        ++ (quoted pair.before.now pair.inner.now pair.behind.now ++ by_turns (lone_parts pair.behind.now)))
-        × (length pair.behind.now < length text.now)) }
+        ++ (quoted pair.before.now pair.inner.now pair.after.now ++ by_turns (lone_parts pair.after.now)))
+        × (length pair.after.now < length text.now)) }
 {
     let Some((before, rest)) = split_lone(text) else {
         return None;
     };
-    let Some((inner, behind)) = split_lone(rest) else {
+    let Some((inner, after)) = split_lone(rest) else {
         return None;
     };
     Some(Pair {
         before,
         inner,
-        behind,
+        after,
     })
 }
 
@@ -80,10 +80,10 @@ fn front_kept<'a>(before: &str, inner: &'a str) -> &'a str
     }
 }
 
-fn end_kept<'a>(inner: &'a str, behind: &str) -> &'a str
-    ensures { result.now ≡ end_kept inner.now behind.now }
+fn end_kept<'a>(inner: &'a str, after: &str) -> &'a str
+    ensures { result.now ≡ end_kept inner.now after.now }
 {
-    if is_edge_front(behind) {
+    if is_edge_front(after) {
         without_white_end(inner)
     } else {
         inner
@@ -93,7 +93,7 @@ fn end_kept<'a>(inner: &'a str, behind: &str) -> &'a str
 /// The literal in a pair.
 pub fn literal_of(pair: Pair<'_>) -> &str
     ensures { result.now
-        ≡ end_kept (front_kept pair.entry.before.now pair.entry.inner.now) pair.entry.behind.now }
+        ≡ end_kept (front_kept pair.entry.before.now pair.entry.inner.now) pair.entry.after.now }
 {
-    end_kept(front_kept(pair.before, pair.inner), pair.behind)
+    end_kept(front_kept(pair.before, pair.inner), pair.after)
 }

@@ -102,11 +102,11 @@ fn stand_in(bytes: &[u8], at: usize) -> Option<&'static str>
 }
 
 // Whether a byte stays as it is: neither a backquote nor `<`, and white space only as a blank after a word.
-fn stays_here(byte: u8, is_behind_white: bool) -> bool
-    ensures { result ≡ stays_here byte is_behind_white }
+fn stays_here(byte: u8, is_after_white: bool) -> bool
+    ensures { result ≡ stays_here byte is_after_white }
 {
     match byte {
-        b' ' => !is_behind_white,
+        b' ' => !is_after_white,
         b'\t' | b'`' | b'<' => false,
         _ => true,
     }
@@ -117,14 +117,14 @@ fn stays_here(byte: u8, is_behind_white: bool) -> bool
 pub fn says_itself(line: &[u8]) -> bool
     ensures { result ≡ says_itself true line.now }
 {
-    let mut is_behind_white = true;
+    let mut is_after_white = true;
     for byte in line {
-        if !stays_here(*byte, is_behind_white) {
+        if !stays_here(*byte, is_after_white) {
             return false;
         }
-        is_behind_white = *byte == b' ';
+        is_after_white = *byte == b' ';
     }
-    !is_behind_white
+    !is_after_white
 }
 
 fn squeezed<'a>(arena: &'a Bump, line: &'a str) -> Result<&'a str, AllocError>

@@ -57,12 +57,12 @@ are_distinct [] = true
 are_distinct (text ∷ texts) = not (list_any (bytes_eq text) texts) && are_distinct texts
 
 -- a name without its dashes, where it begins with two of them, or where it begins with exactly one
-abbrev pub behind_dashes : (dashes name : List ℕ) → List (List ℕ)
-behind_dashes dashes name = if starts_with ◌==◌ name dashes then drop (length dashes) name ∷ [] else []
+abbrev pub after_dashes : (dashes name : List ℕ) → List (List ℕ)
+after_dashes dashes name = if starts_with ◌==◌ name dashes then drop (length dashes) name ∷ [] else []
 
 abbrev pub without_dashes : (two : Bool) → (name : List ℕ) → List (List ℕ)
-without_dashes true name = behind_dashes (codes "--") name
-without_dashes false name = if starts_with ◌==◌ name (codes "--") then [] else behind_dashes (codes "-") name
+without_dashes true name = after_dashes (codes "--") name
+without_dashes false name = if starts_with ◌==◌ name (codes "--") then [] else after_dashes (codes "-") name
 
 -- the names of an option that have that many dashes, without these: its short name or its long one, and those of its
 -- syntax, where one may stand twice

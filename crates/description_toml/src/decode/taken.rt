@@ -42,10 +42,10 @@ fn tell_twice<'a, A: Allocator + Copy>(
     table: &'a Table,
     distinct: Distinct,
 ) -> Result<(), Refused> {
-    if !distinct.behind_one_dash {
+    if !distinct.after_one_dash {
         tell_options(teller, table, false)?;
     }
-    if !distinct.behind_two_dashes {
+    if !distinct.after_two_dashes {
         tell_options(teller, table, true)?;
     }
     if distinct.commands {
@@ -58,23 +58,23 @@ fn tell_twice<'a, A: Allocator + Copy>(
 // Which names of a level stand once each.
 #[derive(Clone, Copy)]
 struct Distinct {
-    behind_one_dash: bool,
-    behind_two_dashes: bool,
+    after_one_dash: bool,
+    after_two_dashes: bool,
     commands: bool,
 }
 
 impl Distinct {
     fn are_all(&self) -> bool
-        ensures { result ≡ self.now.behind_one_dash && (self.now.behind_two_dashes && self.now.commands) }
+        ensures { result ≡ self.now.after_one_dash && (self.now.after_two_dashes && self.now.commands) }
     {
-        self.behind_one_dash && self.behind_two_dashes && self.commands
+        self.after_one_dash && self.after_two_dashes && self.commands
     }
 }
 
 fn distinct_in<'a, A: Allocator + Copy>(alloc: A, table: &'a Table) -> Result<Distinct, AllocError>
-    ensures one { IfOk result (λ d. d.behind_one_dash
+    ensures one { IfOk result (λ d. d.after_one_dash
         ≡ are_distinct (flat_map (option_names false) (level_options (table_view table.now)))) }
-    ensures two { IfOk result (λ d. d.behind_two_dashes
+    ensures two { IfOk result (λ d. d.after_two_dashes
         ≡ are_distinct (flat_map (option_names true) (level_options (table_view table.now)))) }
     ensures commands { IfOk result (λ d. d.commands
         ≡ are_distinct (flat_map command_words (level_commands (table_view table.now)))) }
@@ -82,8 +82,8 @@ fn distinct_in<'a, A: Allocator + Copy>(alloc: A, table: &'a Table) -> Result<Di
     let mut options = Vec::new(alloc);
     put_level_options(&mut options, table, alloc)?;
     Ok(Distinct {
-        behind_one_dash: are_options_distinct(alloc, &options, false)?,
-        behind_two_dashes: are_options_distinct(alloc, &options, true)?,
+        after_one_dash: are_options_distinct(alloc, &options, false)?,
+        after_two_dashes: are_options_distinct(alloc, &options, true)?,
         commands: are_commands_distinct(alloc, table)?,
     })
 }

@@ -5,7 +5,7 @@ pub returns-then-branch-3 : goal.returns-then-branch-3
 returns-then-branch-3 c stands = record {
   from = c.args.entry.now.from.now;
   through = c.in-Some-before.through.now;
-  behind = c.args.entry.now.behind.now;
+  following = c.args.entry.now.following.now;
   closing = c.as_str-closing.result.now;
   begins = c.in-Some.ensures;
   ends = c.in-Some-before.ensures;

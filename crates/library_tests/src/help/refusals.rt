@@ -59,7 +59,7 @@ fn takes_room(rt: &impl Abort, out: Global, text: &str, call: Call, before: &str
 }
 
 // The same, where what stands before is what another call shows.
-fn takes_room_behind(rt: &impl Abort, out: Global, text: &str, first: Call, call: Call) -> bool {
+fn takes_room_after(rt: &impl Abort, out: Global, text: &str, first: Call, call: Call) -> bool {
     let before = given(rt, out, text, first);
     let takes_room = takes_room(rt, out, text, call, &before);
     drop(before);
@@ -147,7 +147,7 @@ fn shows_the_same(rt: &impl Abort, out: Global, text: &str, one: Call, other: Ca
 fn a_refused_call_leaves_lists(rt: HostRuntime) {
     for &(text, first, call) in BEHIND {
         assert!(rt;
-            takes_room_behind(&rt, rt.alloc(), text, first, call),
+            takes_room_after(&rt, rt.alloc(), text, first, call),
             "{text}"
         );
     }

@@ -82,7 +82,7 @@ fn is_joined(text: &str, parts: &[&str]) -> bool {
     let mut rest = text;
     for part in parts {
         match rest.strip_prefix(*part) {
-            Some(behind) => rest = behind,
+            Some(after) => rest = after,
             None => return false,
         }
     }

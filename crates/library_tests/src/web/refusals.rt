@@ -20,59 +20,59 @@ const LENGTHS: usize = 320;
 struct Row {
     before: &'static [Step],
     call: Step,
-    behind: &'static [Step],
+    after: &'static [Step],
 }
 
 const ROWS: [Row; 10] = [
     Row {
         before: &[],
         call: Text("b & c"),
-        behind: &[End, End],
+        after: &[End, End],
     },
     Row {
         before: &[],
         call: LineBreak,
-        behind: &[End, End],
+        after: &[End, End],
     },
     Row {
         before: &[],
         call: Start(Em),
-        behind: &[End, End, End],
+        after: &[End, End, End],
     },
     Row {
         before: &[],
         call: StartLink("#\"b\""),
-        behind: &[End, End, End],
+        after: &[End, End, End],
     },
     Row {
         before: &[],
         call: StartLinkToId("\"b\""),
-        behind: &[End, End, End],
+        after: &[End, End, End],
     },
     Row {
         before: &[],
         call: End,
-        behind: &[End],
+        after: &[End],
     },
     Row {
         before: &[End],
         call: StartWithId(Section, "b"),
-        behind: &[End, End],
+        after: &[End, End],
     },
     Row {
         before: &[End],
         call: StartWithId(Heading(Level::Two), "b"),
-        behind: &[Text("b"), End, End],
+        after: &[Text("b"), End, End],
     },
     Row {
         before: &[End, End],
         call: Start(Footer),
-        behind: &[End],
+        after: &[End],
     },
     Row {
         before: &[End, Start(Ul), Start(Li)],
         call: Text("b"),
-        behind: &[End, End, End],
+        after: &[End, End, End],
     },
 ];
 
@@ -104,7 +104,7 @@ fn taken<'a>(rt: &impl Abort, arena: &'a Bump, room: usize) -> Vec<u8, &'a Bump>
 }
 
 fn finished<A: Allocator>(mut page: Page<A>, row: &Row) -> Result<String<A>, PageError> {
-    for step in row.behind {
+    for step in row.after {
         apply(&mut page, *step)?;
     }
     page.finish()
@@ -178,7 +178,7 @@ fn a_refused_end_gives_the_page_up(rt: HostRuntime) -> Result<(), Fail> {
     for length in 0..LENGTHS {
         let arena = roomy(&rt);
         let mut page = begin(&arena, length, row)?;
-        for step in row.behind {
+        for step in row.after {
             apply(&mut page, *step)?;
         }
         let _rest = taken(&rt, &arena, 0);
@@ -197,7 +197,7 @@ fn a_body_alone_takes_no_memory(rt: HostRuntime) -> Result<(), Fail> {
         let mut ample = begin(rt.alloc(), length, row)?;
         let arena = roomy(&rt);
         let mut page = begin(&arena, length, row)?;
-        for step in row.behind {
+        for step in row.after {
             apply(&mut ample, *step)?;
             apply(&mut page, *step)?;
         }

@@ -99,7 +99,7 @@ const FAULTS: &str = "-:1:1: name is missing
 ====
 {name: \"app\"}
 ----
--:1:2: a colon has to stand behind this key
+-:1:2: a colon has to stand after this key
 ====
 {\"name\" \"app\"}
 ----
@@ -118,7 +118,7 @@ const FAULTS: &str = "-:1:1: name is missing
 {\"name\": \"app\",
 }
 ----
--:1:17: nothing may stand behind the object
+-:1:17: nothing may stand after the object
 ====
 {\"name\": \"app\"} x
 ----

@@ -6,7 +6,7 @@ ghost use Rattle.clidoc_engine.specs.Runs.{HasPage};
 
 use crate::engines::AMPLE;
 use clidoc_engine::engine::run_description;
-use clidoc_engine::places::{Place, place_behind};
+use clidoc_engine::places::{Place, place_after};
 use clidoc_engine::room::Room;
 use clidoc_engine::words::{Console, ConsoleForm, Extent, Page, Shell, TitleGiven};
 use description_pages::Depth;
@@ -149,7 +149,7 @@ const FRONTS: &[(&str, usize, usize)] = &[
 #[test]
 fn counts_lines_and_characters(rt: HostRuntime) {
     for &(front, line, column) in FRONTS {
-        let place = place_behind(front.as_bytes());
+        let place = place_after(front.as_bytes());
         assert!(rt; place == (Place { line, column }), "{line} {column}");
     }
 }

@@ -25,10 +25,10 @@ chosen true f = f tt
 chosen false f = []
 
 -- f of what follows a front
-abbrev behind : (front text : List ℕ) → (List ℕ → List (List Stretch)) → List (List Stretch)
-behind [] text f = f text
-behind (c ∷ front) [] f = []
-behind (c ∷ front) (b ∷ text) f = chosen (b == c) (λ u. behind front text f)
+abbrev after : (front text : List ℕ) → (List ℕ → List (List Stretch)) → List (List Stretch)
+after [] text f = f text
+after (c ∷ front) [] f = []
+after (c ∷ front) (b ∷ text) f = chosen (b == c) (λ u. after front text f)
 
 module _ (more : List ℕ → List Event → List (List Stretch)) where
   abbrev at_end : List ℕ → List Event → List (List Stretch)
@@ -40,17 +40,17 @@ module _ (more : List ℕ → List Event → List (List Stretch)) where
   at_gap (b ∷ text) events = chosen (b == 32 || b == 10) (λ u. map (λ xs. Gap b ∷ xs) (more text events))
 
   abbrev whole_at : List ℕ → Place → List Event → List (List Stretch)
-  whole_at text e events = behind e.shown text (λ rest. map (λ xs. Placed e ∷ xs) (more rest events))
+  whole_at text e events = after e.shown text (λ rest. map (λ xs. Placed e ∷ xs) (more rest events))
 
   abbrev cut_at : List ℕ → Place → List Event → List (List Stretch)
-  cut_at text e events = behind e.shown text (λ rest. chosen (starts rest (codes "\n")) (λ u. map (λ xs. Placed e ∷ xs) (more rest events)))
+  cut_at text e events = after e.shown text (λ rest. chosen (starts rest (codes "\n")) (λ u. map (λ xs. Placed e ∷ xs) (more rest events)))
 
   abbrev at_place : List ℕ → Event → List Event → List (List Stretch)
   at_place text (Shows k (Raw bytes weight)) events = whole_at text (record { part = k; bytes = bytes; weight = weight; shown = bytes }) events ++ cut_at text (record { part = k; bytes = bytes; weight = weight; shown = trim_end bytes }) events
   at_place text event events = []
 
   abbrev passing : List ℕ → Event → List Event → List (List Stretch)
-  passing text event events = chosen (not (is_inked_event event)) (λ u. behind (event_bytes event) text (λ rest. map (λ xs. Passed event ∷ xs) (more rest events)))
+  passing text event events = chosen (not (is_inked_event event)) (λ u. after (event_bytes event) text (λ rest. map (λ xs. Passed event ∷ xs) (more rest events)))
 
   abbrev at_event : List ℕ → List Event → List (List Stretch)
   at_event text [] = []
@@ -67,9 +67,9 @@ EachMayStand stretches = (before after : List Stretch) (stretch : Stretch) → s
 may_stand_rest : (x : Stretch) (r : List Stretch) → EachMayStand (x ∷ r) → EachMayStand r
 may_stand_rest x r h = λ before after stretch s. h (x ∷ before) after stretch (ap (λ xs. x ∷ xs) s)
 
-found_behind : (front rest : List ℕ) (f : List ℕ → List (List Stretch)) (xs : List Stretch) → Among xs (f rest) → Among xs (behind front (front ++ rest) f)
-found_behind [] rest f xs h = h
-found_behind (c ∷ front) rest f xs h = rw (nat_eq_equiv.refl c) (found_behind front rest f xs h)
+found_after : (front rest : List ℕ) (f : List ℕ → List (List Stretch)) (xs : List Stretch) → Among xs (f rest) → Among xs (after front (front ++ rest) f)
+found_after [] rest f xs h = h
+found_after (c ∷ front) rest f xs h = rw (nat_eq_equiv.refl c) (found_after front rest f xs h)
 
 found_gap : (more : List ℕ → List Event → List (List Stretch)) (b : ℕ) (xs : List Stretch) → (b ≡ 32) ⊎ (b ≡ 10) → Among xs (more (text_of xs) (events_of xs)) → Among (Gap b ∷ xs) (at_gap more (b ∷ text_of xs) (events_of xs))
 found_gap more b xs h3 h4 = grind (arith, in_map)
@@ -87,11 +87,11 @@ module _ (more : List ℕ → List Event → List (List Stretch)) (e : Place) (x
   found_place : MayStand (Placed e) xs → Among (Placed e ∷ xs) (at_place more text (Shows e.part (chunk_at e)) (events_of xs))
   found_place (inl whole) =
       among_left (Placed e ∷ xs) (whole_at more text (place e.bytes) (events_of xs)) (cut_at more text (place (trim_end e.bytes)) (events_of xs))
-      (subst (λ shown. Among (Placed e ∷ xs) (whole_at more text (place shown) (events_of xs))) whole (found_behind e.shown (text_of xs) (λ rest. map (λ ys. Placed e ∷ ys) (more rest (events_of xs))) (Placed e ∷ xs) mapped))
+      (subst (λ shown. Among (Placed e ∷ xs) (whole_at more text (place shown) (events_of xs))) whole (found_after e.shown (text_of xs) (λ rest. map (λ ys. Placed e ∷ ys) (more rest (events_of xs))) (Placed e ∷ xs) mapped))
   found_place (inr cut) =
       among_right (Placed e ∷ xs) (whole_at more text (place e.bytes) (events_of xs)) (cut_at more text (place (trim_end e.bytes)) (events_of xs))
       (subst (λ shown. Among (Placed e ∷ xs) (cut_at more text (place shown) (events_of xs))) cut.0
-      (found_behind e.shown (text_of xs) (λ rest. chosen (starts rest (codes "\n")) (λ u. map (λ ys. Placed e ∷ ys) (more rest (events_of xs)))) (Placed e ∷ xs) (rw cut.1 mapped)))
+      (found_after e.shown (text_of xs) (λ rest. chosen (starts rest (codes "\n")) (λ u. map (λ ys. Placed e ∷ ys) (more rest (events_of xs)))) (Placed e ∷ xs) (rw cut.1 mapped)))
 
 found_event : (n : ℕ) (xs : List Stretch) (text : List ℕ) (event : Event) (events : List Event) → Among xs (at_event (placings n) text (event ∷ events)) → Among xs (placings (suc n) text (event ∷ events))
 found_event n xs text event events h = grind (arith, among_right)
@@ -113,7 +113,7 @@ found (suc n) (Passed event ∷ xs) h s =
     let here = in_map (λ ys. Passed event ∷ ys) xs (placings n (text_of xs) (events_of xs)) (found n xs (omega arith) (may_stand_rest (Passed event) xs s)) in
     found_event n (Passed event ∷ xs) text event (events_of xs)
     (among_left (Passed event ∷ xs) (passing (placings n) text event (events_of xs)) (at_place (placings n) text event (events_of xs))
-    (rw (s [] xs (Passed event) refl) (found_behind (event_bytes event) (text_of xs) (λ rest. map (λ ys. Passed event ∷ ys) (placings n rest (events_of xs))) (Passed event ∷ xs) here)))
+    (rw (s [] xs (Passed event) refl) (found_after (event_bytes event) (text_of xs) (λ rest. map (λ ys. Passed event ∷ ys) (placings n rest (events_of xs))) (Passed event ∷ xs) here)))
 
 -- a stretch makes a byte or has an event
 few : (xs : List Stretch) → length xs ≤ length (text_of xs) + length (events_of xs)
@@ -216,9 +216,9 @@ abbrev has_pair : List ℕ → Bool
 has_pair [] = false
 has_pair (b ∷ bytes) = ((b == 10) && begins_with_newline bytes) || has_pair bytes
 
-pair_behind : (front bytes : List ℕ) → has_pair bytes ≡ true → has_pair (front ++ bytes) ≡ true
-pair_behind [] bytes h = h
-pair_behind (b ∷ front) bytes h = or_right ((b == 10) && begins_with_newline (front ++ bytes)) (has_pair (front ++ bytes)) (pair_behind front bytes h)
+pair_after : (front bytes : List ℕ) → has_pair bytes ≡ true → has_pair (front ++ bytes) ≡ true
+pair_after [] bytes h = h
+pair_after (b ∷ front) bytes h = or_right ((b == 10) && begins_with_newline (front ++ bytes)) (has_pair (front ++ bytes)) (pair_after front bytes h)
 
 -- a Raw chunk that is left out
 abbrev is_lost : Stretch → Bool
@@ -265,7 +265,7 @@ module _ {document : List Part} {full : Bool} {width : ℕ} {text : List ℕ} (l
       let parts = and_parts (list_any asks_blank_line (events_of between)) (not (list_any is_raw_event (events_of between)) && leb (columns f.bytes) width) t in
       let fits = and_parts (not (list_any is_raw_event (events_of between))) (leb (columns f.bytes) width) parts.1 in
       let blank = layout.asked.blank_line before between e f apart parts.0 fits.0 (leb-true (columns f.bytes) width fits.1) in
-      ap has_pair (blank.2 ∙ append_assoc blank.0 (codes "\n\n") blank.1) ∙ pair_behind blank.0 (codes "\n\n" ++ blank.1) refl)
+      ap has_pair (blank.2 ∙ append_assoc blank.0 (codes "\n\n") blank.1) ∙ pair_after blank.0 (codes "\n\n" ++ blank.1) refl)
 
   abbrev kept : Law layout
   kept = by_apart (λ before e between f. not (list_any is_inked_stretch between) && not (list_any is_newline between)) (λ before e between f. not (list_any is_lost between))
@@ -334,9 +334,9 @@ begins_with_empty_code clear = cc
 -- ---- the texts
 
 -- alone: words after a code line
-word_behind_code_refused : IsLayout (words (codes "\n    c\nd")) true 100 (codes "c d") → ⊥
+word_after_code_refused : IsLayout (words (codes "\n    c\nd")) true 100 (codes "c d") → ⊥
 unfolding computed
-word_behind_code_refused layout = refused layout (alone layout (omega arith) refl) refl
+word_after_code_refused layout = refused layout (alone layout (omega arith) refl) refl
 
 -- fits: an item's body that never wraps
 body_past_the_width_refused : IsLayout (inside block.ItemTerm (words (codes "a")) ++ inside block.ItemBody (words (codes "b"))) true 5 (codes "    a  b") → ⊥

@@ -77,9 +77,9 @@ bare_refused : IsMarkdownOf (Words (codes "x") Literal ∷ []) true (codes "x") 
 unfolding chunks_of chunks_in chunks_within chars str_width step past_emoji
 bare_refused h = too_short (Words (codes "x") Literal ∷ []) (codes "x") h (omega arith)
 
-any_behind : {X : Type 0} (p : X → Bool) (xs ys : List X) → list_any p ys ≡ true → list_any p (xs ++ ys) ≡ true
-any_behind p [] ys h = h
-any_behind p (x ∷ xs) ys h = ap (λ b. p x || b) (any_behind p xs ys h) ∙ or-true (p x)
+any_after : {X : Type 0} (p : X → Bool) (xs ys : List X) → list_any p ys ≡ true → list_any p (xs ++ ys) ≡ true
+any_after p [] ys h = h
+any_after p (x ∷ xs) ys h = ap (λ b. p x || b) (any_after p xs ys h) ∙ or-true (p x)
 
 any_before : {X : Type 0} (p : X → Bool) (xs ys : List X) → list_any p xs ≡ true → list_any p (xs ++ ys) ≡ true
 any_before p xs ys h = list_any-append p xs ys ∙ ap (λ b. b || list_any p ys) h
@@ -88,8 +88,8 @@ any_before p xs ys h = list_any-append p xs ys ∙ ap (λ b. b || list_any p ys)
 newline_in : (seen ts : List MarkdownSnippet) → list_any is_newline ts ≡ true → list_any (λ c. c == 10) (text_after seen ts) ≡ true
 newline_in seen [] h = absurd (false≢true h)
 newline_in seen (Put Newline ∷ ts) h = refl
-newline_in seen (Of a ∷ ts) h = any_behind (λ c. c == 10) (snippet_text seen (Of a) ts) (text_after (seen ++ Of a ∷ []) ts) (newline_in (seen ++ Of a ∷ []) ts h)
-newline_in seen (Put mark ∷ ts) h = any_behind (λ c. c == 10) (mark_text mark) (text_after (seen ++ Put mark ∷ []) ts) (newline_in (seen ++ Put mark ∷ []) ts h)
+newline_in seen (Of a ∷ ts) h = any_after (λ c. c == 10) (snippet_text seen (Of a) ts) (text_after (seen ++ Of a ∷ []) ts) (newline_in (seen ++ Of a ∷ []) ts h)
+newline_in seen (Put mark ∷ ts) h = any_after (λ c. c == 10) (mark_text mark) (text_after (seen ++ Put mark ∷ []) ts) (newline_in (seen ++ Put mark ∷ []) ts h)
 
 -- no break between two paragraphs
 no_paragraph_refused : IsMarkdownOf paragraphs_document true (codes "abc") → ⊥
@@ -104,9 +104,9 @@ no_paragraph_refused h =
     let whole : h.cut ≡ first.0 ++ Of a ∷ (second.0 ++ Of b ∷ second.1) = first.2 ∙ ap (λ x. first.0 ++ Of a ∷ x) second.2 in
     let found : (front back : List MarkdownSnippet) × (second.0 ≡ front ++ Put Newline ∷ Put Newline ∷ back)
     = h.paragraphs first.0 second.0 second.1 a b whole refl refl (ap (list_any (shows is_paragraph)) second.3) in
-    let between : list_any is_newline second.0 ≡ true = ap (list_any is_newline) found.2 ∙ any_behind is_newline found.0 (Put Newline ∷ Put Newline ∷ found.1) refl in
+    let between : list_any is_newline second.0 ≡ true = ap (list_any is_newline) found.2 ∙ any_after is_newline found.0 (Put Newline ∷ Put Newline ∷ found.1) refl in
     let somewhere : list_any is_newline h.cut ≡ true
-    = ap (list_any is_newline) whole ∙ any_behind is_newline first.0 (Of a ∷ (second.0 ++ Of b ∷ second.1)) (any_before is_newline second.0 (Of b ∷ second.1) between) in
+    = ap (list_any is_newline) whole ∙ any_after is_newline first.0 (Of a ∷ (second.0 ++ Of b ∷ second.1)) (any_before is_newline second.0 (Of b ∷ second.1) between) in
     false≢true (subst (λ x. list_any (λ c. c == 10) x ≡ true) (sym h.spelling) (newline_in [] h.cut somewhere))
 
 -- each fence with `text` takes seven characters

@@ -171,8 +171,8 @@ IsUtf8-before start [] rest (suc i) are = let none : start - start ≡ 0 = omega
 IsUtf8-before start (e ∷ es) rest (suc i) are =
     let n = e.end - start in
     let m = end_before e.end es i - e.end in
-    let behind = end_before-bounds e.end es (drop n rest) i are.1 in
-    let both : end_before e.end es i - start ≡ n + m = omega (arith, are.0.not_below, behind.0) in
+    let after = end_before-bounds e.end es (drop n rest) i are.1 in
+    let both : end_before e.end es i - start ≡ n + m = omega (arith, are.0.not_below, after.0) in
     rw (both, take-add n m rest) (IsUtf8-append (take n rest) (take m (drop n rest)) are.0.utf8 (IsUtf8-before e.end es (drop n rest) i are.1))
 
 pub parts_from-drop : (start : ℕ) (es : List PartEnd) (rest : List ℕ) (i : ℕ) → AreEnds start es rest
@@ -188,8 +188,8 @@ AreEnds-drop start [] rest (suc i) le are = absurd (omega (arith, le))
 AreEnds-drop start (e ∷ es) rest (suc i) le are =
     let n = e.end - start in
     let m = end_before e.end es i - e.end in
-    let behind = end_before-bounds e.end es (drop n rest) i are.1 in
-    let both : end_before e.end es i - start ≡ n + m = omega (arith, are.0.not_below, behind.0) in
+    let after = end_before-bounds e.end es (drop n rest) i are.1 in
+    let both : end_before e.end es i - start ≡ n + m = omega (arith, are.0.not_below, after.0) in
     rw (both, ← drop-drop m n rest) (AreEnds-drop e.end es (drop n rest) i (omega (arith, le)) are.1)
 
 -- the end before a place, as it is read from the ends

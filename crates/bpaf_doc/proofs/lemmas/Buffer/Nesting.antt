@@ -36,13 +36,13 @@ IsWellNested-in_block b ps inner nested also = search (rules, joined, append_ass
 
 -- a start joins no text, so what is written after it does not depend on what stands before
 module _ (ps : List Part) (b : Block) where
-  with_writes-behind_start : (qs : List Part) (ws : List Write) → with_writes ((ps ++ Start b ∷ []) ++ qs) ws ≡ (ps ++ Start b ∷ []) ++ with_writes qs ws
-  with_writes-behind_start qs [] = refl
-  with_writes-behind_start qs (w ∷ ws) = grind (arith, with_writes-behind_start (with_write qs w) ws, append-nil, with_text-append, append_assoc)
+  with_writes-after_start : (qs : List Part) (ws : List Write) → with_writes ((ps ++ Start b ∷ []) ++ qs) ws ≡ (ps ++ Start b ∷ []) ++ with_writes qs ws
+  with_writes-after_start qs [] = refl
+  with_writes-after_start qs (w ∷ ws) = grind (arith, with_writes-after_start (with_write qs w) ws, append-nil, with_text-append, append_assoc)
 
   -- the start, the document that was written between, the end
   pub with_writes-inside : (ws : List Write) → with_writes ps (inside b ws) ≡ ((ps ++ Start b ∷ []) ++ document_of ws) ++ End b ∷ []
-  with_writes-inside ws = grind (arith, fold-append with_write (ps ++ Start b ∷ []) ws (write.end b ∷ []), append-nil (ps ++ Start b ∷ []), with_writes-behind_start)
+  with_writes-inside ws = grind (arith, fold-append with_write (ps ++ Start b ∷ []) ws (write.end b ∷ []), append-nil (ps ++ Start b ∷ []), with_writes-after_start)
 
 pub IsWellNested-inside : (b : Block) (ps : List Part) (ws : List Write) → IsWellNested ps → IsWellNested (document_of ws) → IsWellNested (with_writes ps (inside b ws))
 IsWellNested-inside b ps ws nested also = rw (with_writes-inside ps b ws) (IsWellNested-in_block b ps (document_of ws) nested also)
@@ -50,15 +50,15 @@ IsWellNested-inside b ps ws nested also = rw (with_writes-inside ps b ws) (IsWel
 -- ---- the other calls
 
 -- what follows a first text
-IsWellNested-behind_text : {qs : List Part} → IsWellNested qs → (bytes : List ℕ) (style : Style) (ps : List Part) → qs ≡ Text bytes style ∷ ps → IsWellNested ps
-IsWellNested-behind_text (nothing none) bytes style ps is = let e : [] ≡ Text bytes style ∷ ps = sym none ∙ is in cc
-IsWellNested-behind_text (text before kind one) bytes style ps is = let e : Text before kind ∷ [] ≡ Text bytes style ∷ ps = sym one ∙ is in let f : ps ≡ [] = cc in nothing f
-IsWellNested-behind_text (enclosed b inner block nested) bytes style ps is = let e : Start b ∷ (inner ++ End b ∷ []) ≡ Text bytes style ∷ ps = sym block ∙ is in cc
-IsWellNested-behind_text (joined [] back both nested also) bytes style ps is = IsWellNested-behind_text also bytes style ps (sym both ∙ is)
-IsWellNested-behind_text (joined (Text before kind ∷ front) back both nested also) bytes style ps is =
-    grind (arith, IsWellNested-behind_text nested before kind front refl, joined)
-IsWellNested-behind_text (joined (Start b ∷ front) back both nested also) bytes style ps is = let e : Start b ∷ (front ++ back) ≡ Text bytes style ∷ ps = sym both ∙ is in cc
-IsWellNested-behind_text (joined (End b ∷ front) back both nested also) bytes style ps is = let e : End b ∷ (front ++ back) ≡ Text bytes style ∷ ps = sym both ∙ is in cc
+IsWellNested-after_text : {qs : List Part} → IsWellNested qs → (bytes : List ℕ) (style : Style) (ps : List Part) → qs ≡ Text bytes style ∷ ps → IsWellNested ps
+IsWellNested-after_text (nothing none) bytes style ps is = let e : [] ≡ Text bytes style ∷ ps = sym none ∙ is in cc
+IsWellNested-after_text (text before kind one) bytes style ps is = let e : Text before kind ∷ [] ≡ Text bytes style ∷ ps = sym one ∙ is in let f : ps ≡ [] = cc in nothing f
+IsWellNested-after_text (enclosed b inner block nested) bytes style ps is = let e : Start b ∷ (inner ++ End b ∷ []) ≡ Text bytes style ∷ ps = sym block ∙ is in cc
+IsWellNested-after_text (joined [] back both nested also) bytes style ps is = IsWellNested-after_text also bytes style ps (sym both ∙ is)
+IsWellNested-after_text (joined (Text before kind ∷ front) back both nested also) bytes style ps is =
+    grind (arith, IsWellNested-after_text nested before kind front refl, joined)
+IsWellNested-after_text (joined (Start b ∷ front) back both nested also) bytes style ps is = let e : Start b ∷ (front ++ back) ≡ Text bytes style ∷ ps = sym both ∙ is in cc
+IsWellNested-after_text (joined (End b ∷ front) back both nested also) bytes style ps is = let e : End b ∷ (front ++ back) ≡ Text bytes style ∷ ps = sym both ∙ is in cc
 
 IsWellNested-title : (bytes : List ℕ) (others : List Part) → IsWellNested others → IsWellNested (document_of (title_writes bytes others))
 IsWellNested-title bytes others nested = either (list_any is_newline bytes) where
@@ -70,7 +70,7 @@ IsWellNested-title bytes others nested = either (list_any is_newline bytes) wher
   either false = joined (Text bytes style.Emphasis ∷ []) others refl (text bytes style.Emphasis refl) nested
 
 pub IsWellNested-em_doc : (ps d : List Part) → IsWellNested ps → IsWellNested d → IsWellNested (with_writes ps (inside block.InlineBlock (titled d)))
-IsWellNested-em_doc ps d nested also = grind (arith, IsWellNested-inside, IsWellNested-title, IsWellNested-behind_text)
+IsWellNested-em_doc ps d nested also = grind (arith, IsWellNested-inside, IsWellNested-title, IsWellNested-after_text)
 
 pub IsWellNested-path : (names : List (List ℕ)) (ps : List Part) → IsWellNested ps → IsWellNested (with_writes ps (path_writes names))
 IsWellNested-path [] ps nested = nested

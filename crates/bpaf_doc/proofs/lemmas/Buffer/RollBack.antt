@@ -80,11 +80,11 @@ cut_next start last e f es rest p q ps at is shown cut =
     let width : last - start ≡ n + back = omega (arith, at, bytes, is.not_below, length-append (part_bytes p) (document_bytes (q ∷ ps))) in
     let left : length (drop n rest) ≡ length rest - n = length-drop n rest in
     let front : take n (take (n + back) rest) ≡ take n rest = take-take n (n + back) rest (omega arith) in
-    let behind : drop n (take (n + back) rest) ≡ take back (drop n rest) = drop-take n back rest in
+    let after : drop n (take (n + back) rest) ≡ take back (drop n rest) = drop-take n back rest in
     record {
       within = omega (arith, width, cut.within, is.within);
-      shows = rw (width, front, behind) (ap (λ x. x ∷ parts_from e.end (with_last_end (take (length (q ∷ ps)) (f ∷ es)) last) (take back (drop n rest))) shown ∙ ap (λ xs. p ∷ xs) cut.shows);
-      are = rw (width, behind) (
+      shows = rw (width, front, after) (ap (λ x. x ∷ parts_from e.end (with_last_end (take (length (q ∷ ps)) (f ∷ es)) last) (take back (drop n rest))) shown ∙ ap (λ xs. p ∷ xs) cut.shows);
+      are = rw (width, after) (
         record {
           not_below = is.not_below;
           within = omega (arith, length-take-le (n + back) rest (omega (arith, left, cut.within, is.within)));

@@ -13,4 +13,4 @@ code_cut text utf8 front =
 
 pub code_first : (text code line rest : List ℕ) (left : List Chunk) → take 5 text ≡ codes "\n    " → code ≡ drop 5 text → code ≡ line ++ rest → IsLine line → IsLineEnd rest → left ≡ chunks_of rest
     → chunks_in Plain text ≡ Raw line code_weight ∷ left
-code_first text code line rest left front behind cut l end s = grind (arith, code_line_first)
+code_first text code line rest left front after cut l end s = grind (arith, code_line_first)

@@ -12,8 +12,8 @@ loop-option-preserved c =
     record {
       utf8 = search rules;
       put =
-          next_member c.args.shell c.args.options.now c.loop-option.option-index _ c.loop-option.what.now c.what_behind-what.result.now (string_bytes c.loop-option.out) (string_bytes c.push_shown.new.out) whole
-          c.loop-option-test.true c.what_behind-what.ensures c.in_ok-push_shown.ensures c.loop-option.invariant.put;
+          next_member c.args.shell c.args.options.now c.loop-option.option-index _ c.loop-option.what.now c.what_after-what.result.now (string_bytes c.loop-option.out) (string_bytes c.push_shown.new.out) whole
+          c.loop-option-test.true c.what_after-what.ensures c.in_ok-push_shown.ensures c.loop-option.invariant.put;
     }
 
 pub returns : goal.returns

@@ -10,12 +10,12 @@ loop-piece-preserved g c =
     record {
       utf8 = search rules;
       put =
-          tagged_more c.args.tag.now c.loop-piece.rest.now (string_bytes c.loop-piece.out) (string_bytes c.push_piece.new.out) (string_bytes c.args.out.now ++ tagged c.args.tag.now c.args.text.now) c.in-Some.piece c.in-Some.behind
+          tagged_more c.args.tag.now c.loop-piece.rest.now (string_bytes c.loop-piece.out) (string_bytes c.push_piece.new.out) (string_bytes c.args.out.now ++ tagged c.args.tag.now c.args.text.now) c.in-Some.piece c.in-Some.after
           c.in-Some.ensures.cases c.in_ok-push_piece.ensures c.loop-piece.invariant.put;
     }
 
 pub loop-piece-smaller : goal.loop-piece-smaller
-loop-piece-smaller g c = piece_shorter c.loop-piece.rest.now c.in-Some.piece c.in-Some.behind c.in-Some.ensures.cases
+loop-piece-smaller g c = piece_shorter c.loop-piece.rest.now c.in-Some.piece c.in-Some.after c.in-Some.ensures.cases
 
 pub returns : goal.returns
 returns g c =

@@ -22,8 +22,8 @@ loop-index-preserved c =
     let uncut = sym c.is_cut.ensures ∙ c.if-is_cut.false in
     record {
       in_range = search rules;
-      small = subst (λ n. n ≤ i + 1) (sym c.depth_behind-depth.ensures) (depth_small depth b i c.loop-index.invariant.small);
-      cut = subst (CutSoFar bs (i + 1)) (sym c.depth_behind-depth.ensures) (cut_later bs i depth b c.loop-index-test.true refl c.loop-index.invariant.cut uncut);
+      small = subst (λ n. n ≤ i + 1) (sym c.depth_after-depth.ensures) (depth_small depth b i c.loop-index.invariant.small);
+      cut = subst (CutSoFar bs (i + 1)) (sym c.depth_after-depth.ensures) (cut_later bs i depth b c.loop-index-test.true refl c.loop-index.invariant.cut uncut);
     }
 
 pub returns : goal.returns

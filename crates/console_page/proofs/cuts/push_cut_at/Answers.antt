@@ -18,25 +18,25 @@ loop-at-preserved g c =
     let at = c.loop-at.at in
     let least = c.args.least in
     let depth = c.loop-at.depth in
-    let behind = c.loop-at.is_behind_bar in
+    let after = c.loop-at.is_after_bar in
     let is : c.as_bytes-bytes.result.now ≡ item = c.as_bytes-bytes.ensures.value in
     let byte : get_or c.as_bytes-bytes.result.now at 0 ≡ get_or item at 0 = ap (λ bytes. get_or bytes at 0) is in
     let within : at < length item = omega (arith, ap length is) in
-    let tested : c.is_cut.result ≡ is_cut least depth behind (get_or item at 0) = c.is_cut.ensures ∙ ap (is_cut least depth behind) byte in
+    let tested : c.is_cut.result ≡ is_cut least depth after (get_or item at 0) = c.is_cut.ensures ∙ ap (is_cut least depth after) byte in
     elim c.if-is_cut.branch [
       | then-is_cut+in_ok-push_str+in_ok-push_str-2 w ↦
-          let goes : is_cut least depth behind (get_or item at 0) ≡ true = sym tested ∙ w.if-is_cut.true in
+          let goes : is_cut least depth after (get_or item at 0) ≡ true = sym tested ∙ w.if-is_cut.true in
           let run : string_bytes w.push_str.new.self ≡ string_bytes c.loop-at.out ++ take (at - c.loop-at.start) (drop c.loop-at.start item) = w.in_ok-push_str.ensures.bytes ∙ ap (λ more. string_bytes c.loop-at.out ++ more) w.range.ensures.value in
-          rw (w.out-is, w.start-is, c.depth_behind-depth.ensures, byte) (record {
+          rw (w.out-is, w.start-is, c.depth_after-depth.ensures, byte) (record {
             in_order = omega arith;
-            boundary = IsCharBoundary-after_ascii item at c.utf8.item within (cut_blank least depth behind (get_or item at 0) goes);
-            written = cut_there least depth behind item (string_bytes c.loop-at.out) (string_bytes w.push_str.new.self) (string_bytes w.push_str-then-is_cut.new.self) _ c.loop-at.start at within goes run w.in_ok-push_str-2.ensures.bytes c.loop-at.invariant.written;
+            boundary = IsCharBoundary-after_ascii item at c.utf8.item within (cut_blank least depth after (get_or item at 0) goes);
+            written = cut_there least depth after item (string_bytes c.loop-at.out) (string_bytes w.push_str.new.self) (string_bytes w.push_str-then-is_cut.new.self) _ c.loop-at.start at within goes run w.in_ok-push_str-2.ensures.bytes c.loop-at.invariant.written;
           })
       | else-is_cut w ↦
-          let stays : is_cut least depth behind (get_or item at 0) ≡ false = sym tested ∙ w.if-is_cut.false in
-          rw (w.out-is, w.start-is, c.depth_behind-depth.ensures, byte) (record {
+          let stays : is_cut least depth after (get_or item at 0) ≡ false = sym tested ∙ w.if-is_cut.false in
+          rw (w.out-is, w.start-is, c.depth_after-depth.ensures, byte) (record {
             in_order = omega arith;
             boundary = c.loop-at.invariant.boundary;
-            written = kept_next least depth behind item (string_bytes c.loop-at.out) _ c.loop-at.start at c.loop-at.invariant.in_order within stays c.loop-at.invariant.written;
+            written = kept_next least depth after item (string_bytes c.loop-at.out) _ c.loop-at.start at c.loop-at.invariant.in_order within stays c.loop-at.invariant.written;
           })
     ]

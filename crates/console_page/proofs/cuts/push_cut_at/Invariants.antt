@@ -8,5 +8,5 @@ abbrev pub invariant-loop-at : goal.invariant-loop-at
 invariant-loop-at g l = record {
   in_order : l.start ≤ l.at;
   boundary : IsCharBoundary l.item l.start;
-  written : string_bytes l.out ++ (take (l.at - l.start) (drop l.start l.item) ++ cut_bars l.least l.depth l.is_behind_bar (drop l.at l.item)) ≡ string_bytes l.initial.out ++ cut_bars l.least (length l.item) false l.item;
+  written : string_bytes l.out ++ (take (l.at - l.start) (drop l.start l.item) ++ cut_bars l.least l.depth l.is_after_bar (drop l.at l.item)) ≡ string_bytes l.initial.out ++ cut_bars l.least (length l.item) false l.item;
 }

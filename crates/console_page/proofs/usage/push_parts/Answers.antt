@@ -10,13 +10,13 @@ loop-part-preserved g c =
     let room = c.args.hang.room in
     let margin = c.args.hang.margin.now in
     let rest = c.loop-part.rest.now in
-    let is = next_there 10 rest (part_pieces room) c.in-Some.part c.in-Some.behind c.in-Some.ensures.cases (omega arith) in
-    let behind = flat_map (part_pieces room) (slice_split (λ b. b == 10) c.in-Some.behind.now) in
+    let is = next_there 10 rest (part_pieces room) c.in-Some.part c.in-Some.after c.in-Some.ensures.cases (omega arith) in
+    let after = flat_map (part_pieces room) (slice_split (λ b. b == 10) c.in-Some.after.now) in
     let all = flat_map (part_pieces room) (slice_split (λ b. b == 10) rest) in
     record {
       utf8 = search rules;
-      written = put_step room margin c.loop-part.left c.in_ok-left.left (string_bytes c.loop-part.out) (string_bytes c.push_part.new.out) _ all ((part_pieces room) c.in-Some.part.now) behind is c.in_ok-left.ensures.text c.in_ok-left.ensures.left c.loop-part.invariant.written;
-      left = after_step room c.loop-part.left c.in_ok-left.left _ all ((part_pieces room) c.in-Some.part.now) behind is c.in_ok-left.ensures.left c.loop-part.invariant.left;
+      written = put_step room margin c.loop-part.left c.in_ok-left.left (string_bytes c.loop-part.out) (string_bytes c.push_part.new.out) _ all ((part_pieces room) c.in-Some.part.now) after is c.in_ok-left.ensures.text c.in_ok-left.ensures.left c.loop-part.invariant.written;
+      left = after_step room c.loop-part.left c.in_ok-left.left _ all ((part_pieces room) c.in-Some.part.now) after is c.in_ok-left.ensures.left c.loop-part.invariant.left;
     }
 
 pub returns-clause-text : goal.returns-clause-text

@@ -10,13 +10,13 @@ loop-word-preserved g c =
     let room = c.args.hang.room in
     let margin = c.args.hang.margin.now in
     let rest = c.loop-word.rest.now in
-    let is = next_there 32 rest kept c.in-Some.word c.in-Some.behind c.in-Some.ensures.cases (omega arith) in
-    let behind = flat_map kept (slice_split (λ b. b == 32) c.in-Some.behind.now) in
+    let is = next_there 32 rest kept c.in-Some.word c.in-Some.after c.in-Some.ensures.cases (omega arith) in
+    let after = flat_map kept (slice_split (λ b. b == 32) c.in-Some.after.now) in
     let all = flat_map kept (slice_split (λ b. b == 32) rest) in
     record {
       utf8 = search rules;
-      written = put_step room margin c.loop-word.left c.in_ok-left.left (string_bytes c.loop-word.out) (string_bytes c.push_kept.new.out) _ all (kept c.in-Some.word.now) behind is c.in_ok-left.ensures.text c.in_ok-left.ensures.left c.loop-word.invariant.written;
-      left = after_step room c.loop-word.left c.in_ok-left.left _ all (kept c.in-Some.word.now) behind is c.in_ok-left.ensures.left c.loop-word.invariant.left;
+      written = put_step room margin c.loop-word.left c.in_ok-left.left (string_bytes c.loop-word.out) (string_bytes c.push_kept.new.out) _ all (kept c.in-Some.word.now) after is c.in_ok-left.ensures.text c.in_ok-left.ensures.left c.loop-word.invariant.written;
+      left = after_step room c.loop-word.left c.in_ok-left.left _ all (kept c.in-Some.word.now) after is c.in_ok-left.ensures.left c.loop-word.invariant.left;
     }
 
 pub returns-clause-text : goal.returns-clause-text

@@ -12,16 +12,16 @@ loop-line-preserved c =
     let rest = c.loop-line.rest.now in
     record {
       utf8 = search rules;
-      quiet = quiet_next c.loop-line.in_fence (is_empty c.args.text.now) rest c.in-Some.line.now c.in-Some.behind.now (first_cut rest c.in-Some.line c.in-Some.behind c.in-Some.ensures.cases) c.loop-line.invariant.quiet c.opens-in_fence.result (sym c.says_nothing.ensures ∙ c.if-not-says_nothing.false) c.opens-in_fence.ensures;
+      quiet = quiet_next c.loop-line.in_fence (is_empty c.args.text.now) rest c.in-Some.line.now c.in-Some.after.now (first_cut rest c.in-Some.line c.in-Some.after c.in-Some.ensures.cases) c.loop-line.invariant.quiet c.opens-in_fence.result (sym c.says_nothing.ensures ∙ c.if-not-says_nothing.false) c.opens-in_fence.ensures;
     }
 
 pub loop-line-smaller : goal.loop-line-smaller
-loop-line-smaller c = cut_shorter c.loop-line.rest.now c.in-Some.line c.in-Some.behind c.in-Some.ensures.cases
+loop-line-smaller c = cut_shorter c.loop-line.rest.now c.in-Some.line c.in-Some.after c.in-Some.ensures.cases
 
 pub returns-then-not-says_nothing : goal.returns-then-not-says_nothing
 returns-then-not-says_nothing c =
     let rest = c.loop-line.rest.now in
-    said_there c.loop-line.in_fence (is_empty c.args.text.now) rest c.in-Some.line.now c.in-Some.behind.now (first_cut rest c.in-Some.line c.in-Some.behind c.in-Some.ensures.cases) c.loop-line.invariant.quiet (sym c.says_nothing.ensures ∙ c.if-not-says_nothing.true)
+    said_there c.loop-line.in_fence (is_empty c.args.text.now) rest c.in-Some.line.now c.in-Some.after.now (first_cut rest c.in-Some.line c.in-Some.after c.in-Some.ensures.cases) c.loop-line.invariant.quiet (sym c.says_nothing.ensures ∙ c.if-not-says_nothing.true)
 
 pub returns : goal.returns
 returns c =

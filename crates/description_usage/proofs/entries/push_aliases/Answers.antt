@@ -2,7 +2,7 @@ use Rattle.std.proofs.Common.{ap, map, sym, ◌∙◌, codes}
 use Rattle.page_model.specs.View.{line_of}
 use Rattle.description_usage.specs.Entries.{note}
 use Rattle.description_usage.specs.Lines.{joined}
-use Rattle.description_usage.proofs.Behind.{aliased}
+use Rattle.description_usage.proofs.After.{aliased}
 use Rattle.description_usage.proofs.entries.push_aliases.Goals as goal
 
 pub returns : goal.returns

@@ -24,11 +24,11 @@ loop-at-preserved g c =
     let within : i < length c.args.bytes.now = omega arith in
     let small : i < 18446744073709551615 = omega arith in
     let whole : at ≡ suc i = omega arith in
-    let behind : i + 1 ≡ suc i = omega arith in
+    let after : i + 1 ≡ suc i = omega arith in
     record {
       in_range = omega arith;
-      low = lowest_more c.args.bytes.now c.args.levels.now c.requires i c.loop-at.lowest within small at (i + 1) c.min-lowest.result whole behind c.loop-at.invariant.low c.min-lowest.ensures;
+      low = lowest_more c.args.bytes.now c.args.levels.now c.requires i c.loop-at.lowest within small at (i + 1) c.min-lowest.result whole after c.loop-at.invariant.low c.min-lowest.ensures;
       put =
-          shaped_more c.args.bytes.now c.args.levels.now c.requires i c.loop-at.lowest within small at (i + 1) whole behind c.loop-at.invariant.low c.loop-at.out.items c.push.new.self.items c.loop-at.invariant.put
+          shaped_more c.args.bytes.now c.args.levels.now c.requires i c.loop-at.lowest within small at (i + 1) whole after c.loop-at.invariant.low c.loop-at.out.items c.push.new.self.items c.loop-at.invariant.put
           (c.in_ok-push.ensures.items ∙ ap (λ b. c.loop-at.out.items ++ b ∷ []) c.shaped_byte.ensures);
     }

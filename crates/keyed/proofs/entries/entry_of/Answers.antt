@@ -14,7 +14,7 @@ returns-then-is_some c =
     let other : (length (skip_blank c.lines.rest.now) == 0) ≡ false = grind (arith, common_steps) in
     IfSome_then c.in_ok-found.found c.in_ok-found.ensures λ e stands ms read.
     let (x, after, is, more) = document_more c.lines.rest.now (c.lines.invariant.2 ms read) other in
-    let same : c.in_ok-line.behind.now ≡ after = c.in_ok-line.ensures.end (x, after) (rw start_is is) in
+    let same : c.in_ok-line.following.now ≡ after = c.in_ok-line.ensures.end (x, after) (rw start_is is) in
     stands ((x, rw (start_is, same) is), c.in_ok-line.ensures.value)
 
 pub lines-preserved-else-is_some : goal.lines-preserved-else-is_some
@@ -25,7 +25,7 @@ lines-preserved-else-is_some c =
       c.section_of-section.ensures,
       λ ms read.
           let (x, after, is, more) = document_more c.lines.rest.now (c.lines.invariant.2 ms read) other in
-          let same : c.in_ok-line.behind.now ≡ after = c.in_ok-line.ensures.end (x, after) (rw start_is is) in
+          let same : c.in_ok-line.following.now ≡ after = c.in_ok-line.ensures.end (x, after) (rw start_is is) in
           rw same more,
     )
 
@@ -37,6 +37,6 @@ lines-preserved c =
       c.section_of-section.ensures,
       λ ms read.
           let (x, after, is, more) = document_more c.lines.rest.now (c.lines.invariant.2 ms read) other in
-          let same : c.in_ok-line.behind.now ≡ after = c.in_ok-line.ensures.end (x, after) (rw start_is is) in
+          let same : c.in_ok-line.following.now ≡ after = c.in_ok-line.ensures.end (x, after) (rw start_is is) in
           rw same more,
     )

@@ -12,7 +12,7 @@ returns-then-first-ne91-clause-end c p read =
     let other : (first c.args.s.now == 91) ≡ false = grind (arith, common_steps) in
     let (k, value, d, is_key, is_value) = pair_turn c.args.s.now p other read in
     let same : c.in_ok-key.value.now ≡ value = ap (λ z. z.1) (same_Some _ (k, value) (sym c.in_ok-key.ensures.value ∙ is_key)) in
-    c.in_ok-behind.ensures.end (d, p.1) (rw same is_value)
+    c.in_ok-following.ensures.end (d, p.1) (rw same is_value)
 
 pub returns-then-first-ne91-clause-value : goal.returns-then-first-ne91-clause-value
 returns-then-first-ne91-clause-value c r =

@@ -15,9 +15,9 @@ entry_in_array-returns-then-is_empty t c ends =
     let start_is = c.skip_blank-start.ensures.rest in
     let other : (first (skip_blank c.items.rest.now) == 93) ≡ false = grind (arith, common_steps) in
     let (d, after, next, is, element, then) = array_turn (val c.args.depth) c.items.rest.now (c.items.invariant.2 ends) other in
-    let same_after : c.in_ok-behind.behind.now ≡ after = c.in_ok-behind.ensures.end (d, after) (rw start_is is) in
+    let same_after : c.in_ok-following.following.now ≡ after = c.in_ok-following.ensures.end (d, after) (rw start_is is) in
     element_stands c.in_ok-closed.field-0 c.args.depth _ after d
-    (c.in_ok-closed.ensures.from ∙ c.line.ensures.from ∙ start_is) (c.in_ok-closed.ensures.behind ∙ c.line.ensures.behind ∙ same_after)
+    (c.in_ok-closed.ensures.from ∙ c.line.ensures.from ∙ start_is) (c.in_ok-closed.ensures.following ∙ c.line.ensures.following ∙ same_after)
     (c.in_ok-closed.ensures.closing ∙ ap (λ l. l ++ codes "]") c.line.ensures.closing) is
 
 pub entry_in_array-returns-then-before-index : goal.entry_in_array-returns-then-before-index
@@ -32,14 +32,14 @@ pub entry_in_array-items-preserved : goal.entry_in_array-items-preserved
 entry_in_array-items-preserved t c =
     let start_is = c.skip_blank-start.ensures.rest in
     let other : (first (skip_blank c.items.rest.now) == 93) ≡ false = grind (arith, common_steps) in
-    let shorter = c.in_ok-behind.ensures.shorter in
+    let shorter = c.in_ok-following.ensures.shorter in
     let within = c.in_ok-rest.ensures.within in
     let before = c.skip_blank-start.ensures.within in (
       search rules,
       omega (arith, c.items.invariant.1),
       λ ends.
           let (d, after, next, is, element, then) = array_turn (val c.args.depth) c.items.rest.now (c.items.invariant.2 ends) other in
-          let same_after : c.in_ok-behind.behind.now ≡ after = c.in_ok-behind.ensures.end (d, after) (rw start_is is) in
+          let same_after : c.in_ok-following.following.now ≡ after = c.in_ok-following.ensures.end (d, after) (rw start_is is) in
           let same_next : c.in_ok-rest.rest.now ≡ next = same_Some _ _ (sym c.in_ok-rest.ensures.value ∙ ap (after_element 93) same_after ∙ element) in
           rw same_next then,
     )
@@ -52,9 +52,9 @@ entry_in_table-returns-then-taken-path t c ends =
     let (e, after, next, is, element, then) = table_turn (val c.args.depth) c.members.rest.now (c.members.invariant.2 ends) other in
     let (k, value, d, is_key, is_value) = keyval_turn (val c.args.depth) _ (e, after) is in
     let same_value : c.in_ok-key.at_value.now ≡ value = ap (λ z. z.1) (same_Some _ (k, value) (sym read_key ∙ is_key)) in
-    let same_after : c.in_ok-behind.behind.now ≡ after = c.in_ok-behind.ensures.end (d, after) (rw same_value is_value) in
+    let same_after : c.in_ok-following.following.now ≡ after = c.in_ok-following.ensures.end (d, after) (rw same_value is_value) in
     pair_stands c.in_ok-closed.field-0 c.args.depth _ after e
-    (c.in_ok-closed.ensures.from ∙ c.line.ensures.from ∙ start_is) (c.in_ok-closed.ensures.behind ∙ c.line.ensures.behind ∙ same_after)
+    (c.in_ok-closed.ensures.from ∙ c.line.ensures.from ∙ start_is) (c.in_ok-closed.ensures.following ∙ c.line.ensures.following ∙ same_after)
     (c.in_ok-closed.ensures.closing ∙ ap (λ l. l ++ codes "}") c.line.ensures.closing) is
 
 pub entry_in_table-returns-in-Some : goal.entry_in_table-returns-in-Some
@@ -73,7 +73,7 @@ entry_in_table-members-preserved t c =
     let start_is = c.skip_blank-start.ensures.rest in
     let other : (first (skip_blank c.members.rest.now) == 125) ≡ false = grind (arith, common_steps) in
     let shorter_key = c.in_ok-key.ensures.shorter in
-    let shorter = c.in_ok-behind.ensures.shorter in
+    let shorter = c.in_ok-following.ensures.shorter in
     let within = c.in_ok-rest.ensures.within in
     let before = c.skip_blank-start.ensures.within in
     let read_key : key_equals (skip_blank c.members.rest.now) ≡ Some (key_view c.in_ok-key.key, c.in_ok-key.at_value.now) = rw start_is at c.in_ok-key.ensures.value in (
@@ -83,7 +83,7 @@ entry_in_table-members-preserved t c =
           let (e, after, next, is, element, then) = table_turn (val c.args.depth) c.members.rest.now (c.members.invariant.2 ends) other in
           let (k, value, d, is_key, is_value) = keyval_turn (val c.args.depth) _ (e, after) is in
           let same_value : c.in_ok-key.at_value.now ≡ value = ap (λ z. z.1) (same_Some _ (k, value) (sym read_key ∙ is_key)) in
-          let same_after : c.in_ok-behind.behind.now ≡ after = c.in_ok-behind.ensures.end (d, after) (rw same_value is_value) in
+          let same_after : c.in_ok-following.following.now ≡ after = c.in_ok-following.ensures.end (d, after) (rw same_value is_value) in
           let same_next : c.in_ok-rest.rest.now ≡ next = same_Some _ _ (sym c.in_ok-rest.ensures.value ∙ ap (after_element 125) same_after ∙ element) in
           rw same_next then,
     )

@@ -11,7 +11,7 @@ loop-link-preserved c =
     record {
       utf8 = search rules;
       written =
-          link_put (draft_of c.loop-link.pieces) (draft_of c.push_words.new.pieces) (draft_of c.push_apart.new.pieces) c.loop-link.rest.now link.before.now link.address.now link.behind.now c.in-Some.ensures.0 c.in_ok-push_words.ensures c.in_ok-push_apart.ensures
+          link_put (draft_of c.loop-link.pieces) (draft_of c.push_words.new.pieces) (draft_of c.push_apart.new.pieces) c.loop-link.rest.now link.before.now link.address.now link.after.now c.in-Some.ensures.0 c.in_ok-push_words.ensures c.in_ok-push_apart.ensures
           ∙ c.loop-link.invariant.written;
     }
 

@@ -18,7 +18,7 @@ loop-pair-preserved c =
     record {
       utf8 = search rules;
       written =
-          pair_put (draft_of c.loop-pair.pieces) (draft_of c.push_links.new.pieces) (draft_of c.push_quoted.new.pieces) c.loop-pair.rest.now pair.before.now pair.inner.now pair.behind.now c.in-Some.ensures.0 c.in_ok-push_links.ensures c.in_ok-push_quoted.ensures
+          pair_put (draft_of c.loop-pair.pieces) (draft_of c.push_links.new.pieces) (draft_of c.push_quoted.new.pieces) c.loop-pair.rest.now pair.before.now pair.inner.now pair.after.now c.in-Some.ensures.0 c.in_ok-push_links.ensures c.in_ok-push_quoted.ensures
           ∙ c.loop-pair.invariant.written;
     }
 

@@ -8,11 +8,11 @@ loop-line-preserved c =
     let rest = c.loop-line.rest.now in
     record {
       utf8 = search rules;
-      found = line_found (λ line. line.now) c.loop-line.found.items c.push.new.self.items c.in_ok-with_blank_front.field-0 c.in_ok-push.ensures.items rest c.in-Some.line.now c.in-Some.behind.now (lines c.args.text.now) c.in_ok-with_blank_front.ensures (line_cut rest c.in-Some.line c.in-Some.behind c.in-Some.ensures.cases) c.loop-line.invariant.found;
+      found = line_found (λ line. line.now) c.loop-line.found.items c.push.new.self.items c.in_ok-with_blank_front.field-0 c.in_ok-push.ensures.items rest c.in-Some.line.now c.in-Some.after.now (lines c.args.text.now) c.in_ok-with_blank_front.ensures (line_cut rest c.in-Some.line c.in-Some.after c.in-Some.ensures.cases) c.loop-line.invariant.found;
     }
 
 pub loop-line-smaller : goal.loop-line-smaller
-loop-line-smaller c = cut_shorter c.loop-line.rest.now c.in-Some.line c.in-Some.behind c.in-Some.ensures.cases
+loop-line-smaller c = cut_shorter c.loop-line.rest.now c.in-Some.line c.in-Some.after c.in-Some.ensures.cases
 
 pub returns : goal.returns
 returns c =

@@ -7,5 +7,5 @@ returns c =
     let before = c.in-Some.before.now in
     let rest = c.in-Some.rest.now in
     let inner = c.in-Some-split_lone.inner.now in
-    let behind = c.in-Some-split_lone.behind.now in
-    (pair_said text before rest inner behind c.in-Some.ensures c.in-Some-split_lone.ensures, shorter text before rest inner behind c.in-Some.ensures c.in-Some-split_lone.ensures)
+    let after = c.in-Some-split_lone.after.now in
+    (pair_said text before rest inner after c.in-Some.ensures c.in-Some-split_lone.ensures, shorter text before rest inner after c.in-Some.ensures c.in-Some-split_lone.ensures)

@@ -1,6 +1,6 @@
 use Rattle.std.specs.Prelude.{◌++◌}
 use Rattle.bpaf_items.proofs.Words.{map, ap, sym, ◌∙◌, subst, with_writes, Grows-then, outside_groups, HasPairedGroups, texts_in, group_lists, entry_at}
-use Rattle.bpaf_items.proofs.Page.GroupSteps.{left_behind}
+use Rattle.bpaf_items.proofs.Page.GroupSteps.{left_after}
 use Rattle.bpaf_items.proofs.meta_help.writes.Writer.put_groups.Goals as goal
 
 pub returns-in_err-count-clause-grows : goal.returns-in_err-count-clause-grows
@@ -9,7 +9,7 @@ returns-in_err-count-clause-grows g c = Grows-then _ _ _ c.loop-rest.invariant.g
 pub loop-rest-preserved : goal.loop-rest-preserved
 loop-rest-preserved g c =
     let taken = c.in_ok-count.ensures.takes in
-    let same = left_behind c.loop-rest.rest.now c.behind-rest.result.now c.in_ok-count.count c.behind-rest.ensures in
+    let same = left_after c.loop-rest.rest.now c.after-rest.result.now c.in_ok-count.count c.after-rest.ensures in
     record {
       paired = subst HasPairedGroups (sym same) taken.paired;
       grows = Grows-then _ _ _ c.loop-rest.invariant.grows c.put_first.ensures.grows;

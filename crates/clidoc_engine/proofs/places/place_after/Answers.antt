@@ -1,8 +1,8 @@
 use Rattle.std.proofs.Common.{◌≡◌, true, false, get_or, sym, ◌∙◌, arith, rules}
 use Rattle.clidoc_engine.specs.Places.{begins_character, is_newline}
 use Rattle.clidoc_engine.proofs.Lines.{line-newline, line-more, column-newline, column-begins, column-goes_on}
-use Rattle.clidoc_engine.proofs.places.place_behind.Goals.{then-byte-eq10, else-byte-eq10+then-begins_character, else-byte-eq10+else-begins_character}
-use Rattle.clidoc_engine.proofs.places.place_behind.Goals as goal
+use Rattle.clidoc_engine.proofs.places.place_after.Goals.{then-byte-eq10, else-byte-eq10+then-begins_character, else-byte-eq10+else-begins_character}
+use Rattle.clidoc_engine.proofs.places.place_after.Goals as goal
 
 pub loop-byte-preserved : goal.loop-byte-preserved
 loop-byte-preserved c =

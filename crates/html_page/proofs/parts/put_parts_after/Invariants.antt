@@ -4,7 +4,7 @@ use Rattle.html_page.specs.Page.{parts_events}
 use Rattle.html_page.specs.Steps.{said}
 use Rattle.html_page.specs.Steps.View.{before_of}
 use Rattle.html_page.specs.View.{frame_of}
-use Rattle.html_page.proofs.parts.put_parts_behind.Given as goal
+use Rattle.html_page.proofs.parts.put_parts_after.Given as goal
 
 abbrev pub invariant-loop-part : goal.invariant-loop-part
 invariant-loop-part g l =

@@ -1,7 +1,7 @@
 use Rattle.std.proofs.Common.{ap, ◌∙◌, ◌++◌}
 use Rattle.page_model.specs.View.{line_of}
-use Rattle.description_usage.proofs.Behind.{last_more, line_more}
-use Rattle.description_usage.proofs.entries.push_behind.Goals as goal
+use Rattle.description_usage.proofs.After.{last_more, line_more}
+use Rattle.description_usage.proofs.entries.push_after.Goals as goal
 
 pub returns : goal.returns
 returns g c =
