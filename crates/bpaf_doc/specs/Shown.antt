@@ -2,8 +2,8 @@
 use Rattle.std.specs.Prelude.{ℕ, ◌+◌, Bool, true, false, ◌&&◌, ◌||◌, List, [], ◌∷◌, map, take, count_by, flat_map, nat_le, if◌then◌else◌}
 use Rattle.std.specs.List.{list_any, list_all, enumerate_from, position_or_len}
 use Rattle.bpaf_roff.specs.Bytes as byte
-use Rattle.bpaf_doc.specs.declared.buffer.Block.{Block, TheVariants.InlineBlock, TheVariants.TermRef}
-use Rattle.bpaf_doc.specs.Buffer.Parts.{Part, Text, Start, End}
+use Rattle.bpaf_doc.specs.declared.buffer.Block.{Block, TheVariants.InlineBlock, TheVariants.ItemTerm, TheVariants.TermRef}
+use Rattle.bpaf_doc.specs.Buffer.Parts.{Part, Text, Start, End, opens, closes}
 use Rattle.bpaf_doc.specs.Splitter.Chunks.{Chunk, chunks_of, chunk_ink, is_paragraph}
 
 -- the parts of a document in order, each with its place
@@ -24,15 +24,10 @@ abbrev pub is_inline : Block → Bool
 is_inline InlineBlock = true
 is_inline _ = false
 
--- a start of InlineBlock
-abbrev pub is_inline_start : Part → Bool
-is_inline_start (Start b) = is_inline b
-is_inline_start _ = false
-
--- an end of InlineBlock
-abbrev pub is_inline_end : Part → Bool
-is_inline_end (End b) = is_inline b
-is_inline_end _ = false
+-- the block of a term
+abbrev pub is_term : Block → Bool
+is_term ItemTerm = true
+is_term _ = false
 
 -- a text with a Paragraph chunk
 abbrev pub breaks_off : Part → Bool
@@ -43,7 +38,8 @@ breaks_off _ = false
 -- or else the document, is still open. (What hid that text, if anything, hides this one too.)
 abbrev pub is_hidden : List Part → Bool
 is_hidden [] = false
-is_hidden (part ∷ between) = (breaks_off part && stays_open is_inline_start is_inline_end between) || is_hidden between
+is_hidden (part ∷ between) =
+    (breaks_off part && stays_open (opens is_inline) (closes is_inline) between) || is_hidden between
 
 -- the chunks up to and with the first Paragraph
 abbrev pub through_paragraph : List Chunk → List Chunk

@@ -6,7 +6,7 @@ use Rattle.bpaf_roff.specs.Escaping.{blank, dash, newline}
 use Rattle.bpaf_doc.specs.declared.buffer.Block.TheVariants as block
 use Rattle.bpaf_doc.specs.Buffer.Parts.{Part}
 use Rattle.bpaf_doc.specs.Buffer.Writes.{Write, plain, inside, doc_writes, path_writes, document_of}
-use Rattle.bpaf_meta.specs.Content.{Tree, and_of, or_of, optional, required, adjacent, item, many, subsection, suffix, skip, custom_usage, strict, Trees, no_trees, tree, Leaf, any, positional, command, flag, argument, Head, head}
+use Rattle.bpaf_meta.specs.Content.{Tree, and_of, or_of, optional, required, adjacent, item, many, subsection, suffix, skip, custom_usage, strict, Trees, no_trees, tree, Leaf, command, Head, head}
 use Rattle.bpaf_meta.specs.Meta.Misplaced.{IsWellPlaced, IsFirstMisplaced}
 use Rattle.bpaf_meta.specs.Usage.Writes.{usage_writes}
 use Rattle.bpaf_items.specs.Listing.ItemList.{Entry, listed, item_list}
@@ -41,12 +41,9 @@ abbrev mutual
   part_chapters path (tree t ts) = command_chapters path t ++ part_chapters path ts
 
   pub item_chapters : (path : List (List ℕ)) → Leaf → List Chapter
-  item_chapters path (any m a h) = []
-  item_chapters path (positional m h) = []
   item_chapters path (command n c h t i) = record { path = path ++ n ∷ []; info = i; content = t }
       ∷ command_chapters (path ++ n ∷ []) t
-  item_chapters path (flag n s e h) = []
-  item_chapters path (argument n s m e h) = []
+  item_chapters path l = []
 
 -- `extract_sections`: the chapter of the tree itself, and then those of its commands
 abbrev pub chapters_of : (path : List (List ℕ)) → Head → Tree → List Chapter

@@ -11,3 +11,4 @@ pub mod Written
 pub mod Staying
 pub mod Texts
 pub mod Scripts
+pub mod Ties

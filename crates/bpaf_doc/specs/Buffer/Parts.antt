@@ -1,5 +1,5 @@
 -- A document is the list of its parts.
-use Rattle.std.specs.Prelude.{◌≡◌, ℕ, List, [], ◌∷◌, ◌++◌, All, filter, flat_map, chars}
+use Rattle.std.specs.Prelude.{◌≡◌, ℕ, Bool, false, List, [], ◌∷◌, ◌++◌, All, filter, flat_map, chars}
 use Rattle.std.specs.Char.{is_not_whitespace}
 use Rattle.std.specs.Str.{IsUtf8}
 use Rattle.bpaf_doc.specs.declared.buffer.{Style.Style, Block.Block}
@@ -18,6 +18,20 @@ pub data IsWellNested : List Part → Type 0 where
       → IsWellNested inner → IsWellNested ps
   joined : {ps : List Part} (front back : List Part) → ps ≡ front ++ back → IsWellNested front → IsWellNested back
       → IsWellNested ps
+
+-- a start, an end, or a mark of either kind, of a block that passes the test
+abbrev pub opens : (Block → Bool) → Part → Bool
+opens test (Start b) = test b
+opens test _ = false
+
+abbrev pub closes : (Block → Bool) → Part → Bool
+closes test (End b) = test b
+closes test _ = false
+
+abbrev pub marks : (Block → Bool) → Part → Bool
+marks test (Start b) = test b
+marks test (End b) = test b
+marks test _ = false
 
 -- the characters of a text that are not White_Space, in order
 abbrev pub ink : List ℕ → List ℕ

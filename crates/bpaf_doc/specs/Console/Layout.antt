@@ -76,14 +76,14 @@ abbrev pub is_newline : Stretch → Bool
 is_newline (Gap b) = b == byte.newline
 is_newline _ = false
 
--- an inked chunk
-abbrev pub is_inked_event : Event → Bool
-is_inked_event (Shows k chunk) = is_inked chunk
-is_inked_event _ = false
+-- a chunk that passes the test
+abbrev pub shows_chunk : (Chunk → Bool) → Event → Bool
+shows_chunk test (Shows k chunk) = test chunk
+shows_chunk test _ = false
 
 -- an inked chunk, in a place or not
 abbrev pub is_inked_stretch : Stretch → Bool
-is_inked_stretch stretch = list_any is_inked_event (stretch_events stretch)
+is_inked_stretch stretch = list_any (shows_chunk is_inked) (stretch_events stretch)
 
 -- What may come before these stretches: a blank or a newline; a whole chunk, or one without the White_Space at its end
 -- if a newline follows directly; an event that is not an inked chunk.
@@ -91,7 +91,7 @@ abbrev pub MayStand : Stretch → List Stretch → Type 0
 MayStand (Gap b) after = (b ≡ byte.blank) ⊎ (b ≡ byte.newline)
 MayStand (Placed e) after =
     (e.shown ≡ e.bytes) ⊎ ((e.shown ≡ trim_end e.bytes) × IsTrue (starts (text_of after) (codes "\n")))
-MayStand (Passed event) after = IsTrue (not (is_inked_event event))
+MayStand (Passed event) after = IsTrue (not (shows_chunk is_inked event))
 
 -- the stretches make the text, and have what is shown of the document, in order, with each inked chunk in a place
 pub record IsPlacing (document : List Part) (full : Bool) (text : List ℕ) (stretches : List Stretch) : Type 0 where
@@ -155,11 +155,6 @@ abbrev pub asks_blank_line : Event → Bool
 asks_blank_line (Closes blocks.Block) = true
 asks_blank_line _ = false
 
--- a Raw chunk
-abbrev pub is_raw_event : Event → Bool
-is_raw_event (Shows k chunk) = is_raw chunk
-is_raw_event _ = false
-
 -- there are two newlines in a row
 abbrev pub HasBlankLine : List ℕ → Type 0
 HasBlankLine text = (front back : List ℕ) × (text ≡ front ++ codes "\n\n" ++ back)
@@ -170,14 +165,15 @@ pub record BreaksWhereAsked (width : ℕ) (stretches : List Stretch) : Type 0 wh
   pub newline : (before between : List Stretch) (e f : Place) → AreApart stretches before e between f
       → IsTrue (list_any asks_newline (events_of between)) → IsTrue (list_any is_newline between)
   pub blank_line : (before between : List Stretch) (e f : Place) → AreApart stretches before e between f
-      → IsTrue (list_any asks_blank_line (events_of between)) → IsTrue (not (list_any is_raw_event (events_of between)))
-      → columns f.bytes ≤ width → HasBlankLine (text_of between)
+      → IsTrue (list_any asks_blank_line (events_of between))
+      → IsTrue (not (list_any (shows_chunk is_raw) (events_of between))) → columns f.bytes ≤ width
+      → HasBlankLine (text_of between)
 
 -- kept whole; a byte outside the places only where it may be added
 abbrev pub IsKept : Type 0 → Stretch → Type 0
 IsKept may_add (Gap b) = may_add
 IsKept may_add (Placed e) = e.shown ≡ e.bytes
-IsKept may_add (Passed event) = IsTrue (not (is_raw_event event))
+IsKept may_add (Passed event) = IsTrue (not (shows_chunk is_raw event))
 
 -- Between neighbouring inked chunks without a newline between them nothing is cut or left out, and blanks are added
 -- only between different texts.

@@ -3,6 +3,7 @@
 -- (proofs/lemmas/Html/Exact, proofs/lemmas/Html/Meets).
 use Rattle.std.specs.Prelude.{if◌then◌else◌, ◌++◌, ◌||◌, ◌∷◌}
 use Rattle.bpaf_doc.specs.Words.{ℕ, zero, suc, Bool, true, false, List, [], Option, Some, None, reverse, flat_map, codes, nat_eq, ends_with, Style, Block, Part, Raw}
+use Rattle.std.specs.Option.{option_map_or}
 use Rattle.bpaf_doc.specs.declared.buffer.Block.TheVariants as blocks
 use Rattle.bpaf_doc.specs.Html.Fragments.{Fragment, TextStart, Shown, TextEnd, Hidden, Start, End, shown_fragments}
 use Rattle.bpaf_doc.specs.Html.Page.{opening_tag, closing_tag, style_elements, block_elements, escaped_character, is_definition_list, style_sheet}
@@ -47,13 +48,9 @@ open_block (Start b ∷ earlier) (suc ends) = open_block earlier ends
 open_block (End b ∷ earlier) ends = open_block earlier (suc ends)
 open_block (_ ∷ earlier) ends = open_block earlier ends
 
-abbrev pub is_open_list : Option Block → Bool
-is_open_list (Some b) = is_definition_list b
-is_open_list None = false
-
 -- what follows these fragments is directly in a definition list
 abbrev pub is_directly_in_list : List Fragment → Bool
-is_directly_in_list before = is_open_list (open_block (reverse before) 0)
+is_directly_in_list before = option_map_or is_definition_list (open_block (reverse before) 0) false
 
 -- ---- breaks
 

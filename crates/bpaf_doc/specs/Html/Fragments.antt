@@ -18,6 +18,11 @@ abbrev pub shows : (Chunk → Bool) → Fragment → Bool
 shows passes (Shown style chunk) = passes chunk
 shows passes _ = false
 
+-- the first of these passes a test
+abbrev pub first_is : (Fragment → Bool) → List Fragment → Bool
+first_is test [] = false
+first_is test (fragment ∷ fragments) = test fragment
+
 -- in brief without the Paragraph at the end
 abbrev pub visible : Bool → List Chunk → List Chunk
 visible full chunks = if full then chunks else before_first is_paragraph chunks

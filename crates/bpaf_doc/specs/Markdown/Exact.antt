@@ -4,8 +4,8 @@
 use Rattle.std.specs.Prelude.{if◌then◌else◌, ◌++◌, ◌==◌, ◌||◌, ◌∷◌}
 use Rattle.bpaf_doc.specs.Words.{ℕ, Bool, false, List, [], reverse, filter, flat_map, codes, nat_eq, ends_with, list_any, Style, Block, Part, Chunk, Raw, Paragraph, LineBreak, code_weight, fence_weight, is_code_line, is_ordinary}
 use Rattle.bpaf_doc.specs.declared.buffer.Block.TheVariants as blocks
-use Rattle.bpaf_doc.specs.Html.Fragments.{Fragment, TextStart, Shown, TextEnd, Hidden, Start, End, shows, shown_fragments}
-use Rattle.bpaf_doc.specs.Markdown.Page.{mark_text, style_marks, escaped_character, is_header_start, is_in_list, is_in_mono, is_after_empty_item, is_text_end, begins_with_term_end}
+use Rattle.bpaf_doc.specs.Html.Fragments.{Fragment, TextStart, Shown, TextEnd, Hidden, Start, End, first_is, shows, shown_fragments}
+use Rattle.bpaf_doc.specs.Markdown.Page.{mark_text, style_marks, escaped_character, is_header_start, is_in_list, is_in_mono, is_after_empty_item, is_text_end, is_term_end}
 use Rattle.bpaf_doc.specs.Html.Exact.{is_empty}
 
 -- ---- styles
@@ -46,13 +46,9 @@ indented_line line = codes "  " ++ (line ++ codes "\n")
 abbrev pub decides_code : Fragment → Bool
 decides_code f = shows is_code_line f || (shows is_ordinary f || is_text_end f)
 
-abbrev pub begins_with_code_line : List Fragment → Bool
-begins_with_code_line [] = false
-begins_with_code_line (f ∷ fs) = shows is_code_line f
-
 -- a code block is open after these fragments: the last that decides was a code line
 abbrev pub is_in_code : List Fragment → Bool
-is_in_code before = begins_with_code_line (filter decides_code (reverse before))
+is_in_code before = first_is (shows is_code_line) (filter decides_code (reverse before))
 
 -- a code line opens a code block where none is open
 abbrev pub opening_fence : List Fragment → List ℕ
@@ -82,7 +78,7 @@ chunk_markdown text before LineBreak = codes "\n"
 
 -- the dash of an item, or blanks where its term ends at once
 abbrev pub item_mark : List Fragment → List ℕ
-item_mark after = if begins_with_term_end after then codes "  " else codes "- "
+item_mark after = if first_is is_term_end after then codes "  " else codes "- "
 
 -- in a definition list, a long dash before a body, or a blank after such an item
 abbrev pub body_mark : List Fragment → List ℕ

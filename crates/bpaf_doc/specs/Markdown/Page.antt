@@ -4,7 +4,7 @@ use Rattle.bpaf_doc.specs.Words.{ℕ, Bool, true, false, not, List, [], map, rev
 use Rattle.bpaf_roff.specs.Bytes as byte
 use Rattle.bpaf_doc.specs.declared.buffer.Style.TheVariants.{Text, Emphasis, Literal, Metavar, Invalid}
 use Rattle.bpaf_doc.specs.declared.buffer.Block.TheVariants.{Header, Section3, Section4, ItemTerm, ItemBody, DefinitionList, Mono}
-use Rattle.bpaf_doc.specs.Html.Fragments.{Fragment, Shown, TextEnd, Start, End, shows, shown_fragments}
+use Rattle.bpaf_doc.specs.Html.Fragments.{Fragment, Shown, TextEnd, Start, End, first_is, shows, shown_fragments}
 use Rattle.bpaf_doc.specs.Snippets.{Snippet, Put, Of, fragments_in, is_mark_or_fragment, styled_by, Touch}
 
 -- what f gives at each place of xs, from what is before it, the element itself, and what is after it
@@ -90,28 +90,28 @@ is_item_start (Start Section4) = true
 is_item_start (Start ItemTerm) = true
 is_item_start _ = false
 
-abbrev pub begins_with_list_start : List Fragment → Bool
-begins_with_list_start (Start DefinitionList ∷ fragments) = true
-begins_with_list_start _ = false
+abbrev pub is_list_start : Fragment → Bool
+is_list_start (Start DefinitionList) = true
+is_list_start _ = false
 
-abbrev pub begins_with_term_end : List Fragment → Bool
-begins_with_term_end (End ItemTerm ∷ fragments) = true
-begins_with_term_end _ = false
+abbrev pub is_term_end : Fragment → Bool
+is_term_end (End ItemTerm) = true
+is_term_end _ = false
 
 -- the last DefinitionList mark was a start
 abbrev pub is_in_list : List Fragment → Bool
-is_in_list before = begins_with_list_start (filter is_list_mark (reverse before))
+is_in_list before = first_is is_list_start (filter is_list_mark (reverse before))
 
 -- the last Section4 or ItemTerm start had an ItemTerm end next
 abbrev pub is_after_empty_item : List Fragment → Bool
-is_after_empty_item before = list_any is_item_start before && begins_with_term_end (after_last is_item_start before)
+is_after_empty_item before = list_any is_item_start before && first_is is_term_end (after_last is_item_start before)
 
 -- the heading and list marks of a fragment, by what is before and after it
 abbrev pub headings_of : List Fragment → Fragment → List Fragment → List Mark
 headings_of before (Start Header) after = (if list_any is_header_start before then SecondHeading else Heading) ∷ []
 headings_of before (Start Section3) after = ThirdHeading ∷ []
-headings_of before (Start Section4) after = if begins_with_term_end after then [] else (Dash ∷ [])
-headings_of before (Start ItemTerm) after = if begins_with_term_end after then [] else (Dash ∷ [])
+headings_of before (Start Section4) after = if first_is is_term_end after then [] else (Dash ∷ [])
+headings_of before (Start ItemTerm) after = if first_is is_term_end after then [] else (Dash ∷ [])
 headings_of before (Start ItemBody) after =
     if (is_in_list before && not (is_after_empty_item before)) then (LongDash ∷ []) else []
 headings_of before _ after = []

@@ -6,7 +6,7 @@ use Rattle.bpaf_doc.specs.declared.buffer.Block.TheVariants as blocks
 use Rattle.bpaf_doc.specs.declared.html.markdown.Item.{Item}
 use Rattle.bpaf_doc.specs.declared.html.markdown.Item.TheVariants as items
 use Rattle.bpaf_doc.specs.Html.Fragments.{Fragment, TextStart, Shown, TextEnd, Hidden, Start, End}
-use Rattle.bpaf_doc.specs.Markdown.Page.{escaped_character}
+use Rattle.bpaf_doc.specs.Markdown.Page.{escaped_character, is_term_end}
 pub use Rattle.bpaf_doc.specs.Markdown.Exact.{starts_line, starts_paragraph, opening_marks, closing_marks}
 
 -- what the code keeps of an item: whether its dash waits for the next fragment
@@ -129,10 +129,6 @@ own_after p (TextEnd style) = text_ended p style
 own_after p Hidden = p
 own_after p (Start b) = started p b
 own_after p (End b) = ended p b
-
-abbrev pub is_term_end : Fragment → Bool
-is_term_end (End blocks.ItemTerm) = true
-is_term_end _ = false
 
 -- the text after a fragment, and after all of some
 abbrev pub marked_after : Marked → Fragment → Marked

@@ -1,5 +1,5 @@
 -- What a text is cut into: words, blanks, code lines, and the breaks between them.
-use Rattle.std.specs.Prelude.{◌≡◌, ◌≢◌, ℕ, zero, suc, ◌==◌, Bool, true, false, not, ◌&&◌, ◌||◌, IsTrue, ◌⊎◌, ⊤, List, [], ◌∷◌, ◌++◌, length, drop, take_while, nat_eq, chars, codes}
+use Rattle.std.specs.Prelude.{if◌then◌else◌, ◌≡◌, ◌≢◌, ℕ, zero, suc, ◌==◌, Bool, true, false, not, ◌&&◌, ◌||◌, IsTrue, ◌⊎◌, ⊤, List, [], ◌∷◌, ◌++◌, length, drop, take_while, nat_eq, chars, codes}
 use Rattle.std.specs.List.{starts_with, list_all, prefix_len}
 use Rattle.unicode_width.specs.Width.{str_width}
 use Rattle.bpaf_roff.specs.Bytes as byte
@@ -177,52 +177,28 @@ unfoldable pub chunks_within : ℕ → Form → List ℕ → List Chunk
 chunks_within zero form text = []
 chunks_within (suc n) form [] = []
 chunks_within (suc n) Plain (b ∷ rest) =
-    elim (b == byte.newline) [
-      | true ↦
-          elim (starts rest (codes "    ")) [
-            | true ↦ Raw (take_while is_line_byte (drop 4 rest)) code_weight
-                ∷ chunks_within n Plain (without_front is_line_byte (drop 4 rest))
-            | false ↦
-                elim (starts rest (codes "\n```")) [
-                  | true ↦ Paragraph ∷ chunks_within n Opening (drop 1 rest)
-                  | false ↦
-                      elim (starts rest (codes "\n    ")) [
-                        | true ↦ Paragraph ∷ chunks_within n Plain rest
-                        | false ↦
-                            elim (starts rest (codes "\n")) [
-                              | true ↦ Paragraph ∷ chunks_within n Plain (drop 1 rest)
-                              | false ↦
-                                  elim (starts rest (codes " ")) [
-                                    | true ↦ LineBreak ∷ chunks_within n Plain (drop 1 rest)
-                                    | false ↦ Raw (codes " ") 1 ∷ chunks_within n Plain rest
-                                  ]
-                            ]
-                      ]
-                ]
-          ]
-      | false ↦
-          elim (b == byte.blank) [
-            | true ↦ Raw (codes " ") 1 ∷ chunks_within n Plain rest
-            | false ↦
-                Raw (take_while is_word_byte (b ∷ rest)) (columns (take_while is_word_byte (b ∷ rest)))
-                ∷ chunks_within n Plain (without_front is_word_byte (b ∷ rest))
-          ]
-    ]
+    if is_word_byte b then
+    Raw (take_while is_word_byte (b ∷ rest)) (columns (take_while is_word_byte (b ∷ rest)))
+    ∷ chunks_within n Plain (without_front is_word_byte (b ∷ rest))
+    else if b == byte.blank then Raw (codes " ") 1 ∷ chunks_within n Plain rest
+    else if starts rest (codes "    ") then
+    Raw (take_while is_line_byte (drop 4 rest)) code_weight
+    ∷ chunks_within n Plain (without_front is_line_byte (drop 4 rest))
+    else if starts rest (codes "\n```") then Paragraph ∷ chunks_within n Opening (drop 1 rest)
+    else if starts rest (codes "\n    ") then Paragraph ∷ chunks_within n Plain rest
+    else if starts rest (codes "\n") then Paragraph ∷ chunks_within n Plain (drop 1 rest)
+    else if starts rest (codes " ") then LineBreak ∷ chunks_within n Plain (drop 1 rest)
+    else Raw (codes " ") 1 ∷ chunks_within n Plain rest
 chunks_within (suc n) Opening (b ∷ rest) =
     Raw (take_while is_line_byte (b ∷ rest)) fence_weight
     ∷ chunks_within n Later (drop 1 (without_front is_line_byte (b ∷ rest)))
 chunks_within (suc n) Later (b ∷ rest) =
-    elim (starts (b ∷ rest) (codes "```")) [
-      | true ↦
-          elim (starts (without_front is_line_byte (b ∷ rest)) (codes "\n\n")) [
-            | true ↦ Raw (take_while is_line_byte (b ∷ rest)) fence_weight
-                ∷ chunks_within n Plain (without_front is_line_byte (b ∷ rest))
-            | false ↦ Raw (take_while is_line_byte (b ∷ rest)) fence_weight
-                ∷ chunks_within n Plain (drop 1 (without_front is_line_byte (b ∷ rest)))
-          ]
-      | false ↦ Raw (take_while is_line_byte (b ∷ rest)) fence_weight
-          ∷ chunks_within n Later (drop 1 (without_front is_line_byte (b ∷ rest)))
-    ]
+    Raw (take_while is_line_byte (b ∷ rest)) fence_weight
+    ∷ (if not (starts (b ∷ rest) (codes "```")) then
+    chunks_within n Later (drop 1 (without_front is_line_byte (b ∷ rest)))
+    else if starts (without_front is_line_byte (b ∷ rest)) (codes "\n\n") then
+    chunks_within n Plain (without_front is_line_byte (b ∷ rest))
+    else chunks_within n Plain (drop 1 (without_front is_line_byte (b ∷ rest))))
 
 -- the chunks of a text that is read in this form
 unfoldable pub chunks_in : Form → List ℕ → List Chunk

@@ -1,14 +1,14 @@
 //! Markdown: a text that grows by one fragment after another.
 ghost use Rattle.std.specs.Prelude.{◌≡◌, ◌≤◌, ◌++◌, if◌then◌else◌, length, OnOk, IfOk, string_bytes};
 ghost use Rattle.bpaf_doc.specs.Splitter.View.{chunk_of};
-ghost use Rattle.bpaf_doc.specs.Markdown.Page.{IsMarkdownOf};
+ghost use Rattle.bpaf_doc.specs.Markdown.Page.{IsMarkdownOf, is_term_end};
 ghost use Rattle.bpaf_doc.specs.Markdown.Exact.{markdown_page};
 ghost use Rattle.bpaf_doc.specs.Html.Steps.View.{fragment_of, fragments_in, IsTaken};
 ghost use Rattle.bpaf_doc.specs.Markdown.Steps.{is_pending, is_empty};
 ghost use Rattle.bpaf_doc.specs.Markdown.Steps.{blank_text, put, with_new_line, with_blank_line, with_item};
 ghost use Rattle.bpaf_doc.specs.Markdown.Steps.{opening_marks, closing_marks, with_line, open_code, close_code};
 ghost use Rattle.bpaf_doc.specs.Markdown.Steps.{with_words, with_raw, with_chunk, text_ended, header_started};
-ghost use Rattle.bpaf_doc.specs.Markdown.Steps.{body_started, started, ended, is_term_end, marked_after};
+ghost use Rattle.bpaf_doc.specs.Markdown.Steps.{body_started, started, ended, marked_after};
 ghost use Rattle.bpaf_doc.specs.Markdown.Steps.{marked_after_all};
 
 use super::fragments::{Fragment, Fragments, Taken, fragments_of};

@@ -53,36 +53,26 @@ abbrev pub item_entries : Leaf → List Entry
 item_entries (positional m None) = []
 item_entries l = entry_of_item l ∷ []
 
--- the entries of a tree, with marks or a note of its front type; nothing without a front type
-abbrev pub adjacent_entries : Option HiTy → Tree → List Entry → List Entry
-adjacent_entries None t es = []
-adjacent_entries (Some k) t es = adjacent_start t k ∷ es ++ adjacent_stop k ∷ []
+-- what is made of a front type; nothing without one
+abbrev pub by_type : Option HiTy → (HiTy → List Entry) → List Entry
+by_type None entries = []
+by_type (Some k) entries = entries k
 
-abbrev pub group_entries : Option HiTy → (title : List Part) → List Entry → List Entry
-group_entries None d es = []
-group_entries (Some k) d es = group_start d k ∷ es ++ group_end k ∷ []
-
-abbrev pub noted_entries : Option HiTy → List Part → List Entry → List Entry
-noted_entries None d es = []
-noted_entries (Some k) d es = es ++ note d k ∷ []
-
-abbrev pub entries_with_type : Option HiTy → List Entry → List Entry
-entries_with_type None es = []
-entries_with_type (Some k) es = es
-
--- what a tree appends, where groups are allowed or not
+-- what a tree appends, where groups are allowed or not: an Adjacent, a Subsection or a Suffix gives nothing without a
+-- front type, and its marks or its note have that type
 abbrev mutual
   pub entries_of : (groups : Bool) → Tree → List Entry
   entries_of g (and_of ts) = entries_of_parts g ts
   entries_of g (or_of ts) = entries_of_parts g ts
   entries_of g (optional t) = entries_of g t
   entries_of g (required t) = entries_of g t
-  entries_of g (adjacent t) = adjacent_entries (front_type t) t (entries_of g t)
+  entries_of g (adjacent t) = by_type (front_type t) (λ k. adjacent_start t k ∷ entries_of g t ++ adjacent_stop k ∷ [])
   entries_of g (item l) = item_entries l
   entries_of g (many t) = entries_of g t
-  entries_of true (subsection t d) = group_entries (front_type t) d (entries_of false t)
-  entries_of false (subsection t d) = entries_with_type (front_type t) (entries_of false t)
-  entries_of g (suffix t d) = noted_entries (front_type t) d (entries_of g t)
+  entries_of true (subsection t d) =
+      by_type (front_type t) (λ k. group_start d k ∷ entries_of false t ++ group_end k ∷ [])
+  entries_of false (subsection t d) = by_type (front_type t) (λ k. entries_of false t)
+  entries_of g (suffix t d) = by_type (front_type t) (λ k. entries_of g t ++ note d k ∷ [])
   entries_of g skip = []
   entries_of g (custom_usage t d) = entries_of g t
   entries_of g (strict t) = entries_of g t

@@ -1,7 +1,8 @@
 -- How a list tells two items apart, which of two keys comes first, and what a key feeds a hasher.
 use Rattle.std.specs.Prelude.{◌++◌, ◌↔◌, ◌∷◌, ◌≡◌}
-use Rattle.bpaf_items.specs.Words.{ℕ, Bool, List, [], flat_map, Option, Some, None, IsTrue, nat_eq, option_eq, option_cmp, nat_cmp, on, then_cmp, eq_of_both, eq_by_cmp, slice_cmp, IsTotalOrder, Ordering, Part, Text, Start, End, same_text, same_document, document_cmp, Name, short, long, both, Leaf, any, positional, command, flag, argument}
+use Rattle.bpaf_items.specs.Words.{ℕ, Bool, List, [], flat_map, Option, Some, None, IsTrue, nat_eq, option_eq, option_cmp, nat_cmp, on, then_cmp, eq_of_both, eq_by_cmp, slice_cmp, IsTotalOrder, Ordering, Part, Text, same_text, same_document, document_cmp, Name, short, long, both, Leaf, any, positional, command, flag, argument}
 use Rattle.std.specs.Hash as fed
+use Rattle.bpaf_meta.specs.Names.{short_name}
 use Rattle.bpaf_items.specs.Listing.ItemList.{Entry, listed}
 
 -- the four classes of keys; a positional and a command share one
@@ -31,11 +32,6 @@ abbrev pub name_form_number : Name → ℕ
 name_form_number (short c) = 0
 name_form_number (long n) = 1
 name_form_number (both c n) = 2
-
-abbrev pub name_character : Name → Option ℕ
-name_character (short c) = Some c
-name_character (long n) = None
-name_character (both c n) = Some c
 
 abbrev pub name_text : Name → List ℕ
 name_text (short c) = []
@@ -74,7 +70,7 @@ key_help (argument_key n m h) = h
 
 abbrev pub same_name : Name → Name → Bool
 same_name = eq_of_both (on name_form_number nat_eq)
-    (eq_of_both (on name_character (option_eq nat_eq)) (on name_text same_text))
+    (eq_of_both (on short_name (option_eq nat_eq)) (on name_text same_text))
 
 abbrev pub same_help : Option (List Part) → Option (List Part) → Bool
 same_help = option_eq same_document
@@ -91,7 +87,7 @@ same_key = eq_of_both (on key_class nat_eq)
 -- by form, then by character, then by text
 abbrev pub name_cmp : Name → Name → Ordering
 name_cmp = then_cmp (on name_form_number nat_cmp)
-    (then_cmp (on name_character (option_cmp nat_cmp)) (on name_text (slice_cmp nat_cmp)))
+    (then_cmp (on short_name (option_cmp nat_cmp)) (on name_text (slice_cmp nat_cmp)))
 
 -- no help comes before a help
 abbrev pub help_cmp : Option (List Part) → Option (List Part) → Ordering
@@ -108,8 +104,7 @@ key_cmp = then_cmp (on key_class nat_cmp)
 
 abbrev pub part_input : Part → List (List ℕ)
 part_input (Text bytes s) = bytes ∷ []
-part_input (Start b) = []
-part_input (End b) = []
+part_input _ = []
 
 abbrev pub document_input : List Part → List (List ℕ)
 document_input = flat_map part_input

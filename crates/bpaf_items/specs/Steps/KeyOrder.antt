@@ -3,13 +3,15 @@ use Rattle.std.specs.Prelude.{◌&&◌, ◌≡◌}
 use Rattle.bpaf_items.specs.Words.{ℕ, Bool, true, List, Option, Some, None, nat_eq, refl, option_eq, option_cmp, nat_cmp, then_cmp, eq_of_both, eq_by_cmp, as_partial_cmp, bytes_decides, texts_ties, options_total, IsEquivalence, IsTotalOrder, IsPartialOrder, partial_order_from_agreeing_total, eq_by_cmp_equiv, unsigned_ties, unsigned_Decides, both_tied, first_so, second_so, Ordering, Part, same_document, same_text, document_cmp, Name, short, long, both}
 use Rattle.std.proofs.Common.{ap, sym, subst}
 use Rattle.std.proofs.lemmas.Cmp.{then_total, on_total, nat_cmp_total, nat_list_cmp_total}
+use Rattle.bpaf_roff.proofs.lemmas.Ties.{options_tied, both_orders_tied}
 use Rattle.bpaf_doc.specs.Buffer.Steps.Order.{documents_total, documents_tied}
 use Rattle.bpaf_doc.proofs.lemmas.Buffer.Equality.{equality_of_parts}
-use Rattle.bpaf_items.specs.Listing.Keys.{Key, any_key, word_key, flag_key, argument_key, name_form_number, name_character, name_text, name_cmp, same_name, same_help, key_class, key_document, key_name, key_text, key_help, key_input, key_cmp, same_key}
+use Rattle.bpaf_meta.specs.Names.{short_name}
+use Rattle.bpaf_items.specs.Listing.Keys.{Key, any_key, word_key, flag_key, argument_key, name_form_number, name_text, name_cmp, same_name, same_help, key_class, key_document, key_name, key_text, key_help, key_input, key_cmp, same_key}
 
 names_total : IsTotalOrder name_cmp
 names_total = then_total (on_total name_form_number nat_cmp_total)
-    (then_total (on_total name_character (options_total nat_cmp_total)) (on_total name_text nat_list_cmp_total))
+    (then_total (on_total short_name (options_total nat_cmp_total)) (on_total name_text nat_list_cmp_total))
 
 pub keys_total : IsTotalOrder key_cmp
 keys_total =
@@ -18,24 +20,10 @@ keys_total =
     (then_total (on_total key_name (options_total names_total))
     (then_total (on_total key_text nat_list_cmp_total) (on_total key_help (options_total documents_total)))))
 
-options_tied : {X : Type 0} (same : X → X → Bool) (order : X → X → Ordering)
-    → ((x y : X) → same x y ≡ eq_by_cmp order x y)
-    → (o p : Option X) → option_eq same o p ≡ eq_by_cmp (option_cmp order) o p
-options_tied same order tied None None = refl
-options_tied same order tied None (Some y) = refl
-options_tied same order tied (Some x) None = refl
-options_tied same order tied (Some x) (Some y) = tied x y
-
--- two tests, each tied to an order, are together tied to the first order followed by the second
-both_orders_tied : {X : Type 0} (same also : X → X → Bool) (order next : X → X → Ordering)
-    → ((x y : X) → same x y ≡ eq_by_cmp order x y) → ((x y : X) → also x y ≡ eq_by_cmp next x y)
-    → (x y : X) → eq_of_both same also x y ≡ eq_by_cmp (then_cmp order next) x y
-both_orders_tied same also order next t u x y = both_tied (same x y) (also x y) (order x y) (next x y) (t x y) (u x y)
-
 names_tied : (n m : Name) → same_name n m ≡ eq_by_cmp name_cmp n m
 names_tied =
     both_orders_tied _ _ _ _ (λ n m. unsigned_ties (name_form_number n) (name_form_number m))
-    (both_orders_tied _ _ _ _ (λ n m. options_tied nat_eq nat_cmp unsigned_ties (name_character n) (name_character m))
+    (both_orders_tied _ _ _ _ (λ n m. options_tied nat_eq nat_cmp unsigned_ties (short_name n) (short_name m))
     (λ n m. texts_ties (name_text n) (name_text m)))
 
 -- the order agrees with equality

@@ -39,33 +39,35 @@ begins_positional t = option_map_or is_positional (first_item t) false
 abbrev pub begins_named : Tree → Bool
 begins_named t = option_map_or (λ l. not (is_positional l)) (first_item t) false
 
--- the items in tree order: those of a command's own tree come right after the command
+-- the items in tree order: those of a command's own tree come right after the command; those inside a Strict only where
+-- they count
 abbrev mutual
-  pub items_of : Tree → List Leaf
-  items_of (and_of ts) = items_of_parts ts
-  items_of (or_of ts) = items_of_parts ts
-  items_of (optional t) = items_of t
-  items_of (required t) = items_of t
-  items_of (adjacent t) = items_of t
-  items_of (item l) = l ∷ items_within l
-  items_of (many t) = items_of t
-  items_of (subsection t d) = items_of t
-  items_of (suffix t d) = items_of t
-  items_of skip = []
-  items_of (custom_usage t d) = items_of t
-  items_of (strict t) = items_of t
+  pub items_in : (of_strict : Bool) → Tree → List Leaf
+  items_in s (and_of ts) = items_in_parts s ts
+  items_in s (or_of ts) = items_in_parts s ts
+  items_in s (optional t) = items_in s t
+  items_in s (required t) = items_in s t
+  items_in s (adjacent t) = items_in s t
+  items_in s (item l) = l ∷ items_within s l
+  items_in s (many t) = items_in s t
+  items_in s (subsection t d) = items_in s t
+  items_in s (suffix t d) = items_in s t
+  items_in s skip = []
+  items_in s (custom_usage t d) = items_in s t
+  items_in true (strict t) = items_in true t
+  items_in false (strict t) = []
 
-  pub items_of_parts : Trees → List Leaf
-  items_of_parts no_trees = []
-  items_of_parts (tree t ts) = items_of t ++ items_of_parts ts
+  pub items_in_parts : (of_strict : Bool) → Trees → List Leaf
+  items_in_parts s no_trees = []
+  items_in_parts s (tree t ts) = items_in s t ++ items_in_parts s ts
 
-  pub items_within : Leaf → List Leaf
-  items_within (command n c h t i) = items_of t
-  items_within l = []
+  pub items_within : (of_strict : Bool) → Leaf → List Leaf
+  items_within s (command n c h t i) = items_in s t
+  items_within s l = []
 
 -- the number that comes after a tree whose items are numbered from n on
 abbrev pub number_after : ℕ → Tree → ℕ
-number_after n t = n + length (items_of t)
+number_after n t = n + length (items_in true t)
 
 -- an item with its number
 abbrev pub Numbered : Type 0

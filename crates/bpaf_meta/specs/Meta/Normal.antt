@@ -1,7 +1,6 @@
 -- The normal form of a tree: the table of `normalized`, a row for each form of tree.
-use Rattle.std.specs.Prelude.{Bool, true, false, if◌then◌else◌}
+use Rattle.std.specs.Prelude.{Bool, true, false, if◌then◌else◌, List, [], ◌∷◌}
 use Rattle.bpaf_doc.specs.Buffer.Parts.{Part}
-use Rattle.std.specs.Prelude.{List, [], ◌∷◌}
 use Rattle.bpaf_meta.specs.Content.{Name, short, long, both, Tree, and_of, or_of, optional, required, adjacent, item, many, subsection, suffix, skip, custom_usage, strict, Trees, no_trees, tree, Leaf, command, flag, argument}
 
 -- whether a `--` is still to be shown (pull), is asked for (push), or is shown already (strip)
@@ -152,11 +151,7 @@ outer_form (required t) = t
 outer_form (or_of ts) = required (or_of ts)
 outer_form t = t
 
-abbrev pub strict_if_push : State → Tree → Tree
-strict_if_push push t = strict t
-strict_if_push s t = t
-
 -- the normal form of a tree: from the state Pull, in Strict where the state comes out as Push
 -- e.g. normalized true (and_of (two v (optional (strict FILE)))) ≡ and_of (two v (strict (optional FILE)))
 abbrev pub normalized : (usage : Bool) → Tree → Tree
-normalized u t = strict_if_push (state_out pull t) (outer_form (normal_form u pull t))
+normalized u t = guarded pull (state_out pull t) (outer_form (normal_form u pull t))

@@ -14,17 +14,15 @@ pub data Place : Type 0 where
 abbrev pub MayBeSkip : Place → Type 0
 MayBeSkip whole = ⊤
 MayBeSkip guarded = ⊤
-MayBeSkip bracketed = ⊥
-MayBeSkip among = ⊥
+MayBeSkip p = ⊥
 
 abbrev pub IsBracketed : Place → Type 0
 IsBracketed bracketed = ⊤
 IsBracketed p = ⊥
 
 abbrev pub HasTwoParts : Trees → Type 0
-HasTwoParts no_trees = ⊥
-HasTwoParts (tree t no_trees) = ⊥
 HasTwoParts (tree t (tree v ts)) = ⊤
+HasTwoParts ts = ⊥
 
 abbrev pub IsAndOr : Tree → Type 0
 IsAndOr (and_of ts) = ⊤

@@ -11,9 +11,9 @@ use Rattle.std.proofs.lemmas.Cmp.{nat_eq_equiv}
 use Rattle.std.proofs.lemmas.List.Elements.{All-head, All-tail}
 use Rattle.bpaf_doc.specs.declared.buffer.Block.TheVariants as block
 use Rattle.bpaf_doc.specs.Buffer.Parts.{Part}
-use Rattle.bpaf_doc.specs.Splitter.Chunks.{Raw, columns, is_inked, is_ordinary, is_whole_line, starts}
+use Rattle.bpaf_doc.specs.Splitter.Chunks.{Raw, columns, is_inked, is_raw, is_ordinary, is_whole_line, starts}
 use Rattle.bpaf_doc.specs.Console.Margin.{margin, greatest_margin}
-use Rattle.bpaf_doc.specs.Console.Layout.{Event, Shows, Stretch, Gap, Placed, Passed, Place, chunk_at, event_bytes, text_of, events_of, stretch_columns, stretch_lines, shown_events, is_newline, is_inked_event, is_inked_stretch, is_raw_event, is_raw_or_ref, is_ref, MayStand, AreApart, IsKept, BeginsClear, IsLayout, asks_newline, asks_blank_line, is_light, room_of, event_columns, widest, line_before, column, padding, holds_line, leads_to_place, events_since_ink}
+use Rattle.bpaf_doc.specs.Console.Layout.{Event, Shows, Stretch, Gap, Placed, Passed, Place, chunk_at, event_bytes, text_of, events_of, stretch_columns, stretch_lines, shown_events, is_newline, is_inked_stretch, is_raw_or_ref, is_ref, MayStand, AreApart, IsKept, BeginsClear, IsLayout, asks_newline, asks_blank_line, is_light, room_of, event_columns, widest, line_before, column, padding, holds_line, leads_to_place, events_since_ink, shows_chunk}
 use Rattle.bpaf_meta.proofs.lemmas.Misplaced.Among.{Among, among_left, among_right, in_map}
 use Rattle.rows.proofs.Doc.Console.{computed, words, inside}
 
@@ -50,7 +50,7 @@ module _ (more : List ℕ → List Event → List (List Stretch)) where
   at_place text event events = []
 
   abbrev passing : List ℕ → Event → List Event → List (List Stretch)
-  passing text event events = chosen (not (is_inked_event event)) (λ u. after (event_bytes event) text (λ rest. map (λ xs. Passed event ∷ xs) (more rest events)))
+  passing text event events = chosen (not (shows_chunk is_inked event)) (λ u. after (event_bytes event) text (λ rest. map (λ xs. Passed event ∷ xs) (more rest events)))
 
   abbrev at_event : List ℕ → List Event → List (List Stretch)
   at_event text [] = []
@@ -222,12 +222,12 @@ pair_after (b ∷ front) bytes h = or_right ((b == 10) && begins_with_newline (f
 
 -- a Raw chunk that is left out
 abbrev is_lost : Stretch → Bool
-is_lost (Passed event) = is_raw_event event
+is_lost (Passed event) = shows_chunk is_raw event
 is_lost x = false
 
 none_lost : (may_add : Type 0) (xs : List Stretch) → All (IsKept may_add) xs → not (list_any is_lost xs) ≡ true
 none_lost may_add [] h = refl
-none_lost may_add (Passed event ∷ xs) h = grind (arith, none_lost may_add xs, All-head (IsKept may_add) (Passed event) xs h, not-true (is_raw_event event), All-tail (IsKept may_add) (Passed event) xs h)
+none_lost may_add (Passed event ∷ xs) h = grind (arith, none_lost may_add xs, All-head (IsKept may_add) (Passed event) xs h, not-true (shows_chunk is_raw event), All-tail (IsKept may_add) (Passed event) xs h)
 none_lost may_add (x ∷ xs) h = none_lost may_add xs (All-tail (IsKept may_add) x xs h)
 
 lines_within : (n : ℕ) (lines : List (List Stretch)) → All (λ line. sum_by stretch_columns line ≤ n) lines → list_all (λ line. leb (sum_by stretch_columns line) n) lines ≡ true
@@ -260,10 +260,10 @@ module _ {document : List Part} {full : Bool} {width : ℕ} {text : List ℕ} (l
   asked = by_apart (λ before e between f. list_any asks_newline (events_of between)) (λ before e between f. list_any is_newline between) layout.asked.newline
 
   abbrev asked_blank : Law layout
-  asked_blank = by_apart (λ before e between f. list_any asks_blank_line (events_of between) && (not (list_any is_raw_event (events_of between)) && leb (columns f.bytes) width)) (λ before e between f. has_pair (text_of between))
+  asked_blank = by_apart (λ before e between f. list_any asks_blank_line (events_of between) && (not (list_any (shows_chunk is_raw) (events_of between)) && leb (columns f.bytes) width)) (λ before e between f. has_pair (text_of between))
       (λ before between e f apart t.
-      let parts = and_parts (list_any asks_blank_line (events_of between)) (not (list_any is_raw_event (events_of between)) && leb (columns f.bytes) width) t in
-      let fits = and_parts (not (list_any is_raw_event (events_of between))) (leb (columns f.bytes) width) parts.1 in
+      let parts = and_parts (list_any asks_blank_line (events_of between)) (not (list_any (shows_chunk is_raw) (events_of between)) && leb (columns f.bytes) width) t in
+      let fits = and_parts (not (list_any (shows_chunk is_raw) (events_of between))) (leb (columns f.bytes) width) parts.1 in
       let blank = layout.asked.blank_line before between e f apart parts.0 fits.0 (leb-true (columns f.bytes) width fits.1) in
       ap has_pair (blank.2 ∙ append_assoc blank.0 (codes "\n\n") blank.1) ∙ pair_after blank.0 (codes "\n\n" ++ blank.1) refl)
 

@@ -3,7 +3,9 @@ use Rattle.std.proofs.lemmas.Grind.{common_steps}
 use Rattle.std.specs.Prelude.{◌&&◌, ◌++◌, ◌-◌, ◌||◌, ◌∷◌, ◌≡◌, ◌⊎◌}
 use Rattle.bpaf_doc.proofs.lemmas.Html.Words.{ℕ, zero, suc, Bool, true, false, List, [], inl, inr, refl, sym, ap, ◌∙◌, append_assoc, append-nil, arith, reverse, flat_map, nat_eq, length, take, list_all, ends_with, reverse-append, list_all-append, and_parts, and_from, cases_Bool, eqb-false, false≢true, Decides-eqb, or-true, and-false, and-true, Block, Part, IsWellNested, Raw, Paragraph, LineBreak, is_line_byte, Fragment, TextStart, Shown, TextEnd, Hidden, Start, End, shown_fragments, escaped_character, IsHtmlPageOf, IsHtmlTextPageOf, Written, blank_page, with_heading, first_or_false, closed, page_after, page_after_all}
 use Rattle.std.proofs.lemmas.Slice.Eq.{ends_is}
-use Rattle.bpaf_doc.specs.Html.Exact.{start_tag, end_tag, opening_tags, closing_tags, open_block, is_open_list, break_text, is_empty, is_at_break, fragment_html, html_after, html_page}
+use Rattle.std.specs.Option.{option_map_or}
+use Rattle.bpaf_doc.specs.Html.Page.{is_definition_list}
+use Rattle.bpaf_doc.specs.Html.Exact.{start_tag, end_tag, opening_tags, closing_tags, open_block, break_text, is_empty, is_at_break, fragment_html, html_after, html_page}
 use Rattle.bpaf_doc.proofs.lemmas.Html.Fragments.Lines.{fragment_is_line}
 use Rattle.bpaf_doc.proofs.lemmas.Html.Meets.{shown_lines, page_meets, page_text}
 
@@ -81,7 +83,7 @@ nth (suc n) (b ∷ bs) = nth n bs
 
 -- whether a block is open, of the fragments backwards
 abbrev in_list_at : ℕ → List Fragment → Bool
-in_list_at n back = is_open_list (open_block back n)
+in_list_at n back = option_map_or is_definition_list (open_block back n) false
 
 record Agrees (before : List Fragment) (p : Written) : Type 0 where
   fresh : p.fresh ≡ is_at_break p.bytes

@@ -1,15 +1,15 @@
 -- The text that the code writes, one fragment after another, is the text as a function of the document, and this meets the laws.
 use Rattle.std.specs.Prelude.{if◌then◌else◌, ◌++◌, ◌<◌, ◌^◌, ◌∷◌, ◌≡◌}
-use Rattle.bpaf_doc.proofs.lemmas.Markdown.Words.{common_steps, ℕ, Bool, false, List, [], length, refl, sym, ap, ◌∙◌, append_assoc, append-nil, nat_lt, arith, filter, codes, list_any, reverse-append, Fragment, shown_fragments, IsMarkdownOf, is_header_start, is_in_list, is_in_mono, is_after_empty_item, Marked, blank_text, with_new_line, with_blank_line, with_item, with_raw, is_term_end, marked_after, marked_after_all}
+use Rattle.bpaf_doc.proofs.lemmas.Markdown.Words.{common_steps, ℕ, Bool, false, List, [], length, refl, sym, ap, ◌∙◌, append_assoc, append-nil, nat_lt, arith, filter, codes, list_any, reverse-append, Fragment, shown_fragments, IsMarkdownOf, is_header_start, is_in_list, is_in_mono, is_after_empty_item, Marked, blank_text, with_new_line, with_blank_line, with_item, with_raw, is_term_end, marked_after, marked_after_all, first_is, shows, is_code_line}
 use Rattle.bpaf_doc.specs.Buffer.Parts.{Part}
-use Rattle.bpaf_doc.specs.Markdown.Exact.{new_line, blank_line, indented_line, decides_code, begins_with_code_line, is_in_code, raw_markdown, item_mark, fragment_markdown, markdown_after, markdown_page}
+use Rattle.bpaf_doc.specs.Markdown.Exact.{new_line, blank_line, indented_line, decides_code, is_in_code, raw_markdown, item_mark, fragment_markdown, markdown_after, markdown_page}
 use Rattle.bpaf_doc.proofs.lemmas.Markdown.Cut.{by_weight, flags, item-flags, step-flags, code_next, item-code, step-code}
 use Rattle.bpaf_doc.proofs.lemmas.Markdown.Mind.{Agrees, Room, after_empty_is, agrees_after, rooms_next, same_mono}
 use Rattle.bpaf_doc.proofs.lemmas.Markdown.Meets.{room_for, at_start, markdown_meets}
 use Rattle.bpaf_doc.proofs.lemmas.Markdown.Runs.{marked-append}
 
 code_push : (before : List Fragment) (f : Fragment) → is_in_code (before ++ f ∷ []) ≡ code_next (is_in_code before) f
-code_push before f = ap (λ fs. begins_with_code_line (filter decides_code fs)) (reverse-append before (f ∷ [])) ∙ (grind arith)
+code_push before f = ap (λ fs. first_is (shows is_code_line) (filter decides_code fs)) (reverse-append before (f ∷ [])) ∙ (grind arith)
 
 record Looks (before : List Fragment) (p : Marked) : Type 0 where
   headed : p.headed ≡ list_any is_header_start before

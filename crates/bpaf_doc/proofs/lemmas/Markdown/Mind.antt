@@ -1,6 +1,6 @@
 -- What a markdown text keeps in mind is what looking back at the fragments before says.
 use Rattle.std.specs.Prelude.{if◌then◌else◌, ◌++◌, ◌+◌, ◌<◌, ◌^◌, ◌∷◌, ◌≡◌}
-use Rattle.bpaf_doc.proofs.lemmas.Markdown.Words.{ℕ, Bool, true, false, cond, List, [], map, refl, sym, ap, ◌∙◌, subst, arith, append_assoc, append-nil, length-append, nat_lt, filter, count_by, common_steps, list_any, after_last, suffix_len, prefix_len, reverse-append, drop-append-le, drop_all, map-append, list_any-append, filter-append, Fragment, Mark, MarkdownSnippet, is_mono_start, is_mono_end, is_header_start, is_item_start, begins_with_term_end, is_in_list, is_after_empty_item, headings_of, headed_snippets, flat_map_places_from, is_heading, Put, Of, is_mark_or_fragment, Marked, with_item, is_term_end, marked_after, marked_after_all, one_more}
+use Rattle.bpaf_doc.proofs.lemmas.Markdown.Words.{ℕ, Bool, true, false, cond, List, [], map, refl, sym, ap, ◌∙◌, subst, arith, append_assoc, append-nil, length-append, nat_lt, filter, count_by, common_steps, list_any, after_last, suffix_len, prefix_len, reverse-append, drop-append-le, drop_all, map-append, list_any-append, filter-append, Fragment, Mark, MarkdownSnippet, is_mono_start, is_mono_end, is_header_start, is_item_start, first_is, is_in_list, is_after_empty_item, headings_of, headed_snippets, flat_map_places_from, is_heading, Put, Of, is_mark_or_fragment, Marked, with_item, is_term_end, marked_after, marked_after_all, one_more}
 use Rattle.bpaf_doc.proofs.lemmas.Lists.Counting.{one_if, count_by-cons, count_by-append}
 use Rattle.bpaf_doc.proofs.lemmas.Markdown.Cut.{Flags, flags, flags_next, item-flags, step-flags, SameMono, spelled, spelled-append, step-spelled, cut_from, snippets_of, item-spelled}
 use Rattle.bpaf_doc.proofs.lemmas.Markdown.Kept.{own_heading, item_heading, step-fragments}
@@ -80,11 +80,11 @@ all-spelled before p (f ∷ fs) h room =
 -- ---- headings
 
 heading_is : (before : List Fragment) (p : Marked) (f : Fragment) (fs : List Fragment) → Agrees before (flags p)
-    → own_heading (with_item p (is_term_end f)) f ++ item_heading (flags_next (flags p) f).pending (begins_with_term_end fs) ≡ headings_of before f fs
+    → own_heading (with_item p (is_term_end f)) f ++ item_heading (flags_next (flags p) f).pending (first_is is_term_end fs) ≡ headings_of before f fs
 heading_is before p f fs h = grind (arith, item-flags, append-nil, after_empty_is)
 
 pub all-headings : (before : List Fragment) (p : Marked) (fs : List Fragment) → Agrees before (flags p) → Room before fs
-    → filter (is_mark_or_fragment is_heading) (cut_from p fs) ≡ map Put (item_heading p.pending (begins_with_term_end fs)) ++ flat_map_places_from headed_snippets before fs
+    → filter (is_mark_or_fragment is_heading) (cut_from p fs) ≡ map Put (item_heading p.pending (first_is is_term_end fs)) ++ flat_map_places_from headed_snippets before fs
 all-headings before p [] h room = grind arith ∙ sym (append-nil (map Put (item_heading p.pending false)))
 all-headings before p (f ∷ fs) h room =
     let next : Marked = marked_after p f in
@@ -94,8 +94,8 @@ all-headings before p (f ∷ fs) h room =
     filter-append (is_mark_or_fragment is_heading) (snippets_of p f) (cut_from next fs)
     ∙ ap (λ x. x ++ filter (is_mark_or_fragment is_heading) (cut_from next fs)) (grind (arith, filter-append))
     ∙ ap (λ x. (first ++ Of f ∷ map Put own) ++ x) (all-headings (before ++ f ∷ []) next fs (agrees_after before p f fs h room) (rooms_next before f fs room))
-    ∙ ap (λ s. (first ++ Of f ∷ map Put own) ++ (map Put (item_heading s.pending (begins_with_term_end fs)) ++ later)) (step-flags p f)
-    ∙ append_assoc first (Of f ∷ map Put own) (map Put (item_heading (flags_next (flags p) f).pending (begins_with_term_end fs)) ++ later)
-    ∙ ap (λ x. first ++ Of f ∷ x) (sym (append_assoc (map Put own) (map Put (item_heading (flags_next (flags p) f).pending (begins_with_term_end fs))) later))
-    ∙ ap (λ x. first ++ Of f ∷ (x ++ later)) (sym (map-append Put own (item_heading (flags_next (flags p) f).pending (begins_with_term_end fs))) ∙ ap (λ x. map Put x) (heading_is before p f fs h))
+    ∙ ap (λ s. (first ++ Of f ∷ map Put own) ++ (map Put (item_heading s.pending (first_is is_term_end fs)) ++ later)) (step-flags p f)
+    ∙ append_assoc first (Of f ∷ map Put own) (map Put (item_heading (flags_next (flags p) f).pending (first_is is_term_end fs)) ++ later)
+    ∙ ap (λ x. first ++ Of f ∷ x) (sym (append_assoc (map Put own) (map Put (item_heading (flags_next (flags p) f).pending (first_is is_term_end fs))) later))
+    ∙ ap (λ x. first ++ Of f ∷ (x ++ later)) (sym (map-append Put own (item_heading (flags_next (flags p) f).pending (first_is is_term_end fs))) ∙ ap (λ x. map Put x) (heading_is before p f fs h))
     ∙ ap (λ x. map Put (item_heading p.pending x) ++ (headed_snippets before f fs ++ later)) (sym (grind arith))

@@ -1,7 +1,7 @@
 -- The words of std and of `specs/` that lemmas of this folder cite, passed on from one place.
-pub use Rattle.bpaf_doc.specs.Html.Fragments.{End, Fragment, Hidden, Shown, Start, TextEnd, TextStart, shown_fragments, shows, visible}
-pub use Rattle.bpaf_doc.specs.Markdown.Page.{Blank, Dash, EndsInBlankLine, Fence, Heading, IsMarkdownOf, LongDash, Mark, MarkdownSnippet, Newline, SecondHeading, TextFence, ThirdHeading, begins_with_term_end, escaped_character, flat_map_places_from, fragment_text, headed_snippets, headings_of, is_after_empty_item, is_fence, is_header_start, is_heading, is_in_list, is_in_mono, is_item_start, is_mono_end, is_mono_start, is_newline, is_style_mark, is_text_end, mark_text, snippet_text, style_marks, styled_snippets, text_after, is_text_fence}
-pub use Rattle.bpaf_doc.specs.Markdown.Steps.{Marked, blank_text, close_code, is_term_end, marked_after, marked_after_all, one_more, open_code, own_after, put, starts_line, starts_paragraph, with_blank_line, with_chunk, with_item, with_line, with_new_line, with_raw, with_words}
+pub use Rattle.bpaf_doc.specs.Html.Fragments.{End, Fragment, Hidden, Shown, Start, TextEnd, TextStart, first_is, shown_fragments, shows, visible}
+pub use Rattle.bpaf_doc.specs.Markdown.Page.{Blank, Dash, EndsInBlankLine, Fence, Heading, IsMarkdownOf, LongDash, Mark, MarkdownSnippet, Newline, SecondHeading, TextFence, ThirdHeading, is_term_end, escaped_character, flat_map_places_from, fragment_text, headed_snippets, headings_of, is_after_empty_item, is_fence, is_header_start, is_heading, is_in_list, is_in_mono, is_item_start, is_mono_end, is_mono_start, is_newline, is_style_mark, is_text_end, mark_text, snippet_text, style_marks, styled_snippets, text_after, is_text_fence}
+pub use Rattle.bpaf_doc.specs.Markdown.Steps.{Marked, blank_text, close_code, marked_after, marked_after_all, one_more, open_code, own_after, put, starts_line, starts_paragraph, with_blank_line, with_chunk, with_item, with_line, with_new_line, with_raw, with_words}
 pub use Rattle.bpaf_doc.specs.Snippets.{Of, Put, Touch, fragments_in, is_mark_or_fragment}
 pub use Rattle.bpaf_doc.specs.Splitter.Chunks.{Chunk, LineBreak, Paragraph, Raw, chunks_of, code_weight, columns, fence_weight, is_code_line, is_line_break, is_ordinary, is_paragraph, is_whole_line, starts}
 pub use Rattle.bpaf_doc.specs.declared.buffer.Style.{Style}

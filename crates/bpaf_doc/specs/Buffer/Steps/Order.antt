@@ -1,11 +1,12 @@
 -- The laws of the equality and the order of documents, which their implementations cite.
-use Rattle.std.specs.Prelude.{◌&&◌, ◌==◌, ◌≡◌}
+use Rattle.std.specs.Prelude.{◌≡◌}
 use Rattle.bpaf_doc.specs.Words.{refl, List, Part, part_bytes}
-use Rattle.std.specs.Ordering.{nat_cmp, on, then_cmp, eq_by_cmp, as_partial_cmp}
-use Rattle.std.specs.Cmp.Lexicographic.{slice_cmp, lists_ties, texts_ties}
-use Rattle.std.specs.Cmp.{IsEquivalence, IsTotalOrder, IsPartialOrder, partial_order_from_agreeing_total, unsigned_ties, both_tied}
+use Rattle.std.specs.Ordering.{eq_by_cmp, as_partial_cmp}
+use Rattle.std.specs.Cmp.Lexicographic.{lists_ties, texts_ties}
+use Rattle.std.specs.Cmp.{IsEquivalence, IsTotalOrder, IsPartialOrder, partial_order_from_agreeing_total, unsigned_ties}
 use Rattle.std.proofs.lemmas.Cmp.{lists_equiv, and_equiv, on_equiv, nat_eq_equiv, nat_list_eq_equiv, lists_total, then_total, on_total, nat_cmp_total, nat_list_cmp_total}
-use Rattle.bpaf_doc.specs.Buffer.Equality.{kind_number, label_number, same_text, same_part, same_document, part_cmp, document_cmp}
+use Rattle.bpaf_roff.proofs.lemmas.Ties.{both_orders_tied}
+use Rattle.bpaf_doc.specs.Buffer.Equality.{kind_number, label_number, same_part, same_document, part_cmp, document_cmp}
 
 pub documents_equiv : IsEquivalence same_document
 documents_equiv =
@@ -18,15 +19,10 @@ documents_total =
     (then_total (on_total part_bytes nat_list_cmp_total) (on_total label_number nat_cmp_total)))
 
 part_tied : (x y : Part) → same_part x y ≡ eq_by_cmp part_cmp x y
-part_tied x y =
-    both_tied (kind_number x == kind_number y)
-    (same_text (part_bytes x) (part_bytes y) && (label_number x == label_number y))
-    (nat_cmp (kind_number x) (kind_number y))
-    (then_cmp (on part_bytes (slice_cmp nat_cmp)) (on label_number nat_cmp) x y)
-    (unsigned_ties (kind_number x) (kind_number y))
-    (both_tied (same_text (part_bytes x) (part_bytes y)) (label_number x == label_number y)
-    (slice_cmp nat_cmp (part_bytes x) (part_bytes y)) (nat_cmp (label_number x) (label_number y))
-    (texts_ties (part_bytes x) (part_bytes y)) (unsigned_ties (label_number x) (label_number y)))
+part_tied =
+    both_orders_tied _ _ _ _ (λ x y. unsigned_ties (kind_number x) (kind_number y))
+    (both_orders_tied _ _ _ _ (λ x y. texts_ties (part_bytes x) (part_bytes y))
+    (λ x y. unsigned_ties (label_number x) (label_number y)))
 
 -- the order agrees with equality
 pub documents_tied : (ps qs : List Part) → same_document ps qs ≡ eq_by_cmp document_cmp ps qs

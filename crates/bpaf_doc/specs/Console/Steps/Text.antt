@@ -1,10 +1,11 @@
 -- A console text, part by part, as the private functions leave it. This is internal: that such a text is the exact page
 -- is proved.
 use Rattle.std.specs.Prelude.{if◌then◌else◌, ◌&&◌, ◌+◌, ◌-◌, ◌==◌, ◌∷◌}
-use Rattle.bpaf_doc.specs.Words.{ℕ, Bool, true, false, List, [], Option, Some, drop, max, nat_le, nat_lt, slice_get, position_or_len, Block, Part, Text, Start, End, columns, chunks_of, not, list_any, Chunk, is_paragraph, is_inline}
+use Rattle.bpaf_doc.specs.Words.{ℕ, Bool, true, false, List, [], drop, max, nat_le, nat_lt, slice_get, position_or_len, Block, Part, Text, Start, End, opens, closes, columns, chunks_of, not, list_any, Chunk, is_paragraph, is_inline, is_term}
+use Rattle.std.specs.Option.{option_map_or}
 use Rattle.bpaf_doc.specs.declared.buffer.Block.TheVariants as blocks
 use Rattle.bpaf_doc.specs.declared.console.pairs.Pairs.{Pairs}
-use Rattle.bpaf_doc.specs.Console.Margin.{is_section4_start, is_term_start, is_term_end}
+use Rattle.bpaf_doc.specs.Console.Margin.{is_section4}
 use Rattle.bpaf_doc.specs.Console.Exact.{saturated, finished}
 use Rattle.bpaf_doc.specs.Console.Steps.Page.{Sheet, blank_sheet, text_put, opened, closed}
 
@@ -39,9 +40,9 @@ tab_stop_from widest in_term term [] = saturated (widest + 4)
 tab_stop_from widest in_term term (Text bytes style ∷ parts) =
     tab_stop_from widest in_term (if in_term then saturated (term + columns bytes) else term) parts
 tab_stop_from widest in_term term (Start b ∷ parts) =
-    if is_term_start (Start b) then tab_stop_from widest true 0 parts else tab_stop_from widest in_term term parts
+    if is_term b then tab_stop_from widest true 0 parts else tab_stop_from widest in_term term parts
 tab_stop_from widest in_term term (End b ∷ parts) =
-    if is_term_end (End b) then tab_stop_from (wider_term widest term) false term parts
+    if is_term b then tab_stop_from (wider_term widest term) false term parts
     else tab_stop_from widest in_term term parts
 
 -- ---- empty Block pairs after a Section4
@@ -50,28 +51,16 @@ abbrev pub is_block : Block → Bool
 is_block blocks.Block = true
 is_block _ = false
 
-abbrev pub is_section4_end : Option Part → Bool
-is_section4_end (Some (End blocks.Section4)) = true
-is_section4_end _ = false
-
-abbrev pub is_block_start : Option Part → Bool
-is_block_start (Some (Start blocks.Block)) = true
-is_block_start _ = false
-
-abbrev pub is_block_end : Option Part → Bool
-is_block_end (Some (End blocks.Block)) = true
-is_block_end _ = false
-
 -- the place of the first Section4 end after this place, or the number of parts
 abbrev pub section4_end : List Part → ℕ → ℕ
 section4_end document index =
-    index + 1 + position_or_len (λ part. is_section4_end (Some part)) (drop (index + 1) document)
+    index + 1 + position_or_len (closes is_section4) (drop (index + 1) document)
 
 -- a start and an end of Block come directly after this place
 abbrev pub has_empty_block : List Part → ℕ → Bool
 has_empty_block document index =
-    is_block_start (slice_get document (saturated (index + 1)))
-    && is_block_end (slice_get document (saturated (index + 2)))
+    option_map_or (opens is_block) (slice_get document (saturated (index + 1))) false
+    && option_map_or (closes is_block) (slice_get document (saturated (index + 2))) false
 
 abbrev pub no_pairs : Pairs
 no_pairs = record { end = 0; has_pair = false }
@@ -79,14 +68,14 @@ no_pairs = record { end = 0; has_pair = false }
 -- what is known of such a pair after the start of a block
 abbrev pub pairs_at : List Part → ℕ → Block → Pairs → Pairs
 pairs_at document index b p =
-    if is_section4_start (Start b) && nat_le p.end index
+    if is_section4 b && nat_le p.end index
     then record {
       end = section4_end document index;
       has_pair = has_empty_block document (section4_end document index);
     } else p
 
 abbrev pub is_adjacent : Block → Pairs → Bool
-is_adjacent b p = is_section4_start (Start b) && p.has_pair
+is_adjacent b p = is_section4 b && p.has_pair
 
 -- a mark that belongs to such a pair
 abbrev pub skips : Pairs → ℕ → Block → Bool

@@ -8,7 +8,7 @@ use Rattle.std.proofs.lemmas.Bool.{or_cases, or_left, or_right}
 use Rattle.std.proofs.lemmas.Grind.{flat_map-append}
 use Rattle.std.proofs.lemmas.List.Folds.{list_any-append}
 use Rattle.bpaf_meta.specs.Content.{Tree, and_of, or_of, optional, required, adjacent, item, many, subsection, suffix, skip, custom_usage, strict, Trees, no_trees, tree, Leaf, command}
-use Rattle.bpaf_meta.specs.Meta.Misplaced.{Numbered, Line, Scope, is_positional, first_item, items_of, items_of_parts, items_within, number_after, joined_lines, at_least_empty, lines_from, and_lines, branch_lines, scopes_within, scopes_within_parts, command_scopes, late_items, misplaced_items, IsWellPlaced, IsFirstMisplaced}
+use Rattle.bpaf_meta.specs.Meta.Misplaced.{Numbered, Line, Scope, is_positional, first_item, items_in, items_in_parts, items_within, number_after, joined_lines, at_least_empty, lines_from, and_lines, branch_lines, scopes_within, scopes_within_parts, command_scopes, late_items, misplaced_items, IsWellPlaced, IsFirstMisplaced}
 use Rattle.bpaf_meta.specs.Meta.Steps.Walk.{Check, fine, wrong, then_check, beside, walked, walked_within, walked_parts, walked_branches}
 use Rattle.bpaf_meta.proofs.lemmas.Misplaced.Among.{Among, among_left, among_right, among_cases, among_map, in_map, among_flat, in_flat, none_among, contains, all_among}
 use Rattle.bpaf_meta.proofs.lemmas.Misplaced.Late.{is_named, at_positional, late_after, after_first-later, late-append}
@@ -229,10 +229,10 @@ alone_agrees n l =
       finds = λ a. subst (λ xs. Finds ((xs ++ []) ++ []) (a || p) (if a && not p then wrong l else fine (a || p))) (sym (grind (arith, after_first-later))) (alone_finds (a && not p) n l (a || p));
     }
 
-item_agrees : (n : ℕ) (l : Leaf) (scopes : List Scope) (w : Check) → Agrees (n + 1) (length (items_within l)) ([] ∷ []) scopes (λ a. then_check w (λ b. fine a)) → Agrees n (length (l ∷ items_within l)) (((n, l) ∷ []) ∷ []) scopes (λ a. if a && not (is_positional l) then wrong l else then_check w (λ b. fine (a || is_positional l)))
+item_agrees : (n : ℕ) (l : Leaf) (scopes : List Scope) (w : Check) → Agrees (n + 1) (length (items_within true l)) ([] ∷ []) scopes (λ a. then_check w (λ b. fine a)) → Agrees n (length (l ∷ items_within true l)) (((n, l) ∷ []) ∷ []) scopes (λ a. if a && not (is_positional l) then wrong l else then_check w (λ b. fine (a || is_positional l)))
 item_agrees n l scopes w f =
     let p = is_positional l in
-    let g = joined_agree n 1 (length (items_within l)) _ (((n, l) ∷ []) ∷ []) ([] ∷ []) [] scopes (λ a. if a && not p then wrong l else fine (a || p)) (λ a. then_check w (λ b. fine a)) (omega arith) (alone_agrees n l) f in
+    let g = joined_agree n 1 (length (items_within true l)) _ (((n, l) ∷ []) ∷ []) ([] ∷ []) [] scopes (λ a. if a && not p then wrong l else fine (a || p)) (λ a. then_check w (λ b. fine a)) (omega arith) (alone_agrees n l) f in
     record {
       mark = g.mark;
       marks = g.marks;
@@ -241,12 +241,12 @@ item_agrees n l scopes w f =
     }
 
 mutual
-  agrees : (n : ℕ) (t : Tree) → Agrees n (length (items_of t)) (lines_from n t) (scopes_within n t) (walked t)
+  agrees : (n : ℕ) (t : Tree) → Agrees n (length (items_in true t)) (lines_from n t) (scopes_within n t) (walked t)
   agrees n (and_of ts) = parts_agree n ts
-  agrees n (or_of ts) = branches_agree n (length (items_of_parts ts)) (branch_lines n ts) (scopes_within_parts n ts) (walked_branches ts) (each_agrees n ts)
+  agrees n (or_of ts) = branches_agree n (length (items_in_parts true ts)) (branch_lines n ts) (scopes_within_parts n ts) (walked_branches ts) (each_agrees n ts)
   agrees n (optional t) = agrees n t
   agrees n (required t) = agrees n t
-  agrees n (adjacent t) = beside_agrees (first_item t) n (length (items_of t)) t (scopes_within n t) (walked t) (agrees n t)
+  agrees n (adjacent t) = beside_agrees (first_item t) n (length (items_in true t)) t (scopes_within n t) (walked t) (agrees n t)
   agrees n (item l) = item_agrees n l (command_scopes (n + 1) l) (walked_within l) (within_agrees (n + 1) l)
   agrees n (many t) = agrees n t
   agrees n (subsection t d) = agrees n t
@@ -255,16 +255,16 @@ mutual
   agrees n (custom_usage t d) = agrees n t
   agrees n (strict t) = agrees n t
 
-  parts_agree : (n : ℕ) (ts : Trees) → Agrees n (length (items_of_parts ts)) (and_lines n ts) (scopes_within_parts n ts) (walked_parts ts)
+  parts_agree : (n : ℕ) (ts : Trees) → Agrees n (length (items_in_parts true ts)) (and_lines n ts) (scopes_within_parts n ts) (walked_parts ts)
   parts_agree n no_trees = nothing_agrees n 0
-  parts_agree n (tree t ts) = joined_agree n _ _ _ _ _ _ _ (walked t) (walked_parts ts) (length-append (items_of t) (items_of_parts ts)) (agrees n t) (parts_agree (number_after n t) ts)
+  parts_agree n (tree t ts) = joined_agree n _ _ _ _ _ _ _ (walked t) (walked_parts ts) (length-append (items_in true t) (items_in_parts true ts)) (agrees n t) (parts_agree (number_after n t) ts)
 
-  each_agrees : (n : ℕ) (ts : Trees) → BranchesAgree n (length (items_of_parts ts)) (branch_lines n ts) (scopes_within_parts n ts) (walked_branches ts)
+  each_agrees : (n : ℕ) (ts : Trees) → BranchesAgree n (length (items_in_parts true ts)) (branch_lines n ts) (scopes_within_parts n ts) (walked_branches ts)
   each_agrees n no_trees = record { mark = false; marks = line_marks [] false refl; numbers = λ a x h. absurd h; finds = λ a seen h. (sym (or-false seen), λ x k. k) }
-  each_agrees n (tree t ts) = branch_agrees n _ _ _ _ _ _ _ (walked t) (walked_branches ts) (length-append (items_of t) (items_of_parts ts)) (agrees n t) (each_agrees (number_after n t) ts)
+  each_agrees n (tree t ts) = branch_agrees n _ _ _ _ _ _ _ (walked t) (walked_branches ts) (length-append (items_in true t) (items_in_parts true ts)) (agrees n t) (each_agrees (number_after n t) ts)
 
-  within_agrees : (n : ℕ) (l : Leaf) → Agrees n (length (items_within l)) ([] ∷ []) (command_scopes n l) (λ a. then_check (walked_within l) (λ b. fine a))
-  within_agrees n (command c s h t i) = scope_agrees n (length (items_of t)) t (scopes_within n t) (walked t) (agrees n t)
+  within_agrees : (n : ℕ) (l : Leaf) → Agrees n (length (items_within true l)) ([] ∷ []) (command_scopes n l) (λ a. then_check (walked_within l) (λ b. fine a))
+  within_agrees n (command c s h t i) = scope_agrees n (length (items_in true t)) t (scopes_within n t) (walked t) (agrees n t)
   within_agrees n l = nothing_agrees n 0
 
 -- the whole tree

@@ -3,7 +3,7 @@ use Rattle.std.proofs.Common.{◌≡◌, Bool, true, false, ◌&&◌, List, [], 
 use Rattle.std.proofs.lemmas.List.{append-nil}
 use Rattle.std.specs.Prelude.{if◌then◌else◌}
 use Rattle.bpaf_meta.specs.Content.{Tree, and_of, or_of, optional, required, adjacent, item, many, subsection, suffix, skip, custom_usage, strict, Trees, no_trees, tree, Leaf}
-use Rattle.bpaf_meta.specs.Meta.Normal.{State, pull, shown_trees, and_form, is_command_tree, without_commands, with_first_command, optional_many_form, optional_form, many_form, item_form, guarded, state_after, state_out, normal_form, and_parts, or_parts, outer_form, strict_if_push, normalized}
+use Rattle.bpaf_meta.specs.Meta.Normal.{State, pull, shown_trees, and_form, is_command_tree, without_commands, with_first_command, optional_many_form, optional_form, many_form, item_form, guarded, state_after, state_out, normal_form, and_parts, or_parts, outer_form, normalized}
 use Rattle.bpaf_meta.specs.Meta.Sequences.{Symbol, the_command, symbol_of, Language, NoSequence, Only, Maybe, Either, Joined, Repeated, once, again, choice, is_hidden, are_hidden, Shows, ShowsEach, ShowsOne, Same, ShowsSame}
 
 -- languages
@@ -190,7 +190,7 @@ mutual
       let g : State = state_out s t in
       part_alike u (guarded f g (normal_form u s t)) t (or_parts u s (state_after f g) ts) ts (grind (arith, normal_alike u s t)) (or_parts_alike u s (state_after f (state_out s t)) ts)
 
-strict_alike : (u : Bool) (s : State) (t v : Tree) → TreesAlike u t v → TreesAlike u (strict_if_push s t) v
+strict_alike : (u : Bool) (s : State) (t v : Tree) → TreesAlike u t v → TreesAlike u (guarded pull s t) v
 strict_alike u s t v h4 = grind arith
 
 -- the normal form shows what the tree shows

@@ -1,7 +1,7 @@
 -- The normal form adds no `--` and loses none.
 use Rattle.std.proofs.Common.{Bool, true, false, ◌⊎◌, inl, inr, refl, arith, IsTrue}
 use Rattle.bpaf_meta.specs.Content.{Tree, and_of, or_of, optional, required, adjacent, item, many, subsection, suffix, skip, custom_usage, strict, Trees, no_trees, tree}
-use Rattle.bpaf_meta.specs.Meta.Normal.{State, pull, push, strip, shown_trees, or_form, with_first_command, optional_form, required_form, many_form, guarded, state_after, state_out, normal_form, and_parts, or_parts, or_state, outer_form, strict_if_push, normalized}
+use Rattle.bpaf_meta.specs.Meta.Normal.{State, pull, push, strip, shown_trees, or_form, with_first_command, optional_form, required_form, many_form, guarded, state_after, state_out, normal_form, and_parts, or_parts, or_state, outer_form, normalized}
 use Rattle.bpaf_meta.specs.Meta.Shape.{HasStrict, SomeHasStrict, HasCustomUsage, SomeHasCustomUsage, KeepsStrict}
 use Rattle.bpaf_meta.proofs.lemmas.Normal.Plain.{and_form_strict, or_form_strict, shown_strict, first_strict, optional_strict, required_strict, many_strict, usage_strict, outer_strict}
 
@@ -99,13 +99,13 @@ mutual
 
 -- the last step
 
-outer_comes : (s : State) (t n : Tree) → (HasStrict n → HasStrict t) → (IsPush s → HasStrict t) → HasStrict (strict_if_push s n) → HasStrict t
+outer_comes : (s : State) (t n : Tree) → (HasStrict n → HasStrict t) → (IsPush s → HasStrict t) → HasStrict (guarded pull s n) → HasStrict t
 outer_comes s t n h3 h4 h5 = grind arith
 
-last_keeps : (s : State) (n : Tree) → HasStrict n ⊎ IsPush s → HasStrict (strict_if_push s n)
+last_keeps : (s : State) (n : Tree) → HasStrict n ⊎ IsPush s → HasStrict (guarded pull s n)
 last_keeps s n h2 = grind arith
 
-given_stays : (s : State) (t n : Tree) → (HasStrict t → HasStrict n ⊎ IsPush s) → HasStrict t → HasStrict (strict_if_push s (outer_form n))
+given_stays : (s : State) (t n : Tree) → (HasStrict t → HasStrict n ⊎ IsPush s) → HasStrict t → HasStrict (guarded pull s (outer_form n))
 given_stays s t n f x = last_keeps s (outer_form n) (elim (f x) [ inl y ↦ inl ((outer_strict n).1 y) | inr y ↦ inr y ])
 
 -- no `--` is added; none is lost outside usage, nor in usage without a CustomUsage

@@ -1,7 +1,7 @@
 -- The normal form has the usage shape.
 use Rattle.std.proofs.Common.{Bool, arith}
 use Rattle.bpaf_meta.specs.Content.{Tree, and_of, or_of, optional, required, adjacent, item, many, subsection, suffix, skip, custom_usage, strict, Trees, no_trees, tree}
-use Rattle.bpaf_meta.specs.Meta.Normal.{State, pull, shown_trees, and_form, with_first_command, guarded as guarded_part, state_after, state_out, normal_form, and_parts, or_parts, outer_form, strict_if_push, normalized}
+use Rattle.bpaf_meta.specs.Meta.Normal.{State, pull, shown_trees, and_form, with_first_command, guarded as guarded_part, state_after, state_out, normal_form, and_parts, or_parts, outer_form, normalized}
 use Rattle.bpaf_meta.specs.Meta.Shape.{whole, guarded, among, HasShapeAt, EachHasShape, HasUsageShape}
 use Rattle.bpaf_meta.proofs.lemmas.Normal.Parts.{first_each}
 
@@ -60,7 +60,7 @@ guarded_whole : (u : Bool) (t : Tree) → HasShapeAt u guarded t → HasShapeAt 
 guarded_whole u (or_of ts) h = absurd h.0
 guarded_whole u t h = h
 
-strict_shape : (u : Bool) (s : State) (t : Tree) → HasShapeAt u guarded t → HasShapeAt u guarded (strict_if_push s t)
+strict_shape : (u : Bool) (s : State) (t : Tree) → HasShapeAt u guarded t → HasShapeAt u guarded (guarded_part pull s t)
 strict_shape u s t h3 = grind arith
 
 -- the normal form has the usage shape

@@ -9,7 +9,7 @@ use Rattle.bpaf_doc.specs.Buffer.Parts.{Part, IsWellNested, nothing}
 use Rattle.bpaf_doc.specs.Buffer.Writes.{Write, text, plain, literal, with_writes, doc_writes, inside}
 use Rattle.bpaf_doc.proofs.lemmas.Buffer.Nesting.{IsWellNested-with_text, IsWellNested-in_block, IsWellNested-inside}
 use Rattle.bpaf_meta.specs.Content.{Name, Tree, and_of, or_of, optional, required, adjacent, item, many, subsection, suffix, skip, custom_usage, strict, Trees, no_trees, tree, Leaf, any, positional, command, flag, argument}
-use Rattle.bpaf_meta.specs.Meta.Normal.{State, pull, shown_trees, with_first_command, item_form, guarded, state_after, state_out, normal_form, and_parts, or_parts, outer_form, strict_if_push, normalized}
+use Rattle.bpaf_meta.specs.Meta.Normal.{State, pull, shown_trees, with_first_command, item_form, guarded, state_after, state_out, normal_form, and_parts, or_parts, outer_form, normalized}
 use Rattle.bpaf_meta.specs.Usage.Nested.{HoldsDoc, HoldsDocs, EachHoldsDocs, HasNestedDoc, HasNestedDocs}
 use Rattle.bpaf_meta.specs.Usage.Writes.{is_bare_character, metavar_writes, name_writes, item_writes, separated, tree_writes, part_writes}
 use Rattle.bpaf_meta.proofs.lemmas.Normal.Parts.{first_each}
@@ -53,7 +53,7 @@ module _ (D : List Part → Type 0) where
     or_hold u s f no_trees h = tt
     or_hold u s f (tree t ts) h = (guarded_hold f (state_out s t) (normal_form u s t) (normal_hold u s t h.0), or_hold u s (state_after f (state_out s t)) ts h.1)
 
-  last_hold : (s : State) (t : Tree) → HoldsDocs D t → HoldsDocs D (strict_if_push s t)
+  last_hold : (s : State) (t : Tree) → HoldsDocs D t → HoldsDocs D (guarded pull s t)
   last_hold s t h2 = grind arith
 
   pub normalized_hold : (u : Bool) (t : Tree) → HoldsDocs D t → HoldsDocs D (normalized u t)

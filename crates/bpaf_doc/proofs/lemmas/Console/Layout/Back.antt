@@ -1,6 +1,6 @@
 -- Facts that hold of each place of a page, and what keeps them; the column and the text of a page as it grows.
 use Rattle.std.specs.Prelude.{IsTrue, ◌≡◌, ℕ, zero, suc, ◌+◌, ◌<◌, ◌≤◌, ⊤, Bool, true, false, List, [], ◌∷◌, ◌++◌, codes, refl, if◌then◌else◌, not, ◌&&◌, ◌||◌, ◌==◌, length, filter, chars, ◌⊎◌}
-use Rattle.bpaf_doc.proofs.lemmas.Console.Words.{arith, sym, subst, ◌∙◌, rules, inl, inr, Chunk, Paragraph, LineBreak, columns, is_inked, has_some, Raw, is_ordinary, code_weight, fence_weight, Block, Event, Shows, Opens, Closes, is_silent_block, Stretch, Gap, Placed, Passed, Place, chunk_at, event_bytes, stretch_columns, is_newline, is_inked_event, is_inked_stretch, is_placed, is_written, is_not_whitespace, cases_lt, length-le-encodes, nat_tests, ink, list_any}
+use Rattle.bpaf_doc.proofs.lemmas.Console.Words.{arith, sym, subst, ◌∙◌, rules, inl, inr, Chunk, Paragraph, LineBreak, columns, is_inked, has_some, Raw, is_ordinary, code_weight, fence_weight, Block, Event, Shows, Opens, Closes, is_silent_block, Stretch, Gap, Placed, Passed, Place, chunk_at, event_bytes, stretch_columns, is_newline, is_inked_stretch, is_placed, is_written, is_not_whitespace, cases_lt, length-le-encodes, nat_tests, ink, list_any, shows_chunk}
 use Rattle.bpaf_doc.proofs.lemmas.Console.Layout.State.{State, Piece, Lines, Pads, Begins, places, drops, Next, raw, break, mark, Grows, placing, breaking, passing, padded, trimmed, cut, Fits, Suits, on_new_line, sat, put, dropped, wrapped, broken, passed, has_text, ends_line, IsClear}
 use Rattle.std.specs.Str.{trim_end, drop_trailing_whitespace, chars}
 use Rattle.unicode_width.specs.Width.{str_width}
@@ -200,12 +200,12 @@ EachPassed Q (Placed f ∷ r) = EachPassed Q r
 EachPassed Q (Passed event ∷ r) = Q event × EachPassed Q r
 
 abbrev pub NoInk : Event → Type 0
-NoInk event = is_inked_event event ≡ false
+NoInk event = shows_chunk is_inked event ≡ false
 
 pub no_ink_trimmed : (r : List Stretch) → EachPassed NoInk r → EachPassed NoInk (trimmed r)
 no_ink_trimmed = by_trimmed (λ r t. EachPassed NoInk r → EachPassed NoInk t) (λ h. h) (λ b r t ih h. ih h) (λ e r i h. h) (λ e r t i ih h. (i, ih h)) (λ event r i h. h) (λ event r t i ih h. (h.0, ih h.1))
 
-pub blank_ink : (k weight : ℕ) → is_inked_event (Shows k (Raw (codes " ") weight)) ≡ false
+pub blank_ink : (k weight : ℕ) → shows_chunk is_inked (Shows k (Raw (codes " ") weight)) ≡ false
 unfolding chars
 blank_ink k weight = refl
 
@@ -214,8 +214,8 @@ pub no_ink_grows : {width : ℕ} {margin_of : ℕ → ℕ} {st after : State} {n
 no_ink_grows suits g h =
     by_grows (λ s. EachPassed NoInk s.back) g (λ p base n e b d. by_padded (EachPassed NoInk) (λ x y. y) n base.back (begins_back (EachPassed NoInk) (λ r x. x) no_ink_trimmed b h))
     (λ p mid e l w b. ((rw b (blank_ink p.part p.weight)), no_ink_trimmed mid.back (lines_back (EachPassed NoInk) (λ r x. x) l h)))
-    (λ k chunk e. (by_break (λ c j. is_inked_event (Shows j c) ≡ false) suits e (λ j l m. refl) (λ j l m. refl), h))
-    (λ event margin e. (by_mark (λ x m. is_inked_event x ≡ false) suits e (λ b m l u. refl) (λ b m l u. refl), h))
+    (λ k chunk e. (by_break (λ c j. shows_chunk is_inked (Shows j c) ≡ false) suits e (λ j l m. refl) (λ j l m. refl), h))
+    (λ event margin e. (by_mark (λ x m. shows_chunk is_inked x ≡ false) suits e (λ b m l u. refl) (λ b m l u. refl), h))
 
 pub ink_text : (r : List Stretch) → EachPlace Fills r → EachPassed NoInk r → list_any is_inked_stretch r ≡ true → has_text r ≡ true
 ink_text [] f q h = absurd cc

@@ -1,6 +1,6 @@
 -- A blank line stands where one is asked for.
 use Rattle.std.specs.Prelude.{if◌then◌else◌, ◌&&◌, ◌++◌, ◌==◌, ◌||◌, ◌∷◌, ◌≡◌, ◌≤◌}
-use Rattle.bpaf_doc.proofs.lemmas.Console.Words.{list_any, sym, subst, ap, arith, ◌∙◌, append_assoc, ℕ, zero, suc, Bool, true, false, List, [], reverse, codes, refl, reverse-append, append-nil, flat_map-append, common_steps, and_parts, eqb-true, or_cases, columns, is_inked, has_some, Event, Stretch, Gap, Placed, Passed, Place, chunk_at, event_bytes, stretch_bytes, asks_blank_line, is_raw_event, text_of, HasBlankLine, is_inked_stretch, asks_newline, BlankLine}
+use Rattle.bpaf_doc.proofs.lemmas.Console.Words.{list_any, sym, subst, ap, arith, ◌∙◌, append_assoc, ℕ, zero, suc, Bool, true, false, List, [], reverse, codes, refl, reverse-append, append-nil, flat_map-append, common_steps, and_parts, eqb-true, or_cases, columns, is_inked, has_some, Event, Stretch, Gap, Placed, Passed, Place, chunk_at, event_bytes, stretch_bytes, asks_blank_line, text_of, HasBlankLine, is_inked_stretch, asks_newline, BlankLine, shows_chunk, is_raw}
 use Rattle.bpaf_doc.proofs.lemmas.Console.Layout.State.{State, Piece, Lines, Pads, Begins, first, stays, wraps, Next, raw, Grows, padded, trimmed, ends_line, ends_blank, passed, Suits, is_nothing}
 use Rattle.bpaf_doc.proofs.lemmas.Console.Layout.Back.{each_back, by_cases, EachPlace, each_grows, place_of, lines_back, by_trimmed, same_padded, by_break, by_grows, Fills, inked_some, no_bytes, EachPassed, NoInk, ink_text, or_true_right, or_false_left, or_false_right, each_begins, fills_cut}
 use Rattle.bpaf_doc.proofs.lemmas.Console.Layout.Split.{events_back, Cut, cut_padded, ink_at, inked_line, After}
@@ -67,14 +67,14 @@ abbrev pub last_raw_inked : List Stretch → Bool
 last_raw_inked [] = false
 last_raw_inked (Gap b ∷ r) = last_raw_inked r
 last_raw_inked (Placed e ∷ r) = is_inked (chunk_at e)
-last_raw_inked (Passed event ∷ r) = if is_raw_event event then false else last_raw_inked r
+last_raw_inked (Passed event ∷ r) = if shows_chunk is_raw event then false else last_raw_inked r
 
 -- a blank line is asked for since it
 abbrev pub owes_blank : List Stretch → Bool
 owes_blank [] = false
 owes_blank (Gap b ∷ r) = owes_blank r
 owes_blank (Placed e ∷ r) = false
-owes_blank (Passed event ∷ r) = if is_raw_event event then false else ((asks_blank_line event && last_raw_inked r) || owes_blank r)
+owes_blank (Passed event ∷ r) = if shows_chunk is_raw event then false else ((asks_blank_line event && last_raw_inked r) || owes_blank r)
 
 abbrev pub IsAskedBlank : State → Type 0
 IsAskedBlank st = owes_blank st.back ≡ true → st.asked ≡ BlankLine
@@ -121,7 +121,7 @@ EndsLine m = (front : List ℕ) × (text_back m ≡ front ++ codes "\n")
 
 -- no Raw chunk stands there
 abbrev pub HasNoRaw : List Stretch → Type 0
-HasNoRaw m = list_any is_raw_event (events_back m) ≡ false
+HasNoRaw m = list_any (shows_chunk is_raw) (events_back m) ≡ false
 
 line_between : (m : List Stretch) (e : Place) (before : List Stretch) → HasNoRaw m → has_some e.shown ≡ true → ends_line (m ++ Placed e ∷ before) ≡ true → EndsLine m
 line_between [] e before none some h = let no : false ≡ true = rw some at h in absurd cc
@@ -183,7 +183,7 @@ module _ (width : ℕ) where
     core : (p : Piece) (base : State) (n : ℕ) → next ≡ raw p → Begins width st p base → Pads base n → HasBlankBefore (padded n base.back) (place_of p)
     core p base n is b d = λ m before e there i none asks fits.
         let cut_there : After (padded n) base.back m e before = cut_padded n base.back m e before there in
-        let bare : HasNoRaw cut_there.rest = subst (λ es. list_any is_raw_event es ≡ false) (same_padded events_back (λ x. refl) n cut_there.rest) (subst HasNoRaw cut_there.is none) in
+        let bare : HasNoRaw cut_there.rest = subst (λ es. list_any (shows_chunk is_raw) es ≡ false) (same_padded events_back (λ x. refl) n cut_there.rest) (subst HasNoRaw cut_there.is none) in
         let asked : list_any asks_blank_line (events_back cut_there.rest) ≡ true = subst (λ es. list_any asks_blank_line es ≡ true) (ap events_back cut_there.is ∙ same_padded events_back (λ x. refl) n cut_there.rest) asks in
         let owed : owes_blank base.back ≡ true = subst (λ x. owes_blank x ≡ true) (sym cut_there.there) (owes_between cut_there.rest e before bare i asked) in
         let ends : ends_blank base.back ≡ true = blank_begins f q h z b fits cut_there.rest before e cut_there.there i owed in

@@ -1,6 +1,6 @@
 -- Between neighbouring inked chunks of one line nothing is cut or left out, and within one text nothing is added.
 use Rattle.std.specs.Prelude.{◌<◌, ◌||◌, ◌∷◌, ◌≡◌, ◌≢◌, ◌≤◌, ◌⊎◌}
-use Rattle.bpaf_doc.proofs.lemmas.Console.Words.{ℕ, zero, suc, ⊤, true, false, List, [], refl, list_any, sym, subst, arith, inl, inr, Raw, is_inked, Shows, Stretch, Gap, Placed, Passed, Place, chunk_at, is_inked_stretch, is_inked_event, is_raw_event}
+use Rattle.bpaf_doc.proofs.lemmas.Console.Words.{ℕ, zero, suc, ⊤, true, false, List, [], refl, list_any, sym, subst, arith, inl, inr, Raw, is_inked, Shows, Stretch, Gap, Placed, Passed, Place, chunk_at, is_inked_stretch, shows_chunk, is_raw}
 use Rattle.bpaf_doc.proofs.lemmas.Console.Layout.State.{State, Piece, Lines, Pads, Begins, first, stays, wraps, places, drops, Next, raw, Grows, placing, breaking, passing, padded, trimmed, put, Suits}
 use Rattle.bpaf_doc.proofs.lemmas.Console.Layout.Back.{each_back, by_cases, EachPlace, each_grows, each_begins, each_trimmed, place_of, fits_of, by_lines, by_padded, same_padded, by_mark, by_break, by_grows, or_false_right, begins_margin, blank_ink, lines_back}
 use Rattle.bpaf_doc.proofs.lemmas.Console.Layout.Split.{Cut, FirstOrLater, here, later, cut_cons, cut_gap, cut_passed, cut_padded, has_newline, inked_line, inked_since, After}
@@ -40,7 +40,7 @@ settled_grows small g h = grind (arith, by_grows, begins_margin)
 
 pub unsettled_grows : {width : ℕ} {st after : State} {next : Next} → Grows width st next after → IsUnsettled st → IsUnsettled after
 unsettled_grows g h = by_grows IsUnsettled g (λ p base n e b d o. absurd cc)
-    (λ p mid e l w b o. let plain : is_inked_event (Shows p.part (Raw p.bytes p.weight)) ≡ false = rw b (blank_ink p.part p.weight) in inl (rw plain refl))
+    (λ p mid e l w b o. let plain : shows_chunk is_inked (Shows p.part (Raw p.bytes p.weight)) ≡ false = rw b (blank_ink p.part p.weight) in inl (rw plain refl))
     (λ k chunk e o. inl refl) (λ event margin e o. inr refl)
 
 -- ---- what stands since the last inked chunk of the line
@@ -50,7 +50,7 @@ abbrev pub AllKept : Type 0 → List Stretch → Type 0
 AllKept may_add [] = ⊤
 AllKept may_add (Gap b ∷ m) = may_add × AllKept may_add m
 AllKept may_add (Placed e ∷ m) = (e.shown ≡ e.bytes) × AllKept may_add m
-AllKept may_add (Passed event ∷ m) = (is_raw_event event ≡ false) × AllKept may_add m
+AllKept may_add (Passed event ∷ m) = (shows_chunk is_raw event ≡ false) × AllKept may_add m
 
 kept_weaker : {A B : Type 0} → (A → B) → (m : List Stretch) → AllKept A m → AllKept B m
 kept_weaker f [] h = h
@@ -148,7 +148,7 @@ kept_since_grows suits s u o (placing p e (drops t mid l w b a)) h = subst IsKep
 kept_since_grows {st = st} suits s u o (breaking k chunk e a) h =
     subst IsKeptSince (sym a) (λ m before f there. absurd (no_neighbour (Passed (Shows k chunk) ∷ st.back) m f before there))
 kept_since_grows {st = st} suits s u o (passing event margin e a) h =
-    subst IsKeptSince (sym a) (grind (arith, cut_passed event st.back, or_false_right, (by_mark (λ x m. is_raw_event x ≡ false) suits e (λ b m l v. refl) (λ b m l v. refl))))
+    subst IsKeptSince (sym a) (grind (arith, cut_passed event st.back, or_false_right, (by_mark (λ x m. shows_chunk is_raw x ≡ false) suits e (λ b m l v. refl) (λ b m l v. refl))))
 
 -- ---- the law
 

@@ -1,6 +1,6 @@
 -- The rule of what asks for no newline: a line is broken between neighbouring inked chunks only where the second has no room in it.
 use Rattle.std.specs.Prelude.{if◌then◌else◌, ◌&&◌, ◌++◌, ◌+◌, ◌<◌, ◌∷◌, ◌≡◌, ◌≤◌, ◌⊎◌}
-use Rattle.bpaf_doc.proofs.lemmas.Console.Words.{ℕ, ⊤, Bool, true, false, not, List, [], refl, list_any, list_all, sym, subst, arith, ◌∙◌, is_inked, Event, Shows, Opens, Closes, Stretch, Placed, Place, is_inked_event, is_inked_stretch, asks_newline, room_of}
+use Rattle.bpaf_doc.proofs.lemmas.Console.Words.{ℕ, ⊤, Bool, true, false, not, List, [], refl, list_any, list_all, sym, subst, arith, ◌∙◌, is_inked, Event, Shows, Opens, Closes, Stretch, Placed, Place, is_inked_stretch, asks_newline, room_of, shows_chunk}
 use Rattle.bpaf_doc.proofs.lemmas.Console.Layout.State.{State, Pads, Piece, Begins, Next, raw, Grows, padded, Suits}
 use Rattle.bpaf_doc.proofs.lemmas.Console.Layout.Back.{EachPlace, each_grows, place_of, fits_of, same_padded, by_mark, by_break, heavy, or_false_left, or_false_right}
 use Rattle.bpaf_doc.proofs.lemmas.Console.Layout.Split.{events_back, events_begins, events_grows}
@@ -58,7 +58,7 @@ part_later strict k (s ∷ m) before e h t = grind (arith, part_later strict k m
 
 -- no ink, and no newline asked for
 abbrev pub is_idle : Event → Bool
-is_idle event = not (is_inked_event event) && not (asks_newline event)
+is_idle event = not (shows_chunk is_inked event) && not (asks_newline event)
 
 -- a mark may bring another margin with it
 abbrev pub allowance : ℕ → List Event → ℕ

@@ -1,6 +1,6 @@
 -- A page that grows by the rules is a layout of its document.
 use Rattle.std.specs.Prelude.{if◌then◌else◌, ◌++◌, ◌+◌, ◌<◌, ◌==◌, ◌∷◌, ◌≡◌, ◌≢◌, ◌≤◌, ◌⊎◌}
-use Rattle.bpaf_doc.proofs.lemmas.Console.Words.{common_steps, list_any, list_all, after_last, rules, sym, subst, ap, arith, inl, inr, ◌∙◌, append_assoc, reverse-append, reverse-reverse, append-nil, All-append, All-cons, All-nil, sum_by-cons, list_any-append, nat_tests, not-true, or_parts, not-false, eqb-true, and_parts, Part, ink, columns, is_inked, has_some, starts, console_ink, margin, greatest_margin, Event, Shows, Stretch, Gap, Placed, Passed, Place, AreApart, chunk_at, event_bytes, event_columns, stretch_columns, text_of, events_of, shown_events, is_newline, is_placed, holds_line, leads_to_place, is_inked_stretch, is_empty_code, is_written, is_raw_event, is_ref, asks_newline, asks_blank_line, is_light, is_light_mark, opens_body, column, padding, line_before, stretch_lines, MayStand, BreaksWhereAsked, KeepsBlanks, IsKept, BeginsClear, IsFirstInLine, events_since_ink, is_raw_or_ref, FollowsBlank, KeepsMargin, WrapsOnlyIfNeeded, IsBounded, FitsWidth, PadsToMargin, StandsAlone, room_of, BreaksForRoom, HasBlankLine, widest, IsLayout, ℕ, suc, max, ⊤, Bool, true, false, not, List, [], take, reverse, map, fold, sum_by, All, codes, refl, IsTrue}
+use Rattle.bpaf_doc.proofs.lemmas.Console.Words.{common_steps, list_any, list_all, after_last, rules, sym, subst, ap, arith, inl, inr, ◌∙◌, append_assoc, reverse-append, reverse-reverse, append-nil, All-append, All-cons, All-nil, sum_by-cons, list_any-append, nat_tests, not-true, or_parts, not-false, eqb-true, and_parts, Part, ink, columns, is_inked, has_some, starts, console_ink, margin, greatest_margin, Event, Shows, Stretch, Gap, Placed, Passed, Place, AreApart, chunk_at, event_bytes, event_columns, stretch_columns, text_of, events_of, shown_events, is_newline, is_placed, holds_line, leads_to_place, is_inked_stretch, is_empty_code, is_written, is_ref, asks_newline, asks_blank_line, is_light, is_light_mark, opens_body, column, padding, line_before, stretch_lines, MayStand, BreaksWhereAsked, KeepsBlanks, IsKept, BeginsClear, IsFirstInLine, events_since_ink, is_raw_or_ref, FollowsBlank, KeepsMargin, WrapsOnlyIfNeeded, IsBounded, FitsWidth, PadsToMargin, StandsAlone, room_of, BreaksForRoom, HasBlankLine, widest, IsLayout, ℕ, suc, max, ⊤, Bool, true, false, not, List, [], take, reverse, map, fold, sum_by, All, codes, refl, IsTrue, shows_chunk, is_raw}
 use Rattle.bpaf_doc.proofs.lemmas.Console.Margins.{more_than}
 use Rattle.bpaf_doc.proofs.lemmas.Console.Layout.State.{State, has_text, IsShallow, Next, Grows, Suits, IsClear, blank_page, Written, nothing, more, Ends, as_is, with_newline, broken}
 use Rattle.bpaf_doc.proofs.lemmas.Console.Layout.Back.{each_back, by_cases, EachPlace, by_grows, Fills, fills_grows, Agrees, agrees_grows, column_back, EachPassed, NoInk, no_ink_grows, IsStarting, starting_grows, next_event, text_stays, text_written, begins_margin, lines_margin, by_mark}
@@ -256,7 +256,7 @@ module _ (width : ℕ) (document : List Part) (st : State) (final : List Stretch
         (law_at IsFreeOfDebt base.debt before between h.after e f h.order) h.first_inked (events_any asks_newline between ∙ asks);
     blank_line = λ before between e f h asks none fits.
         let line : HasBlankLine (text_back (reverse between)) = law_at (HasBlankBefore width) base.blank before between h.after e f h.order (reverse between) (reverse before) e refl h.first_inked
-        (events_any is_raw_event between ∙ not-true (list_any is_raw_event (events_of between)) none) (events_any asks_blank_line between ∙ asks) fits in
+        (events_any (shows_chunk is_raw) between ∙ not-true (list_any (shows_chunk is_raw) (events_of between)) none) (events_any asks_blank_line between ∙ asks) fits in
         subst (λ ys. HasBlankLine (text_of ys)) (reverse-reverse between) line;
   }
 
