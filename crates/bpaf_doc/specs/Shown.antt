@@ -2,8 +2,8 @@
 use Rattle.std.specs.Prelude.{ℕ, ◌+◌, Bool, true, false, ◌&&◌, ◌||◌, List, [], ◌∷◌, map, take, count_by, flat_map, nat_le, if◌then◌else◌}
 use Rattle.std.specs.List.{list_any, list_all, enumerate_from, position_or_len}
 use Rattle.bpaf_roff.specs.Bytes as byte
-use Rattle.bpaf_doc.specs.declared.buffer.Block.{Block, TheVariants.InlineBlock, TheVariants.ItemTerm, TheVariants.TermRef}
-use Rattle.bpaf_doc.specs.Buffer.Parts.{Part, Text, Start, End, opens, closes}
+use Rattle.bpaf_doc.specs.declared.buffer.Block.{Block, TheVariants.InlineBlock, TheVariants.TermRef}
+use Rattle.bpaf_doc.specs.Buffer.Parts.{Part, Text, Start, End, is_start_of, is_end_of}
 use Rattle.bpaf_doc.specs.Splitter.Chunks.{Chunk, chunks_of, chunk_ink, is_paragraph}
 
 -- the parts of a document in order, each with its place
@@ -24,11 +24,6 @@ abbrev pub is_inline : Block → Bool
 is_inline InlineBlock = true
 is_inline _ = false
 
--- the block of a term
-abbrev pub is_term : Block → Bool
-is_term ItemTerm = true
-is_term _ = false
-
 -- a text with a Paragraph chunk
 abbrev pub breaks_off : Part → Bool
 breaks_off (Text bytes style) = list_any is_paragraph (chunks_of bytes)
@@ -39,7 +34,7 @@ breaks_off _ = false
 abbrev pub is_hidden : List Part → Bool
 is_hidden [] = false
 is_hidden (part ∷ between) =
-    (breaks_off part && stays_open (opens is_inline) (closes is_inline) between) || is_hidden between
+    (breaks_off part && stays_open (is_start_of is_inline) (is_end_of is_inline) between) || is_hidden between
 
 -- the chunks up to and with the first Paragraph
 abbrev pub through_paragraph : List Chunk → List Chunk

@@ -11,6 +11,6 @@ pub use Rattle.bpaf_roff.specs.declared.escape.Escape.{Escape}
 pub use Rattle.bpaf_roff.specs.declared.escape.Apostrophes.TheVariants.{Handle}
 pub use Rattle.bpaf_roff.specs.declared.roff.Font.{Font, TheVariants.Bold, TheVariants.Italic, TheVariants.Roman}
 pub use Rattle.bpaf_doc.specs.declared.buffer.{Block.Block, Style.Style}
-pub use Rattle.bpaf_doc.specs.Buffer.Parts.{End, HasUtf8Texts, IsWellNested, Part, Start, Text, closes, document_bytes, document_ink, ink, marks, opens, part_bytes}
+pub use Rattle.bpaf_doc.specs.Buffer.Parts.{End, HasUtf8Texts, IsWellNested, Part, Start, Text, document_bytes, document_ink, ink, is_end_of, is_mark_of, is_start_of, part_bytes}
 pub use Rattle.bpaf_doc.specs.Splitter.Chunks.{Chunk, IsLine, IsWordEnd, LineBreak, Paragraph, Plain, Raw, Spells, chunk_ink, chunks_of, code_weight, columns, fence_weight, has_some, is_code_line, is_inked, is_line_break, is_line_byte, is_ordinary, is_paragraph, is_raw, is_whole_line, starts}
-pub use Rattle.bpaf_doc.specs.Shown.{console_ink, is_hidden, is_inline, is_term, is_term_ref, mark_bytes, numbered, shown_chunks, stays_open}
+pub use Rattle.bpaf_doc.specs.Shown.{console_ink, is_hidden, is_inline, is_term_ref, mark_bytes, numbered, shown_chunks, stays_open}

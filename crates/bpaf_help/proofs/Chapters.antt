@@ -7,7 +7,7 @@ use Rattle.bpaf_doc.specs.Buffer.Parts.{Part}
 use Rattle.bpaf_meta.specs.Content.{Tree, and_of, or_of, optional, required, adjacent, item, many, subsection, suffix, skip, custom_usage, strict, Trees, no_trees, tree, Leaf}
 use Rattle.bpaf_items.proofs.Steps.Fronts.{none_first, none_second}
 use Rattle.bpaf_items.specs.declared.meta_help.entry.HiTy.{HiTy}
-use Rattle.bpaf_items.specs.Listing.ItemList.{Entry, note, group_end, adjacent_stop, front_type, first_front_type, item_entries, entries_of, entries_of_parts, adjacent_start, group_start, by_type}
+use Rattle.bpaf_items.specs.Listing.ItemList.{Entry, note, group_end, adjacent_stop, front_type, first_front_type, item_entries, entries_of, entries_of_parts, adjacent_start, group_start, if_typed}
 use Rattle.bpaf_help.specs.Chapters.{Chapter, command_chapters, part_chapters, item_chapters, entry_chapters, ChaptersAreListed}
 
 -- the chapters of a list with one more entry that is not a command
@@ -17,19 +17,19 @@ marked path es e none = grind (arith, flat_map-append, append-nil)
 item_list_chapters : (path : List (List ℕ)) (l : Leaf) → flat_map (entry_chapters path) (item_entries l) ≡ item_chapters path l
 item_list_chapters path l = grind (arith, append-nil)
 
-adjacent_chapters : (path : List (List ℕ)) (o : Option HiTy) (t : Tree) (es : List Entry) (ss : List Chapter) → (o ≡ None → ss ≡ []) → flat_map (entry_chapters path) es ≡ ss → flat_map (entry_chapters path) (by_type o (λ k. adjacent_start t k ∷ es ++ adjacent_stop k ∷ [])) ≡ ss
+adjacent_chapters : (path : List (List ℕ)) (o : Option HiTy) (t : Tree) (es : List Entry) (ss : List Chapter) → (o ≡ None → ss ≡ []) → flat_map (entry_chapters path) es ≡ ss → flat_map (entry_chapters path) (if_typed o (λ k. adjacent_start t k ∷ es ++ adjacent_stop k ∷ [])) ≡ ss
 adjacent_chapters path None t es ss f e = sym (f refl)
 adjacent_chapters path (Some k) t es ss f e = marked path es (adjacent_stop k) refl ∙ e
 
-group_chapters : (path : List (List ℕ)) (o : Option HiTy) (d : List Part) (es : List Entry) (ss : List Chapter) → (o ≡ None → ss ≡ []) → flat_map (entry_chapters path) es ≡ ss → flat_map (entry_chapters path) (by_type o (λ k. group_start d k ∷ es ++ group_end k ∷ [])) ≡ ss
+group_chapters : (path : List (List ℕ)) (o : Option HiTy) (d : List Part) (es : List Entry) (ss : List Chapter) → (o ≡ None → ss ≡ []) → flat_map (entry_chapters path) es ≡ ss → flat_map (entry_chapters path) (if_typed o (λ k. group_start d k ∷ es ++ group_end k ∷ [])) ≡ ss
 group_chapters path None d es ss f e = sym (f refl)
 group_chapters path (Some k) d es ss f e = marked path es (group_end k) refl ∙ e
 
-noted_chapters : (path : List (List ℕ)) (o : Option HiTy) (d : List Part) (es : List Entry) (ss : List Chapter) → (o ≡ None → ss ≡ []) → flat_map (entry_chapters path) es ≡ ss → flat_map (entry_chapters path) (by_type o (λ k. es ++ note d k ∷ [])) ≡ ss
+noted_chapters : (path : List (List ℕ)) (o : Option HiTy) (d : List Part) (es : List Entry) (ss : List Chapter) → (o ≡ None → ss ≡ []) → flat_map (entry_chapters path) es ≡ ss → flat_map (entry_chapters path) (if_typed o (λ k. es ++ note d k ∷ [])) ≡ ss
 noted_chapters path None d es ss f e = sym (f refl)
 noted_chapters path (Some k) d es ss f e = marked path es (note d k) refl ∙ e
 
-typed_chapters : (path : List (List ℕ)) (o : Option HiTy) (es : List Entry) (ss : List Chapter) → (o ≡ None → ss ≡ []) → flat_map (entry_chapters path) es ≡ ss → flat_map (entry_chapters path) (by_type o (λ k. es)) ≡ ss
+typed_chapters : (path : List (List ℕ)) (o : Option HiTy) (es : List Entry) (ss : List Chapter) → (o ≡ None → ss ≡ []) → flat_map (entry_chapters path) es ≡ ss → flat_map (entry_chapters path) (if_typed o (λ k. es)) ≡ ss
 typed_chapters path o es ss h4 h5 = grind arith
 
 block_chapters : (path : List (List ℕ)) (g : Bool) (t : Tree) (d : List Part) → (front_type t ≡ None → command_chapters path t ≡ []) → flat_map (entry_chapters path) (entries_of false t) ≡ command_chapters path t

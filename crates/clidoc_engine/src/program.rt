@@ -284,9 +284,9 @@ where
 
 // Whether a line begins as that of a description with its name.
 fn has_name_key(text: &str) -> bool {
-    text.lines().any(|line| match line.strip_prefix("name") {
-        Some(rest) => rest.trim_start().starts_with('='),
-        None => false,
+    text.lines().any(|line| {
+        line.strip_prefix("name")
+            .is_some_and(|rest| rest.trim_start().starts_with('='))
     })
 }
 

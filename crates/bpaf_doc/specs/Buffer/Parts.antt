@@ -20,18 +20,18 @@ pub data IsWellNested : List Part → Type 0 where
       → IsWellNested ps
 
 -- a start, an end, or a mark of either kind, of a block that passes the test
-abbrev pub opens : (Block → Bool) → Part → Bool
-opens test (Start b) = test b
-opens test _ = false
+abbrev pub is_start_of : (Block → Bool) → Part → Bool
+is_start_of test (Start b) = test b
+is_start_of test _ = false
 
-abbrev pub closes : (Block → Bool) → Part → Bool
-closes test (End b) = test b
-closes test _ = false
+abbrev pub is_end_of : (Block → Bool) → Part → Bool
+is_end_of test (End b) = test b
+is_end_of test _ = false
 
-abbrev pub marks : (Block → Bool) → Part → Bool
-marks test (Start b) = test b
-marks test (End b) = test b
-marks test _ = false
+abbrev pub is_mark_of : (Block → Bool) → Part → Bool
+is_mark_of test (Start b) = test b
+is_mark_of test (End b) = test b
+is_mark_of test _ = false
 
 -- the characters of a text that are not White_Space, in order
 abbrev pub ink : List ℕ → List ℕ

@@ -92,8 +92,9 @@ placed margin slice weight page =
 
 -- ---- the chunks of a text
 
--- A Raw chunk, at the margin of its text. Step 1 is skipped where there is no text yet. Otherwise what is asked for is
--- put at its end, and then comes (c), where a blank is dropped and what was asked for still is, or the slice is placed.
+-- A Raw chunk, at the margin of its text. Step 1 is skipped where there is no text yet; otherwise what is asked for is
+-- put at its end, and where the slice then has no room (c), the line is wrapped. A blank that has no room is dropped,
+-- and what was asked for still is. Any other slice is placed.
 abbrev pub raw_put : ℕ → ℕ → List ℕ → ℕ → PageSoFar → PageSoFar
 raw_put width margin slice weight page =
     let met : PageSoFar = request_met page in

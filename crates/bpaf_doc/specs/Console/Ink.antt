@@ -1,6 +1,6 @@
 -- The ink of a console page in full: that of the document's texts, with a backquote at each TermRef mark.
 use Rattle.std.specs.Prelude.{◌≡◌}
-use Rattle.bpaf_doc.specs.Words.{ℕ, true, not, List, flat_map, IsTrue, list_any, Part, Text, Start, End, ink, marks, document_ink, HasUtf8Texts, console_ink, is_term_ref, mark_bytes}
+use Rattle.bpaf_doc.specs.Words.{ℕ, true, not, List, flat_map, IsTrue, list_any, Part, Text, Start, End, ink, is_mark_of, document_ink, HasUtf8Texts, console_ink, is_term_ref, mark_bytes}
 
 -- the ink of a text, or the backquote of a TermRef mark
 abbrev pub backquoted_part_ink : Part → List ℕ
@@ -20,5 +20,5 @@ FullInkIsBackquotedInk =
 -- without term references it is exactly the document's ink
 abbrev pub FullInkIsDocumentInk : Type 0
 FullInkIsDocumentInk =
-    (document : List Part) → HasUtf8Texts document → IsTrue (not (list_any (marks is_term_ref) document))
+    (document : List Part) → HasUtf8Texts document → IsTrue (not (list_any (is_mark_of is_term_ref) document))
     → console_ink true document ≡ document_ink document

@@ -1,6 +1,6 @@
 -- The margin at each place of a document, by counting its marks.
 use Rattle.std.specs.Prelude.{if◌then◌else◌, ◌&&◌, ◌+◌, ◌==◌, ◌||◌, ◌∷◌}
-use Rattle.bpaf_doc.specs.Words.{ℕ, Bool, true, false, List, [], map, filter, take, drop, max, fold, sum_by, nat_le, list_any, position_or_len, before_first, after_last, Block, Part, Text, Start, End, opens, closes, columns, numbered, is_term, stays_open}
+use Rattle.bpaf_doc.specs.Words.{ℕ, Bool, true, false, List, [], map, filter, take, drop, max, fold, sum_by, nat_le, list_any, position_or_len, before_first, after_last, Block, Part, Text, Start, End, is_start_of, is_end_of, columns, numbered, stays_open}
 use Rattle.bpaf_doc.specs.declared.buffer.Block.TheVariants as blocks
 
 -- the greatest of some numbers, or 0
@@ -9,6 +9,7 @@ greatest ns = fold max 0 ns
 
 -- ---- skipped pairs
 
+-- the block of Section4 marks
 abbrev pub is_section4 : Block → Bool
 is_section4 blocks.Section4 = true
 is_section4 _ = false
@@ -20,7 +21,7 @@ has_empty_block _ = false
 
 -- the place after the first Section4 end that follows place i
 abbrev pub after_section4 : List Part → ℕ → ℕ
-after_section4 document i = i + position_or_len (closes is_section4) (drop (i + 1) document) + 2
+after_section4 document i = i + position_or_len (is_end_of is_section4) (drop (i + 1) document) + 2
 
 -- that Section4 end is directly followed by an empty Block pair
 abbrev pub skips_pair : List Part → ℕ → Bool
@@ -30,11 +31,16 @@ skips_pair document i = has_empty_block (drop (after_section4 document i) docume
 abbrev pub is_skipped : List Part → ℕ → Bool
 is_skipped document k =
     list_any
-    (λ (i, part). (opens is_section4 part && skips_pair document i)
+    (λ (i, part). (is_start_of is_section4 part && skips_pair document i)
     && ((k == after_section4 document i) || (k == after_section4 document i + 1)))
     (numbered document)
 
 -- ---- the tab stop
+
+-- the block of ItemTerm marks
+abbrev pub is_term : Block → Bool
+is_term blocks.ItemTerm = true
+is_term _ = false
 
 -- the columns of a text
 abbrev pub text_columns : Part → ℕ
@@ -46,14 +52,14 @@ text_columns _ = 0
 -- e.g. term_length (inside block.ItemTerm (words (codes "--a"))) ≡ 3
 abbrev pub term_length : List Part → ℕ
 term_length before =
-    if list_any (opens is_term) before
-    then sum_by text_columns (before_first (closes is_term) (after_last (opens is_term) before))
+    if list_any (is_start_of is_term) before
+    then sum_by text_columns (before_first (is_end_of is_term) (after_last (is_start_of is_term) before))
     else 0
 
 -- the lengths at the ItemTerm ends
 abbrev pub term_lengths : List Part → List ℕ
 term_lengths document =
-    map (λ (k, part). term_length (take k document)) (filter (λ (k, part). closes is_term part) (numbered document))
+    map (λ (k, part). term_length (take k document)) (filter (λ (k, part). is_end_of is_term part) (numbered document))
 
 -- 4 plus the greatest length that is at most 24
 abbrev pub tab_stop : List Part → ℕ

@@ -18,7 +18,7 @@ abbrev pub shows : (Chunk → Bool) → Fragment → Bool
 shows passes (Shown style chunk) = passes chunk
 shows passes _ = false
 
--- the first of these passes a test
+-- there is a first one, and it passes the test
 abbrev pub first_is : (Fragment → Bool) → List Fragment → Bool
 first_is test [] = false
 first_is test (fragment ∷ fragments) = test fragment

@@ -1,6 +1,6 @@
 -- The events of a document as a manual page. What a part gives depends on the marks before it.
 use Rattle.std.specs.Prelude.{if◌then◌else◌, ◌++◌, ◌∷◌}
-use Rattle.bpaf_doc.specs.Words.{ℕ, Bool, true, false, List, [], Option, Some, map, reverse, find, flat_map, codes, after_last, str_to_ascii_uppercase, Style, Block, Part, Text, Start, End, marks, closes, newline_as_blank, argument_word, Font, None, Roman, Bold, Italic}
+use Rattle.bpaf_doc.specs.Words.{ℕ, Bool, true, false, List, [], Option, Some, map, reverse, find, flat_map, codes, after_last, str_to_ascii_uppercase, Style, Block, Part, Text, Start, End, is_mark_of, is_end_of, newline_as_blank, argument_word, Font, None, Roman, Bold, Italic}
 use Rattle.bpaf_doc.specs.Manpage.Reader.{Event, Control, Span, LineEnd}
 use Rattle.bpaf_doc.specs.declared.buffer.Style.TheVariants as style
 use Rattle.bpaf_doc.specs.declared.buffer.Block.TheVariants as block
@@ -36,7 +36,7 @@ is_term_mark _ = false
 
 -- the text of a place, if it is one and the last section mark before it is a start
 abbrev pub captured_text : List Part × Part → List ℕ
-captured_text (before, Text bytes how) = if last_is_start (marks is_section) before then bytes else []
+captured_text (before, Text bytes how) = if last_is_start (is_mark_of is_section) before then bytes else []
 captured_text _ = []
 
 -- a text as one word of a control: newlines are blanks, and an empty text is two quotes
@@ -45,7 +45,7 @@ word_of text = argument_word (map newline_as_blank text)
 
 -- the captured texts since the last section end before a place, joined
 abbrev pub captured_texts : List Part → List ℕ
-captured_texts before = flat_map captured_text (after_last (λ place. closes is_section place.1) (places [] before))
+captured_texts before = flat_map captured_text (after_last (λ place. is_end_of is_section place.1) (places [] before))
 
 -- these texts in ASCII capitals, as one word
 abbrev pub heading : List Part → List ℕ
@@ -104,7 +104,7 @@ end_steps before b None = control_steps (end_name b)
 -- what a part gives: a captured text nothing, any other text a span, in a term with blanks for its newlines
 abbrev pub place_steps : List Part × Part → List Step
 place_steps (before, Text bytes how) =
-    if last_is_start (marks is_section) before then []
+    if last_is_start (is_mark_of is_section) before then []
     else control_steps (style_name how)
     ++ Gives (Span (font_of how) (if last_is_start is_term_mark before then map newline_as_blank bytes else bytes)) ∷ []
 place_steps (before, Start b) = control_steps (start_name b)

@@ -3,7 +3,7 @@
 -- roff reads them as the document's events, where the page takes a document, is a theorem about them
 -- (proofs/lemmas/Manpage/Drafts, proofs/lemmas/Manpage/PageRead).
 use Rattle.std.specs.Prelude.{if◌then◌else◌, ◌++◌, ◌∷◌}
-use Rattle.bpaf_doc.specs.Words.{ℕ, Bool, List, [], Option, Some, None, reverse, find, flat_map, str_to_ascii_uppercase, Block, Part, Text, Start, End, marks, Piece, Script, control_pieces, linebreak_pieces, text_pieces, rendering, Handle, Escape}
+use Rattle.bpaf_doc.specs.Words.{ℕ, Bool, List, [], Option, Some, None, reverse, find, flat_map, str_to_ascii_uppercase, Block, Part, Text, Start, End, is_mark_of, Piece, Script, control_pieces, linebreak_pieces, text_pieces, rendering, Handle, Escape}
 use Rattle.bpaf_doc.specs.Manpage.Events.{places, is_start, last_is_start, is_section, is_term_mark, captured_texts, font_of, start_name, heading_name, end_name, style_name}
 use Rattle.bpaf_doc.specs.declared.buffer.Block.TheVariants as block
 
@@ -37,7 +37,7 @@ strips_newlines by_page before = start_or by_page (find is_term_mark (reverse be
 -- start, otherwise written in the font of its style.
 abbrev pub part_pieces : Bool → List Part × Part → List (Piece Escape)
 part_pieces by_page (before, Text bytes how) =
-    if last_is_start (marks is_section) before then []
+    if last_is_start (is_mark_of is_section) before then []
     else name_pieces (style_name how) ++ text_pieces (strips_newlines by_page before) ((font_of how, bytes) ∷ [])
 part_pieces by_page (before, Start b) = name_pieces (start_name b)
 part_pieces by_page (before, End b) = end_pieces before b (heading_name b)

@@ -2,7 +2,7 @@
 -- the text and the fragments before it, and on the fragments after it. `render_markdown` returns exactly this text. The
 -- laws of `Markdown` are theorems about it (proofs/lemmas/Markdown/Exact, proofs/lemmas/Markdown/Meets).
 use Rattle.std.specs.Prelude.{if◌then◌else◌, ◌++◌, ◌==◌, ◌||◌, ◌∷◌}
-use Rattle.bpaf_doc.specs.Words.{ℕ, Bool, false, List, [], reverse, filter, flat_map, codes, nat_eq, ends_with, list_any, Style, Block, Part, Chunk, Raw, Paragraph, LineBreak, code_weight, fence_weight, is_code_line, is_ordinary}
+use Rattle.bpaf_doc.specs.Words.{ℕ, Bool, List, [], reverse, filter, flat_map, codes, nat_eq, ends_with, list_any, Style, Block, Part, Chunk, Raw, Paragraph, LineBreak, code_weight, fence_weight, is_code_line, is_ordinary}
 use Rattle.bpaf_doc.specs.declared.buffer.Block.TheVariants as blocks
 use Rattle.bpaf_doc.specs.Html.Fragments.{Fragment, TextStart, Shown, TextEnd, Hidden, Start, End, first_is, shows, shown_fragments}
 use Rattle.bpaf_doc.specs.Markdown.Page.{mark_text, style_marks, escaped_character, is_header_start, is_in_list, is_in_mono, is_after_empty_item, is_text_end, is_term_end}

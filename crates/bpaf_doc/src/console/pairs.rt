@@ -1,7 +1,7 @@
 //! Empty Block pairs directly after a Section4, which the console passes over.
 ghost use Rattle.std.specs.Prelude.{◌≡◌, ◌<◌, false, length};
 ghost use Rattle.std.specs.Option.{option_map, option_map_or};
-ghost use Rattle.bpaf_doc.specs.Buffer.Parts.{closes, opens};
+ghost use Rattle.bpaf_doc.specs.Buffer.Parts.{is_end_of, is_start_of};
 ghost use Rattle.bpaf_doc.specs.Buffer.View.{part_of};
 ghost use Rattle.bpaf_doc.specs.Console.Margin.{is_section4};
 ghost use Rattle.bpaf_doc.specs.Console.Steps.Text.{no_pairs, pairs_at, is_adjacent, skips, section4_end};
@@ -79,19 +79,19 @@ fn has_empty_block<A: Allocator>(doc: &Doc<A>, index: usize) -> bool
 }
 
 fn is_section4_end(part: Option<Part<'_>>) -> bool
-    ensures { result ≡ option_map_or (closes is_section4) (option_map part_of part.entry) false }
+    ensures { result ≡ option_map_or (is_end_of is_section4) (option_map part_of part.entry) false }
 {
     matches!(part, Some(Part::End(Block::Section4)))
 }
 
 fn is_block_start(part: Option<Part<'_>>) -> bool
-    ensures { result ≡ option_map_or (opens is_block) (option_map part_of part.entry) false }
+    ensures { result ≡ option_map_or (is_start_of is_block) (option_map part_of part.entry) false }
 {
     matches!(part, Some(Part::Start(Block::Block)))
 }
 
 fn is_block_end(part: Option<Part<'_>>) -> bool
-    ensures { result ≡ option_map_or (closes is_block) (option_map part_of part.entry) false }
+    ensures { result ≡ option_map_or (is_end_of is_block) (option_map part_of part.entry) false }
 {
     matches!(part, Some(Part::End(Block::Block)))
 }

@@ -1,6 +1,6 @@
 -- How the marks of an item list stand: each start before its stop, and no group within a group.
 use Rattle.std.specs.Prelude.{if◌then◌else◌, ◌++◌, ◌+◌, ◌∷◌, ◌≡◌}
-use Rattle.bpaf_items.proofs.Words.{common_steps, ℕ, Bool, true, false, List, [], refl, sym, subst, arith, flat_map, count_by, Option, Some, None, Part, Tree, and_of, or_of, optional, required, adjacent, item, many, subsection, suffix, skip, custom_usage, strict, Trees, no_trees, tree, Leaf, positional, sum_by-append, sum_by-cons, HiTy, Entry, note, group_start, group_end, adjacent_start, adjacent_stop, front_type, item_entries, entries_of, entries_of_parts, item_list, IsItemList, is_mark, is_adjacent_start, is_adjacent_stop, by_type}
+use Rattle.bpaf_items.proofs.Words.{common_steps, ℕ, Bool, true, false, List, [], refl, sym, subst, arith, flat_map, count_by, Option, Some, None, Part, Tree, and_of, or_of, optional, required, adjacent, item, many, subsection, suffix, skip, custom_usage, strict, Trees, no_trees, tree, Leaf, positional, sum_by-append, sum_by-cons, HiTy, Entry, note, group_start, group_end, adjacent_start, adjacent_stop, front_type, item_entries, entries_of, entries_of_parts, item_list, IsItemList, is_mark, is_adjacent_start, is_adjacent_stop, if_typed}
 
 -- nothing; an entry that is not a mark; an adjacent block; a group, where groups are allowed; two joined
 pub data Blocks : (groups : Bool) → List Entry → Type 0 where
@@ -14,19 +14,19 @@ item_blocks : (g : Bool) (l : Leaf) → Blocks g (item_entries l)
 item_blocks g (positional m None) = none refl
 item_blocks g l = plain _ refl refl
 
-adjacent_blocks : (g : Bool) (o : Option HiTy) (t : Tree) (es : List Entry) → Blocks g es → Blocks g (by_type o (λ k. adjacent_start t k ∷ es ++ adjacent_stop k ∷ []))
+adjacent_blocks : (g : Bool) (o : Option HiTy) (t : Tree) (es : List Entry) → Blocks g es → Blocks g (if_typed o (λ k. adjacent_start t k ∷ es ++ adjacent_stop k ∷ []))
 adjacent_blocks g None t es b = none refl
 adjacent_blocks g (Some k) t es b = block t k es refl b
 
-group_blocks : (o : Option HiTy) (d : List Part) (es : List Entry) → Blocks false es → Blocks true (by_type o (λ k. group_start d k ∷ es ++ group_end k ∷ []))
+group_blocks : (o : Option HiTy) (d : List Part) (es : List Entry) → Blocks false es → Blocks true (if_typed o (λ k. group_start d k ∷ es ++ group_end k ∷ []))
 group_blocks None d es b = none refl
 group_blocks (Some k) d es b = grouped d k es refl refl b
 
-noted_blocks : (g : Bool) (o : Option HiTy) (d : List Part) (es : List Entry) → Blocks g es → Blocks g (by_type o (λ k. es ++ note d k ∷ []))
+noted_blocks : (g : Bool) (o : Option HiTy) (d : List Part) (es : List Entry) → Blocks g es → Blocks g (if_typed o (λ k. es ++ note d k ∷ []))
 noted_blocks g None d es b = none refl
 noted_blocks g (Some k) d es b = joined es (note d k ∷ []) refl b (plain (note d k) refl refl)
 
-typed_blocks : (g : Bool) (o : Option HiTy) (es : List Entry) → Blocks g es → Blocks g (by_type o (λ k. es))
+typed_blocks : (g : Bool) (o : Option HiTy) (es : List Entry) → Blocks g es → Blocks g (if_typed o (λ k. es))
 typed_blocks g None es b = none refl
 typed_blocks g (Some k) es b = b
 

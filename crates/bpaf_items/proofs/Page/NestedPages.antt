@@ -1,6 +1,6 @@
 -- Pages of well-nested texts are well nested.
 use Rattle.std.specs.Prelude.{if◌then◌else◌, ◌++◌, ◌∷◌, ◌≡◌, ◌⊎◌}
-use Rattle.bpaf_items.proofs.Words.{ℕ, Bool, true, false, inl, inr, List, [], map, refl, sym, ap, ◌∙◌, subst, append_assoc, append-nil, arith, filter, flat_map, count_by, All, codes, Option, Some, None, or_parts, list_any, range_with_len, flat_map-append, common_steps, All-nil, All-cons, All-append, All-push, All-head, All-tail, Style, Part, IsWellNested, nothing, Write, text, with_write, with_writes, document_of, doc_writes, em_doc_writes, path_writes, inside, Name, both, Tree, and_of, or_of, optional, required, adjacent, item, many, subsection, suffix, skip, custom_usage, strict, Trees, no_trees, tree, Leaf, any, positional, command, flag, argument, Head, head, metavar_writes, usage_writes, with_writes-append, HiTy, Entry, listed, note, group_start, group_end, adjacent_start, adjacent_stop, front_type, item_entries, entries_of, entries_of_parts, item_list, IsItemList, Placed, placed_after, is_group_mark, is_group_start, destination, is_heading, is_shown, shown_entries, group_members, heading_members, Texts, term, help_writes, names_writes, command_writes, env_body, env_term, env_writes, flag_env_text, argument_env_text, listed_writes, entry_writes, list_writes, heading_writes, groups_writes, doc_within, usage_line_writes, help_page_writes, IsNestedText, HasNestedText, HasNestedTexts, EachHasNestedTexts, HasNestedHead, HasNestedEntry, KeepsNested, ItemListsAreNested, GroupsAreNested, HelpPagesAreNested, by_type}
+use Rattle.bpaf_items.proofs.Words.{ℕ, Bool, true, false, inl, inr, List, [], map, refl, sym, ap, ◌∙◌, subst, append_assoc, append-nil, arith, filter, flat_map, count_by, All, codes, Option, Some, None, or_parts, list_any, range_with_len, flat_map-append, common_steps, All-nil, All-cons, All-append, All-push, All-head, All-tail, Style, Part, IsWellNested, nothing, Write, text, with_write, with_writes, document_of, doc_writes, em_doc_writes, path_writes, inside, Name, both, Tree, and_of, or_of, optional, required, adjacent, item, many, subsection, suffix, skip, custom_usage, strict, Trees, no_trees, tree, Leaf, any, positional, command, flag, argument, Head, head, metavar_writes, usage_writes, with_writes-append, HiTy, Entry, listed, note, group_start, group_end, adjacent_start, adjacent_stop, front_type, item_entries, entries_of, entries_of_parts, item_list, IsItemList, Placed, placed_after, is_group_mark, is_group_start, destination, is_heading, is_shown, shown_entries, group_members, heading_members, Texts, term, help_writes, names_writes, command_writes, env_body, env_term, env_writes, flag_env_text, argument_env_text, listed_writes, entry_writes, list_writes, heading_writes, groups_writes, doc_within, usage_line_writes, help_page_writes, IsNestedText, HasNestedText, HasNestedTexts, EachHasNestedTexts, HasNestedHead, HasNestedEntry, KeepsNested, ItemListsAreNested, GroupsAreNested, HelpPagesAreNested, if_typed}
 use Rattle.bpaf_doc.specs.declared.buffer.Style.TheVariants as style
 use Rattle.bpaf_doc.specs.declared.buffer.Block.{Block}
 use Rattle.bpaf_doc.specs.declared.buffer.Block.TheVariants as block
@@ -86,16 +86,16 @@ more_nested es e h k = All-push HasNestedEntry es e h k
 item_nested : (l : Leaf) → HasNestedText l → Nested (item_entries l)
 item_nested l h1 = grind (arith, All-nil, All-cons)
 
-adjacent_nested : (o : Option HiTy) (t : Tree) (es : List Entry) → HasNestedDocs t → Nested es → Nested (by_type o (λ k. adjacent_start t k ∷ es ++ adjacent_stop k ∷ []))
+adjacent_nested : (o : Option HiTy) (t : Tree) (es : List Entry) → HasNestedDocs t → Nested es → Nested (if_typed o (λ k. adjacent_start t k ∷ es ++ adjacent_stop k ∷ []))
 adjacent_nested o t es h3 h4 = grind (arith, All-nil, All-cons, more_nested)
 
-group_nested : (o : Option HiTy) (d : List Part) (es : List Entry) → IsWellNested d → Nested es → Nested (by_type o (λ k. group_start d k ∷ es ++ group_end k ∷ []))
+group_nested : (o : Option HiTy) (d : List Part) (es : List Entry) → IsWellNested d → Nested es → Nested (if_typed o (λ k. group_start d k ∷ es ++ group_end k ∷ []))
 group_nested o d es h3 h4 = grind (arith, All-nil, All-cons, more_nested)
 
-noted_nested : (o : Option HiTy) (d : List Part) (es : List Entry) → IsWellNested d → Nested es → Nested (by_type o (λ k. es ++ note d k ∷ []))
+noted_nested : (o : Option HiTy) (d : List Part) (es : List Entry) → IsWellNested d → Nested es → Nested (if_typed o (λ k. es ++ note d k ∷ []))
 noted_nested o d es h3 h4 = grind (arith, All-nil, more_nested)
 
-typed_nested : (o : Option HiTy) (es : List Entry) → Nested es → Nested (by_type o (λ k. es))
+typed_nested : (o : Option HiTy) (es : List Entry) → Nested es → Nested (if_typed o (λ k. es))
 typed_nested o es h2 = grind (arith, All-nil)
 
 mutual

@@ -1,7 +1,7 @@
 -- A block's first mark, which has its place before its type is known; and a tree without a front type, which lists
 -- nothing.
 use Rattle.std.specs.Prelude.{◌++◌, ◌<◌, ◌∷◌, ◌≡◌}
-use Rattle.bpaf_items.proofs.Words.{ℕ, suc, Bool, true, false, List, [], map, take, drop, length, refl, sym, ap, ◌∙◌, append_assoc, append-nil, arith, slice_set, Option, None, swap_remove, option_or, take-append_seam, set-append_seam, get_or-append_seam, append_cancel_left, length-set, set-append_left, take-append-drop, map-append, length-append, Part, Tree, and_of, or_of, optional, required, adjacent, item, many, subsection, suffix, skip, custom_usage, strict, Trees, no_trees, tree, HiTy, Entry, front_type, first_front_type, entries_of, entries_of_parts, IsFront, adjacent_start, adjacent_stop, group_end, group_start, note, by_type}
+use Rattle.bpaf_items.proofs.Words.{ℕ, suc, Bool, true, false, List, [], map, take, drop, length, refl, sym, ap, ◌∙◌, append_assoc, append-nil, arith, slice_set, Option, None, swap_remove, option_or, take-append_seam, set-append_seam, get_or-append_seam, append_cancel_left, length-set, set-append_left, take-append-drop, map-append, length-append, Part, Tree, and_of, or_of, optional, required, adjacent, item, many, subsection, suffix, skip, custom_usage, strict, Trees, no_trees, tree, HiTy, Entry, front_type, first_front_type, entries_of, entries_of_parts, IsFront, adjacent_start, adjacent_stop, group_end, group_start, note, if_typed}
 use Rattle.bpaf_items.proofs.Steps.Fronts.{none_first, none_second, front_then}
 
 mutual
@@ -10,12 +10,12 @@ mutual
   no_entries g (or_of ts) e = no_part_entries g ts e
   no_entries g (optional t) e = no_entries g t e
   no_entries g (required t) e = no_entries g t e
-  no_entries g (adjacent t) e = ap (λ o. by_type o (λ k. adjacent_start t k ∷ entries_of g t ++ adjacent_stop k ∷ [])) e
+  no_entries g (adjacent t) e = ap (λ o. if_typed o (λ k. adjacent_start t k ∷ entries_of g t ++ adjacent_stop k ∷ [])) e
   no_entries g (item l) e = cc
   no_entries g (many t) e = no_entries g t e
-  no_entries true (subsection t d) e = ap (λ o. by_type o (λ k. group_start d k ∷ entries_of false t ++ group_end k ∷ [])) e
-  no_entries false (subsection t d) e = ap (λ o. by_type o (λ k. entries_of false t)) e
-  no_entries g (suffix t d) e = ap (λ o. by_type o (λ k. entries_of g t ++ note d k ∷ [])) e
+  no_entries true (subsection t d) e = ap (λ o. if_typed o (λ k. group_start d k ∷ entries_of false t ++ group_end k ∷ [])) e
+  no_entries false (subsection t d) e = ap (λ o. if_typed o (λ k. entries_of false t)) e
+  no_entries g (suffix t d) e = ap (λ o. if_typed o (λ k. entries_of g t ++ note d k ∷ [])) e
   no_entries g skip e = refl
   no_entries g (custom_usage t d) e = no_entries g t e
   no_entries g (strict t) e = no_entries g t e
@@ -28,8 +28,8 @@ mutual
 pub ungrouped : (t : Tree) (d : List Part) → entries_of false (subsection t d) ≡ entries_of false t
 ungrouped t d = grind (arith, no_entries)
 
-pub unnoted : (g : Bool) (t : Tree) (d : List Part) → front_type t ≡ None → by_type (front_type t) (λ k. entries_of g t ++ note d k ∷ []) ≡ entries_of g t
-unnoted g t d e = ap (λ o. by_type o (λ k. entries_of g t ++ note d k ∷ [])) e ∙ sym (no_entries g t e)
+pub unnoted : (g : Bool) (t : Tree) (d : List Part) → front_type t ≡ None → if_typed (front_type t) (λ k. entries_of g t ++ note d k ∷ []) ≡ entries_of g t
+unnoted g t d e = ap (λ o. if_typed o (λ k. entries_of g t ++ note d k ∷ [])) e ∙ sym (no_entries g t e)
 
 pub option_or-assoc : (o p q : Option HiTy) → option_or (option_or o p) q ≡ option_or o (option_or p q)
 option_or-assoc o p q = grind arith

@@ -53,10 +53,10 @@ abbrev pub item_entries : Leaf → List Entry
 item_entries (positional m None) = []
 item_entries l = entry_of_item l ∷ []
 
--- what is made of a front type; nothing without one
-abbrev pub by_type : Option HiTy → (HiTy → List Entry) → List Entry
-by_type None entries = []
-by_type (Some k) entries = entries k
+-- the entries that are made where there is a front type
+abbrev pub if_typed : Option HiTy → (HiTy → List Entry) → List Entry
+if_typed None entries = []
+if_typed (Some k) entries = entries k
 
 -- what a tree appends, where groups are allowed or not: an Adjacent, a Subsection or a Suffix gives nothing without a
 -- front type, and its marks or its note have that type
@@ -66,13 +66,13 @@ abbrev mutual
   entries_of g (or_of ts) = entries_of_parts g ts
   entries_of g (optional t) = entries_of g t
   entries_of g (required t) = entries_of g t
-  entries_of g (adjacent t) = by_type (front_type t) (λ k. adjacent_start t k ∷ entries_of g t ++ adjacent_stop k ∷ [])
+  entries_of g (adjacent t) = if_typed (front_type t) (λ k. adjacent_start t k ∷ entries_of g t ++ adjacent_stop k ∷ [])
   entries_of g (item l) = item_entries l
   entries_of g (many t) = entries_of g t
   entries_of true (subsection t d) =
-      by_type (front_type t) (λ k. group_start d k ∷ entries_of false t ++ group_end k ∷ [])
-  entries_of false (subsection t d) = by_type (front_type t) (λ k. entries_of false t)
-  entries_of g (suffix t d) = by_type (front_type t) (λ k. entries_of g t ++ note d k ∷ [])
+      if_typed (front_type t) (λ k. group_start d k ∷ entries_of false t ++ group_end k ∷ [])
+  entries_of false (subsection t d) = if_typed (front_type t) (λ k. entries_of false t)
+  entries_of g (suffix t d) = if_typed (front_type t) (λ k. entries_of g t ++ note d k ∷ [])
   entries_of g skip = []
   entries_of g (custom_usage t d) = entries_of g t
   entries_of g (strict t) = entries_of g t

@@ -89,16 +89,12 @@ abbrev pub name_cmp : Name → Name → Ordering
 name_cmp = then_cmp (on name_form_number nat_cmp)
     (then_cmp (on short_name (option_cmp nat_cmp)) (on name_text (slice_cmp nat_cmp)))
 
--- no help comes before a help
-abbrev pub help_cmp : Option (List Part) → Option (List Part) → Ordering
-help_cmp = option_cmp document_cmp
-
--- by class, then by document, name and text, where the class has them, and then by help
+-- by class, then by document, name and text, where the class has them, and then by help, none before one
 abbrev pub key_cmp : Key → Key → Ordering
 key_cmp = then_cmp (on key_class nat_cmp)
     (then_cmp (on key_document document_cmp)
     (then_cmp (on key_name (option_cmp name_cmp))
-    (then_cmp (on key_text (slice_cmp nat_cmp)) (on key_help help_cmp))))
+    (then_cmp (on key_text (slice_cmp nat_cmp)) (on key_help (option_cmp document_cmp)))))
 
 -- ---- what a key feeds a hasher: its texts, and of its documents the texts without the marks
 

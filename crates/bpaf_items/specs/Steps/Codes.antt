@@ -1,4 +1,4 @@
--- How the trees that the items of a list borrow are stored. No promise is about this: the model of a list needs it.
+-- How the trees and infos that items borrow are stored. No promise is about this: the model of a list needs it.
 use Rattle.std.specs.Coded.{Coded}
 use base.Fml.{ftrue}
 use borrow.Follows.Found as found

@@ -1,6 +1,6 @@
 -- The laws of the equality, the order and the hash of keys, which their implementations cite.
 use Rattle.std.specs.Prelude.{◌&&◌, ◌≡◌}
-use Rattle.bpaf_items.specs.Words.{ℕ, Bool, true, List, Option, Some, None, nat_eq, refl, option_eq, option_cmp, nat_cmp, then_cmp, eq_of_both, eq_by_cmp, as_partial_cmp, bytes_decides, texts_ties, options_total, IsEquivalence, IsTotalOrder, IsPartialOrder, partial_order_from_agreeing_total, eq_by_cmp_equiv, unsigned_ties, unsigned_Decides, both_tied, first_so, second_so, Ordering, Part, same_document, same_text, document_cmp, Name, short, long, both}
+use Rattle.bpaf_items.specs.Words.{ℕ, Bool, true, List, Option, Some, None, nat_eq, refl, nat_cmp, eq_by_cmp, as_partial_cmp, bytes_decides, texts_ties, options_total, IsEquivalence, IsTotalOrder, IsPartialOrder, partial_order_from_agreeing_total, eq_by_cmp_equiv, unsigned_ties, unsigned_Decides, first_so, second_so, Part, same_document, same_text, document_cmp, Name, short, long, both}
 use Rattle.std.proofs.Common.{ap, sym, subst}
 use Rattle.std.proofs.lemmas.Cmp.{then_total, on_total, nat_cmp_total, nat_list_cmp_total}
 use Rattle.bpaf_roff.proofs.lemmas.Ties.{options_tied, both_orders_tied}

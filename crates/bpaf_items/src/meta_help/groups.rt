@@ -53,7 +53,7 @@ impl<'t, C: Allocator, L: Allocator + Copy> Writer<'t, C, L> {
         let mut rest = entries;
         while !rest.is_empty() {
             let count = self.put_first(doc, outside, rest)?;
-            rest = after(rest, count);
+            rest = without_front(rest, count);
         }
         Ok(())
     }
@@ -161,7 +161,7 @@ fn front<'a, 's, B: Allocator>(
     &entries[..count]
 }
 
-fn after<'a, 's, B: Allocator>(
+fn without_front<'a, 's, B: Allocator>(
     entries: &'s [HelpItem<'a, B>],
     count: usize,
 ) -> &'s [HelpItem<'a, B>]

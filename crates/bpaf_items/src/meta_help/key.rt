@@ -1,10 +1,11 @@
 //! How a list tells two items apart.
 ghost use Rattle.std.specs.Prelude.{◌≡◌, fold};
-ghost use Rattle.std.specs.Option.{option_copied};
+ghost use Rattle.std.specs.Option.{option_cmp, option_copied};
 ghost use Rattle.std.specs.Ordering.{ordering_then};
 ghost use Rattle.bpaf_meta.specs.View.{name_of};
+ghost use Rattle.bpaf_doc.specs.Buffer.Equality.{document_cmp};
 ghost use Rattle.bpaf_doc.specs.Buffer.View.{part_of};
-ghost use Rattle.bpaf_items.specs.Listing.Keys.{document_input, help_cmp, help_input, name_cmp, name_input, part_input};
+ghost use Rattle.bpaf_items.specs.Listing.Keys.{document_input, help_input, name_cmp, name_input, part_input};
 ghost use Rattle.bpaf_items.specs.Listing.Keys.{same_help, same_name};
 
 use bpaf_doc::buffer::{Doc, Part};
@@ -230,7 +231,7 @@ fn then_by_help<A: Allocator>(
     left: Option<&Doc<A>>,
     right: Option<&Doc<A>>,
 ) -> Ordering
-    ensures { result ≡ ordering_then order (help_cmp (option_copied left.entry) (option_copied right.entry)) }
+    ensures { result ≡ ordering_then order (option_cmp document_cmp (option_copied left.entry) (option_copied right.entry)) }
 {
     if order != Ordering::Equal {
         return order;

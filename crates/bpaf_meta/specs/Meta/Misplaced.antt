@@ -39,16 +39,16 @@ begins_positional t = option_map_or is_positional (first_item t) false
 abbrev pub begins_named : Tree → Bool
 begins_named t = option_map_or (λ l. not (is_positional l)) (first_item t) false
 
--- the items in tree order: those of a command's own tree come right after the command; those inside a Strict only where
--- they count
+-- the items in tree order, those inside a Strict only if asked for; those of a command's own tree come right after the
+-- command
 abbrev mutual
-  pub items_in : (of_strict : Bool) → Tree → List Leaf
+  pub items_in : (inside_strict : Bool) → Tree → List Leaf
   items_in s (and_of ts) = items_in_parts s ts
   items_in s (or_of ts) = items_in_parts s ts
   items_in s (optional t) = items_in s t
   items_in s (required t) = items_in s t
   items_in s (adjacent t) = items_in s t
-  items_in s (item l) = l ∷ items_within s l
+  items_in s (item l) = l ∷ command_items s l
   items_in s (many t) = items_in s t
   items_in s (subsection t d) = items_in s t
   items_in s (suffix t d) = items_in s t
@@ -57,13 +57,13 @@ abbrev mutual
   items_in true (strict t) = items_in true t
   items_in false (strict t) = []
 
-  pub items_in_parts : (of_strict : Bool) → Trees → List Leaf
+  pub items_in_parts : (inside_strict : Bool) → Trees → List Leaf
   items_in_parts s no_trees = []
   items_in_parts s (tree t ts) = items_in s t ++ items_in_parts s ts
 
-  pub items_within : (of_strict : Bool) → Leaf → List Leaf
-  items_within s (command n c h t i) = items_in s t
-  items_within s l = []
+  pub command_items : (inside_strict : Bool) → Leaf → List Leaf
+  command_items s (command n c h t i) = items_in s t
+  command_items s l = []
 
 -- the number that comes after a tree whose items are numbered from n on
 abbrev pub number_after : ℕ → Tree → ℕ

@@ -86,7 +86,7 @@ abbrev pub strict_state : State → State
 strict_state pull = push
 strict_state s = s
 
--- the part, which goes into Strict where the running state is Pull and the part gives Push
+-- a tree, which goes into Strict where the state so far is Pull and the tree gives Push
 abbrev pub guarded : (running given : State) → Tree → Tree
 guarded pull push t = strict t
 guarded running given t = t

@@ -3,7 +3,7 @@ ghost use Rattle.std.specs.Prelude.{false, ◌≡◌, ◌∷◌, ◌++◌, OnOk,
 ghost use Rattle.bpaf_meta.specs.View.{tree_of, trees_of, leaf_of};
 ghost use Rattle.std.specs.List.{flat_map};
 ghost use Rattle.bpaf_meta.specs.Meta.Shorts.{flag_shorts, argument_shorts, shorts_of_flag, shorts_of_argument};
-ghost use Rattle.bpaf_meta.specs.Meta.Misplaced.{items_in_parts, items_within};
+ghost use Rattle.bpaf_meta.specs.Meta.Misplaced.{items_in_parts, command_items};
 ghost use Rattle.bpaf_meta.specs.Meta.Shorts.{IsFront};
 
 use crate::item::Item;
@@ -67,9 +67,9 @@ fn gather_item<A: Allocator, B: Allocator, C: Allocator>(
     args: &mut Vec<char, C>,
 ) -> Result<(), AllocError>
     ensures flags { OnOk result (flags.new.items ≡ flags.old.items
-        ++ flat_map shorts_of_flag (leaf_of item.now ∷ items_within false (leaf_of item.now))) }
+        ++ flat_map shorts_of_flag (leaf_of item.now ∷ command_items false (leaf_of item.now))) }
     ensures args { OnOk result (args.new.items ≡ args.old.items
-        ++ flat_map shorts_of_argument (leaf_of item.now ∷ items_within false (leaf_of item.now))) }
+        ++ flat_map shorts_of_argument (leaf_of item.now ∷ command_items false (leaf_of item.now))) }
     ensures flags_front { IsFront flags.old.items flags.new.items }
     ensures args_front { IsFront args.old.items args.new.items }
 {

@@ -1,16 +1,16 @@
 -- Counting the inline blocks that have to end before texts are shown again comes to what the definition of hidden texts says.
 use Rattle.std.specs.Prelude.{◌&&◌, ◌++◌, ◌==◌, ◌||◌, ◌∷◌, ◌≡◌}
-use Rattle.bpaf_doc.proofs.lemmas.Console.Words.{sym, ◌∙◌, ap, arith, append_assoc, append-nil, ℕ, zero, suc, Bool, false, not, List, [], nat_le, nat_tests, or-false, Block, Part, Start, stays_open, breaks_off, is_hidden, is_inline, hidden_after, opens, closes}
+use Rattle.bpaf_doc.proofs.lemmas.Console.Words.{sym, ◌∙◌, ap, arith, append_assoc, append-nil, ℕ, zero, suc, Bool, false, not, List, [], nat_le, nat_tests, or-false, Block, Part, Start, stays_open, breaks_off, is_hidden, is_inline, hidden_after, is_start_of, is_end_of}
 use Rattle.bpaf_doc.proofs.lemmas.Lists.Opening.{closed, stays_open_is}
 
-start_is : (b : Block) → opens is_inline (Start b) ≡ is_inline b
+start_is : (b : Block) → is_start_of is_inline (Start b) ≡ is_inline b
 start_is b = grind arith
 
 -- how many of the inline blocks that are open before some parts they end
 abbrev ended : List Part → ℕ
-ended parts = closed (opens is_inline) (closes is_inline) parts
+ended parts = closed (is_start_of is_inline) (is_end_of is_inline) parts
 
-open_is : (parts : List Part) → stays_open (opens is_inline) (closes is_inline) parts ≡ nat_le (ended parts) 0
+open_is : (parts : List Part) → stays_open (is_start_of is_inline) (is_end_of is_inline) parts ≡ nat_le (ended parts) 0
 open_is parts = grind (arith, stays_open_is)
 
 -- at this count of inline blocks that have to end, none of the fronts has ended them all
@@ -22,7 +22,7 @@ pub not_zero : (more : ℕ) → (suc more == 0) ≡ false
 not_zero more = grind (arith, nat_tests)
 
 abbrev IsKept : ℕ → Part → List Part → Type 0
-IsKept hidden part parts = (stays_hidden hidden (part ∷ parts) || (breaks_off part && stays_open (opens is_inline) (closes is_inline) parts)) ≡ stays_hidden (hidden_after false hidden part) parts
+IsKept hidden part parts = (stays_hidden hidden (part ∷ parts) || (breaks_off part && stays_open (is_start_of is_inline) (is_end_of is_inline) parts)) ≡ stays_hidden (hidden_after false hidden part) parts
 
 kept : (hidden : ℕ) (part : Part) (parts : List Part) → IsKept hidden part parts
 kept hidden part parts = grind (arith, open_is, not_zero, nat_tests, start_is, or-false)

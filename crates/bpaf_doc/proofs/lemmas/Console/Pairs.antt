@@ -1,6 +1,6 @@
 -- What is remembered of empty Block pairs tells of each mark whether it is skipped.
 use Rattle.std.specs.Prelude.{◌&&◌, ◌+◌, ◌-◌, ◌<◌, ◌==◌, ◌^◌, ◌||◌, ◌↔◌, ◌∷◌, ◌≡◌, ◌≤◌, ◌⊎◌}
-use Rattle.bpaf_doc.proofs.lemmas.Console.Words.{list_any, position_or_len, enumerate_from, slice_get_past, nat_tests, and_from, and_parts, false≢true, zero-add, add-zero, and-true, and-false, Block, Pairs, Part, Start, End, sym, ◌∙◌, ap, subst, inl, inr, arith, drop-drop, ℕ, suc, min, Bool, true, false, IsTrue, List, [], Some, length, refl, drop, slice_get, Option, nat_le, nat_lt, has_empty_block, after_section4, skips_pair, is_skipped, opens, closes, is_section4}
+use Rattle.bpaf_doc.proofs.lemmas.Console.Words.{list_any, position_or_len, enumerate_from, slice_get_past, nat_tests, and_from, and_parts, false≢true, zero-add, add-zero, and-true, and-false, Block, Pairs, Part, Start, End, sym, ◌∙◌, ap, subst, inl, inr, arith, drop-drop, ℕ, suc, min, Bool, true, false, IsTrue, List, [], Some, length, refl, drop, slice_get, Option, nat_le, nat_lt, has_empty_block, after_section4, skips_pair, is_skipped, is_start_of, is_end_of, is_section4}
 use Rattle.bpaf_doc.specs.declared.buffer.Block.TheVariants as blocks
 use Rattle.bpaf_doc.specs.Console.Steps.Text as whole
 use Rattle.std.specs.Option.{option_map_or}
@@ -30,7 +30,7 @@ pub record KnowsPairs (document : List Part) (index : ℕ) (pairs : Pairs) : Typ
 same_tests : (a b : Bool) → (a ≡ true → b ≡ true) → (b ≡ true → a ≡ true) → a ≡ b
 same_tests a b f g = grind (arith, false≢true)
 
-start_is : (part : Part) → opens is_section4 part ≡ true → part ≡ Start blocks.Section4
+start_is : (part : Part) → is_start_of is_section4 part ≡ true → part ≡ Start blocks.Section4
 start_is part h = grind arith
 
 -- ---- a part by its place
@@ -57,19 +57,19 @@ position_passes p (y ∷ ys) x e = grind (arith, position_passes p ys x)
 -- two places before the same end
 after_section4-shared : (document : List Part) (i j : ℕ) → i ≤ j → j + 1 < after_section4 document i → after_section4 document j ≡ after_section4 document i
 after_section4-shared document i j l m =
-    at (position_or_len (closes is_section4) (drop (i + 1) document)) (position_or_len (closes is_section4) (drop (j + 1) document)) m rest where
-      rest : (j - i ≤ position_or_len (closes is_section4) (drop (i + 1) document))
-          → j - i + position_or_len (closes is_section4) (drop (j + 1) document) ≡ position_or_len (closes is_section4) (drop (i + 1) document)
+    at (position_or_len (is_end_of is_section4) (drop (i + 1) document)) (position_or_len (is_end_of is_section4) (drop (j + 1) document)) m rest where
+      rest : (j - i ≤ position_or_len (is_end_of is_section4) (drop (i + 1) document))
+          → j - i + position_or_len (is_end_of is_section4) (drop (j + 1) document) ≡ position_or_len (is_end_of is_section4) (drop (i + 1) document)
       rest few =
-          ap (λ ps. j - i + position_or_len (closes is_section4) ps) (ap (λ (n : ℕ). drop n document) (omega arith) ∙ sym (drop-drop (j - i) (i + 1) document))
-          ∙ position-drop (closes is_section4) (j - i) (drop (i + 1) document) few
+          ap (λ ps. j - i + position_or_len (is_end_of is_section4) ps) (ap (λ (n : ℕ). drop n document) (omega arith) ∙ sym (drop-drop (j - i) (i + 1) document))
+          ∙ position-drop (is_end_of is_section4) (j - i) (drop (i + 1) document) few
 
       at : (n k : ℕ) → j + 1 < i + n + 2 → (j - i ≤ n → j - i + k ≡ n) → j + k + 2 ≡ i + n + 2
       at n k m rest = let e : j - i + k ≡ n = rest (omega arith) in omega arith
 
 -- no start stands there
-end_there : (document : List Part) (i j : ℕ) (part : Part) → j + 1 ≡ after_section4 document i → slice_get document j ≡ Some part → closes is_section4 part ≡ true
-end_there document i j part e here = grind (arith, position_passes (closes is_section4) (drop (i + 1) document) part, slice_get-drop (i + 1) (position_or_len (closes is_section4) (drop (i + 1) document)) document)
+end_there : (document : List Part) (i j : ℕ) (part : Part) → j + 1 ≡ after_section4 document i → slice_get document j ≡ Some part → is_end_of is_section4 part ≡ true
+end_there document i j part e here = grind (arith, position_passes (is_end_of is_section4) (drop (i + 1) document) part, slice_get-drop (i + 1) (position_or_len (is_end_of is_section4) (drop (i + 1) document)) document)
 
 -- ---- the pair after it
 
@@ -108,7 +108,7 @@ module _ (f : ℕ → Part → Bool) where
   any_from x k y part here h = grind (arith, add-zero)
 
 abbrev skips : List Part → ℕ → ℕ → Part → Bool
-skips document k i part = (opens is_section4 part && skips_pair document i) && ((k == after_section4 document i) || (k == after_section4 document i + 1))
+skips document k i part = (is_start_of is_section4 part && skips_pair document i) && ((k == after_section4 document i) || (k == after_section4 document i + 1))
 
 pub skipped_by : (document : List Part) (k : ℕ) → is_skipped document k ≡ true
     → (i : ℕ) × SkipsAt document i × ((k ≡ after_section4 document i) ⊎ (k ≡ after_section4 document i + 1))
@@ -184,16 +184,16 @@ section4_end_is document index = grind arith
 
 empty_block_is : (document : List Part) (index : ℕ) → length document < 2 ^ 64 → whole.has_empty_block document index ≡ has_empty_block (drop (index + 1) document)
 empty_block_is document index small =
-    empty_block-is document (index + 1) (option_map_or (opens whole.is_block) (slice_get document (min (index + 1) 18446744073709551615)) false) (option_map_or (closes whole.is_block) (slice_get document (min (index + 2) 18446744073709551615)) false)
-    (subst (λ (o : Option Part). IsTrue (option_map_or (opens whole.is_block) (slice_get document (min (index + 1) 18446744073709551615)) false) ↔ o ≡ Some (Start blocks.Block)) (slice_get-saturates document (index + 1) small)
+    empty_block-is document (index + 1) (option_map_or (is_start_of whole.is_block) (slice_get document (min (index + 1) 18446744073709551615)) false) (option_map_or (is_end_of whole.is_block) (slice_get document (min (index + 2) 18446744073709551615)) false)
+    (subst (λ (o : Option Part). IsTrue (option_map_or (is_start_of whole.is_block) (slice_get document (min (index + 1) 18446744073709551615)) false) ↔ o ≡ Some (Start blocks.Block)) (slice_get-saturates document (index + 1) small)
     (grind arith))
-    (subst (λ (o : Option Part). IsTrue (option_map_or (closes whole.is_block) (slice_get document (min (index + 2) 18446744073709551615)) false) ↔ o ≡ Some (End blocks.Block))
+    (subst (λ (o : Option Part). IsTrue (option_map_or (is_end_of whole.is_block) (slice_get document (min (index + 2) 18446744073709551615)) false) ↔ o ≡ Some (End blocks.Block))
     (slice_get-saturates document (index + 2) small ∙ ap (λ (k : ℕ). slice_get document k) (omega arith)) (grind arith))
 
 module _ (document : List Part) (small : length document < 2 ^ 64) where
   -- the start of a block
   pub knows_start : (index : ℕ) (b : Block) (pairs : Pairs) → slice_get document index ≡ Some (Start b) → KnowsPairs document index pairs
-      → KnowsPairs document (index + 1) (whole.pairs_at document index b pairs) × (whole.is_adjacent b (whole.pairs_at document index b pairs) ≡ (opens is_section4 (Start b) && skips_pair document index))
+      → KnowsPairs document (index + 1) (whole.pairs_at document index b pairs) × (whole.is_adjacent b (whole.pairs_at document index b pairs) ≡ (is_start_of is_section4 (Start b) && skips_pair document index))
   knows_start index b pairs here knows = grind (arith, by_test, KnowsPairs-found, nat_tests, section4_end_is, KnowsPairs-shared, shared_answer, empty_block_is, KnowsPairs-more)
 
   pub skips_is : (index : ℕ) (b : Block) (pairs : Pairs) → KnowsPairs document (index + 1) pairs → HasMarkAt document index b → whole.skips pairs index b ≡ is_skipped document index

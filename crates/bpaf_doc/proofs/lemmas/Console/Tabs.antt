@@ -1,6 +1,6 @@
 -- One walk over the parts gives the tab stop.
 use Rattle.std.specs.Prelude.{if◌then◌else◌, ◌&&◌, ◌++◌, ◌+◌, ◌∷◌, ◌≡◌}
-use Rattle.bpaf_doc.proofs.lemmas.Console.Words.{common_steps, list_any, before_first, after_last, enumerate_from, sym, ◌∙◌, arith, append_assoc, length-append, take_at, ℕ, min, max, Bool, true, false, not, List, [], length, refl, map, filter, take, fold, sum_by, nat_le, list_any-append, sum_by-cons, take_while-cons, nat_tests, and-false, and-true, or-false, zero-add, Part, Text, Start, End, columns, text_columns, term_length, drop-append-le, drop_all, reverse-append, opens, closes, is_term}
+use Rattle.bpaf_doc.proofs.lemmas.Console.Words.{common_steps, list_any, before_first, after_last, enumerate_from, sym, ◌∙◌, arith, append_assoc, length-append, take_at, ℕ, min, max, Bool, true, false, not, List, [], length, refl, map, filter, take, fold, sum_by, nat_le, list_any-append, sum_by-cons, take_while-cons, nat_tests, and-false, and-true, or-false, zero-add, Part, Text, Start, End, columns, text_columns, term_length, drop-append-le, drop_all, reverse-append, is_start_of, is_end_of, is_term}
 use Rattle.bpaf_doc.specs.declared.buffer.Block.TheVariants as blocks
 
 -- ---- the walk
@@ -25,31 +25,31 @@ widest_from widest in_term count (End b ∷ rest) = widest_from widest in_term c
 
 -- the columns of the texts before the first end
 abbrev first_columns : List Part → ℕ
-first_columns parts = sum_by text_columns (before_first (closes is_term) parts)
+first_columns parts = sum_by text_columns (before_first (is_end_of is_term) parts)
 
-first_columns-cons : (part : Part) (parts : List Part) → first_columns (part ∷ parts) ≡ (if closes is_term part then 0 else text_columns part + first_columns parts)
-first_columns-cons part parts = grind (arith, take_while-cons, sum_by-cons text_columns part (before_first (closes is_term) parts))
+first_columns-cons : (part : Part) (parts : List Part) → first_columns (part ∷ parts) ≡ (if is_end_of is_term part then 0 else text_columns part + first_columns parts)
+first_columns-cons part parts = grind (arith, take_while-cons, sum_by-cons text_columns part (before_first (is_end_of is_term) parts))
 
-first_columns-push : (parts : List Part) (part : Part) → first_columns (parts ++ part ∷ []) ≡ first_columns parts + (if list_any (closes is_term) parts then 0 else text_columns part)
+first_columns-push : (parts : List Part) (part : Part) → first_columns (parts ++ part ∷ []) ≡ first_columns parts + (if list_any (is_end_of is_term) parts then 0 else text_columns part)
 first_columns-push [] part = (grind (arith, zero-add)) ∙ sym (zero-add (text_columns part))
 first_columns-push (p ∷ ps) part = grind (arith, first_columns-push ps part, first_columns-cons)
 
 -- a term has started and not ended
 abbrev is_in_term : List Part → Bool
-is_in_term before = list_any (opens is_term) before && not (list_any (closes is_term) (after_last (opens is_term) before))
+is_in_term before = list_any (is_start_of is_term) before && not (list_any (is_end_of is_term) (after_last (is_start_of is_term) before))
 
-is_in_term-push : (before : List Part) (part : Part) → is_in_term (before ++ part ∷ []) ≡ (if opens is_term part then true else is_in_term before && not (closes is_term part))
+is_in_term-push : (before : List Part) (part : Part) → is_in_term (before ++ part ∷ []) ≡ (if is_start_of is_term part then true else is_in_term before && not (is_end_of is_term part))
 is_in_term-push before part = grind (arith, list_any-append, or-false, reverse-append, drop_all, drop-append-le, length-append)
 
 term_length-push : (before : List Part) (part : Part)
-    → term_length (before ++ part ∷ []) ≡ (if opens is_term part then 0 else term_length before + (if is_in_term before then text_columns part else 0))
+    → term_length (before ++ part ∷ []) ≡ (if is_start_of is_term part then 0 else term_length before + (if is_in_term before then text_columns part else 0))
 term_length-push before part = grind (arith, list_any-append, or-false, reverse-append, drop_all, drop-append-le, length-append, first_columns-push)
 
 -- ---- all parts
 
 -- the lengths at the ends among the parts from place k on
 abbrev lengths_from : List Part → ℕ → List Part → List ℕ
-lengths_from document k parts = map (λ (k, part). term_length (take k document)) (filter (λ (k, part). closes is_term part) (enumerate_from k parts))
+lengths_from document k parts = map (λ (k, part). term_length (take k document)) (filter (λ (k, part). is_end_of is_term part) (enumerate_from k parts))
 
 -- the widest of these that counts
 abbrev widest_of : List Part → List Part → List Part → ℕ → ℕ
@@ -64,7 +64,7 @@ passed : (document before rest : List Part) (part : Part) (widest : ℕ) (in_ter
 passed document before rest part widest in_term count e f same more = grind (arith, append_assoc, length-append, nat_tests)
 
 -- a mark that is no start and no end of a term
-quiet : (document before rest : List Part) (part : Part) (widest : ℕ) → opens is_term part ≡ false → closes is_term part ≡ false → text_columns part ≡ 0
+quiet : (document before rest : List Part) (part : Part) (widest : ℕ) → is_start_of is_term part ≡ false → is_end_of is_term part ≡ false → text_columns part ≡ 0
     → document ≡ before ++ part ∷ rest
     → (document ≡ (before ++ part ∷ []) ++ rest → widest_from widest (is_in_term (before ++ part ∷ [])) (sat (term_length (before ++ part ∷ []))) rest
     ≡ widest_of document (before ++ part ∷ []) rest widest)

@@ -1,12 +1,12 @@
 -- The words of std and of `specs/` that lemmas of this folder cite, passed on from one place.
-pub use Rattle.bpaf_doc.specs.Buffer.Parts.{End, HasUtf8Texts, Part, Start, Text, closes, ink, marks, opens, part_bytes, part_ink}
+pub use Rattle.bpaf_doc.specs.Buffer.Parts.{End, HasUtf8Texts, Part, Start, Text, ink, is_end_of, is_mark_of, is_start_of, part_bytes, part_ink}
 pub use Rattle.bpaf_doc.specs.Console.Exact.{BlankLine, NewLine, NoBreak, PageSoFar, Request, at_least_new_line, console_page, placed, saturated}
 pub use Rattle.bpaf_doc.specs.Console.Layout.{AreApart, BeginsClear, BreaksForRoom, BreaksWhereAsked, Closes, Event, FitsWidth, FollowsBlank, Gap, HasBlankLine, IsBounded, IsFirstInLine, IsKept, IsLayout, KeepsBlanks, KeepsMargin, MayStand, Opens, PadsToMargin, Passed, Place, Placed, Shows, StandsAlone, Stretch, WrapsOnlyIfNeeded, asks_blank_line, asks_newline, chunk_at, column, event_bytes, event_columns, events_of, events_since_ink, holds_line, is_empty_code, is_gap, is_inked_stretch, is_light, is_light_mark, is_newline, is_placed, is_raw_or_ref, is_ref, is_silent_block, is_written, leads_to_place, line_before, opens_body, padding, part_events, room_of, shown_events, shows_chunk, stretch_bytes, stretch_columns, stretch_lines, text_of, widest}
-pub use Rattle.bpaf_doc.specs.Console.Margin.{Indent, Level, Outdent, Shift, after_section4, greatest, greatest_margin, has_empty_block, indents_in_force, is_indent, is_outdent, is_section4, is_skipped, margin, part_shift, shifts, skips_pair, tab_stop, term_length, term_lengths, text_columns}
+pub use Rattle.bpaf_doc.specs.Console.Margin.{Indent, Level, Outdent, Shift, after_section4, greatest, greatest_margin, has_empty_block, indents_in_force, is_indent, is_outdent, is_section4, is_skipped, is_term, margin, part_shift, shifts, skips_pair, tab_stop, term_length, term_lengths, text_columns}
 pub use Rattle.bpaf_doc.specs.Console.Steps.Text.{hidden_after, hides}
 pub use Rattle.bpaf_doc.specs.Console.Steps.Page.{IsPastLine, Sheet, blank_sheet, code_put, margin_of, on, page_of, sheet_of, text_put}
 pub use Rattle.bpaf_doc.specs.Console.Steps.Text.{console_text, no_pairs, pairs_after, part_put, parts_put, tab_stop_from, whole_page}
-pub use Rattle.bpaf_doc.specs.Shown.{breaks_off, console_ink, is_hidden, is_inline, is_term, mark_bytes, numbered, shown_chunks, shown_part_ink, stays_open, through_paragraph}
+pub use Rattle.bpaf_doc.specs.Shown.{breaks_off, console_ink, is_hidden, is_inline, mark_bytes, numbered, shown_chunks, shown_part_ink, stays_open, through_paragraph}
 pub use Rattle.bpaf_doc.specs.Splitter.Chunks.{Chunk, IsLine, LineBreak, Paragraph, Raw, chunks_of, code_weight, columns, fence_weight, has_some, is_inked, is_ordinary, is_paragraph, is_raw, is_whole_line, starts}
 pub use Rattle.bpaf_doc.specs.Splitter.Promises.{IsText}
 pub use Rattle.bpaf_doc.specs.declared.buffer.Block.{Block}

@@ -1,7 +1,7 @@
 -- What the writer of a page keeps is what looking back over the marks gives, so the page that comes out is the page as a function of the document; and where the
 -- page takes a document, a reader reads the document's events.
 use Rattle.std.specs.Prelude.{if◌then◌else◌, ◌++◌, ◌∷◌, ◌≡◌}
-use Rattle.bpaf_doc.proofs.lemmas.Manpage.Words.{str_to_ascii_uppercase, ap, ◌∙◌, sym, append_assoc, arith, ℕ, Bool, true, false, List, [], Some, None, find, flat_map, refl, append-nil, reverse-append, flat_map-append, Script, RoffText, text_of, with_written, text_pieces, Handle, Part, Text, Start, End, font_of, is_start, last_is_start, is_section, is_term_mark, captured_texts, TakesDocument, IsPageOf, start_name, heading_name, style_name, Draft, draft_on, after_text, after_start, after_section, after_block, after_end, after_part, after_parts, Style, Block, Option, control_pieces, Piece, Escape, marks}
+use Rattle.bpaf_doc.proofs.lemmas.Manpage.Words.{str_to_ascii_uppercase, ap, ◌∙◌, sym, append_assoc, arith, ℕ, Bool, true, false, List, [], Some, None, find, flat_map, refl, append-nil, reverse-append, flat_map-append, Script, RoffText, text_of, with_written, text_pieces, Handle, Part, Text, Start, End, font_of, is_start, last_is_start, is_section, is_term_mark, captured_texts, TakesDocument, IsPageOf, start_name, heading_name, style_name, Draft, draft_on, after_text, after_start, after_section, after_block, after_end, after_part, after_parts, Style, Block, Option, control_pieces, Piece, Escape, is_mark_of}
 use Rattle.bpaf_roff.proofs.lemmas.Written.{written_on}
 use Rattle.bpaf_doc.specs.Manpage.Exact.{name_pieces, closing_pieces, end_pieces, start_or, strips_newlines, part_pieces, document_pieces, roff_page}
 use Rattle.bpaf_doc.specs.declared.buffer.Block.TheVariants as block
@@ -15,7 +15,7 @@ use Rattle.bpaf_doc.proofs.lemmas.Manpage.PageRead.{place_calls, page_read}
 record Holds (page : List (Piece Escape)) (by_page : Bool) (done : List Part) (draft : Draft) : Type 0 where
   text : draft.page ≡ text_of Handle (page ++ document_pieces by_page done)
   strips : draft.strips ≡ strips_newlines by_page done
-  captures : draft.captures ≡ last_is_start (marks is_section) done
+  captures : draft.captures ≡ last_is_start (is_mark_of is_section) done
   heading : draft.heading ≡ captured_texts done
 
 -- the pieces of one part more
@@ -36,7 +36,7 @@ text_by false page by_page done so_far strips heading text how h =
       text =
           one_more page so_far by_page done (Text text how) (name_pieces (style_name how) ++ text_pieces strips ((font_of how, text) ∷ [])) h.text (rw written (ap (λ strip. name_pieces (style_name how) ++ text_pieces strip ((font_of how, text) ∷ [])) h.strips));
       strips = h.strips ∙ sym (ap (λ parts. start_or by_page (find is_term_mark parts)) (reverse-append done ((Text text how) ∷ [])) ∙ grind arith);
-      captures = h.captures ∙ sym (ap (λ parts. is_start (find (marks is_section) parts)) (reverse-append done ((Text text how) ∷ [])) ∙ (grind arith));
+      captures = h.captures ∙ sym (ap (λ parts. is_start (find (is_mark_of is_section) parts)) (reverse-append done ((Text text how) ∷ [])) ∙ (grind arith));
       heading =
           h.heading ∙ sym (append-nil (captured_texts done)) ∙ ap (λ x. captured_texts done ++ (if x then text else [])) h.captures ∙ sym (captured_texts-append done (Text text how));
     }
@@ -47,7 +47,7 @@ start_holds page by_page done draft b h = record {
   strips =
       (grind arith) ∙ ap (λ x. if is_term_mark (Start b) then true else x) h.strips ∙ sym (ap (λ parts. start_or by_page (find is_term_mark parts)) (reverse-append done ((Start b) ∷ [])) ∙ grind arith);
   captures =
-      (grind arith) ∙ ap (λ x. if is_section b then true else x) h.captures ∙ sym (ap (λ parts. is_start (find (marks is_section) parts)) (reverse-append done ((Start b) ∷ [])) ∙ (grind arith));
+      (grind arith) ∙ ap (λ x. if is_section b then true else x) h.captures ∙ sym (ap (λ parts. is_start (find (is_mark_of is_section) parts)) (reverse-append done ((Start b) ∷ [])) ∙ (grind arith));
   heading = h.heading ∙ sym (append-nil (captured_texts done)) ∙ sym (captured_texts-append done (Start b));
 }
 
@@ -60,7 +60,7 @@ section_holds page by_page done draft b name named section term h = record {
   strips =
       h.strips ∙ sym ((ap (λ parts. start_or by_page (find is_term_mark parts)) (reverse-append done ((End b) ∷ [])) ∙ grind arith) ∙ ap (λ x. if x then false else strips_newlines by_page done) term);
   captures =
-      sym ((ap (λ parts. is_start (find (marks is_section) parts)) (reverse-append done ((End b) ∷ [])) ∙ (grind arith)) ∙ ap (λ x. if x then false else last_is_start (marks is_section) done) section);
+      sym ((ap (λ parts. is_start (find (is_mark_of is_section) parts)) (reverse-append done ((End b) ∷ [])) ∙ (grind arith)) ∙ ap (λ x. if x then false else last_is_start (is_mark_of is_section) done) section);
   heading = sym (captured_texts-append done (End b) ∙ ap (λ x. if x then [] else captured_texts done ++ []) section);
 }
 

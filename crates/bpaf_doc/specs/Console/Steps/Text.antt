@@ -1,11 +1,11 @@
 -- A console text, part by part, as the private functions leave it. This is internal: that such a text is the exact page
 -- is proved.
 use Rattle.std.specs.Prelude.{if◌then◌else◌, ◌&&◌, ◌+◌, ◌-◌, ◌==◌, ◌∷◌}
-use Rattle.bpaf_doc.specs.Words.{ℕ, Bool, true, false, List, [], drop, max, nat_le, nat_lt, slice_get, position_or_len, Block, Part, Text, Start, End, opens, closes, columns, chunks_of, not, list_any, Chunk, is_paragraph, is_inline, is_term}
+use Rattle.bpaf_doc.specs.Words.{ℕ, Bool, true, false, List, [], drop, max, nat_le, nat_lt, slice_get, position_or_len, Block, Part, Text, Start, End, is_start_of, is_end_of, columns, chunks_of, not, list_any, Chunk, is_paragraph, is_inline}
 use Rattle.std.specs.Option.{option_map_or}
 use Rattle.bpaf_doc.specs.declared.buffer.Block.TheVariants as blocks
 use Rattle.bpaf_doc.specs.declared.console.pairs.Pairs.{Pairs}
-use Rattle.bpaf_doc.specs.Console.Margin.{is_section4}
+use Rattle.bpaf_doc.specs.Console.Margin.{is_section4, is_term}
 use Rattle.bpaf_doc.specs.Console.Exact.{saturated, finished}
 use Rattle.bpaf_doc.specs.Console.Steps.Page.{Sheet, blank_sheet, text_put, opened, closed}
 
@@ -54,13 +54,13 @@ is_block _ = false
 -- the place of the first Section4 end after this place, or the number of parts
 abbrev pub section4_end : List Part → ℕ → ℕ
 section4_end document index =
-    index + 1 + position_or_len (closes is_section4) (drop (index + 1) document)
+    index + 1 + position_or_len (is_end_of is_section4) (drop (index + 1) document)
 
 -- a start and an end of Block come directly after this place
 abbrev pub has_empty_block : List Part → ℕ → Bool
 has_empty_block document index =
-    option_map_or (opens is_block) (slice_get document (saturated (index + 1))) false
-    && option_map_or (closes is_block) (slice_get document (saturated (index + 2))) false
+    option_map_or (is_start_of is_block) (slice_get document (saturated (index + 1))) false
+    && option_map_or (is_end_of is_block) (slice_get document (saturated (index + 2))) false
 
 abbrev pub no_pairs : Pairs
 no_pairs = record { end = 0; has_pair = false }

@@ -8,7 +8,7 @@ use Rattle.std.proofs.lemmas.Bool.{or_cases, or_left, or_right}
 use Rattle.std.proofs.lemmas.Grind.{flat_map-append}
 use Rattle.std.proofs.lemmas.List.Folds.{list_any-append}
 use Rattle.bpaf_meta.specs.Content.{Tree, and_of, or_of, optional, required, adjacent, item, many, subsection, suffix, skip, custom_usage, strict, Trees, no_trees, tree, Leaf, command}
-use Rattle.bpaf_meta.specs.Meta.Misplaced.{Numbered, Line, Scope, is_positional, first_item, items_in, items_in_parts, items_within, number_after, joined_lines, at_least_empty, lines_from, and_lines, branch_lines, scopes_within, scopes_within_parts, command_scopes, late_items, misplaced_items, IsWellPlaced, IsFirstMisplaced}
+use Rattle.bpaf_meta.specs.Meta.Misplaced.{Numbered, Line, Scope, is_positional, first_item, items_in, items_in_parts, command_items, number_after, joined_lines, at_least_empty, lines_from, and_lines, branch_lines, scopes_within, scopes_within_parts, command_scopes, late_items, misplaced_items, IsWellPlaced, IsFirstMisplaced}
 use Rattle.bpaf_meta.specs.Meta.Steps.Walk.{Check, fine, wrong, then_check, beside, walked, walked_within, walked_parts, walked_branches}
 use Rattle.bpaf_meta.proofs.lemmas.Misplaced.Among.{Among, among_left, among_right, among_cases, among_map, in_map, among_flat, in_flat, none_among, contains, all_among}
 use Rattle.bpaf_meta.proofs.lemmas.Misplaced.Late.{is_named, at_positional, late_after, after_first-later, late-append}
@@ -229,10 +229,10 @@ alone_agrees n l =
       finds = λ a. subst (λ xs. Finds ((xs ++ []) ++ []) (a || p) (if a && not p then wrong l else fine (a || p))) (sym (grind (arith, after_first-later))) (alone_finds (a && not p) n l (a || p));
     }
 
-item_agrees : (n : ℕ) (l : Leaf) (scopes : List Scope) (w : Check) → Agrees (n + 1) (length (items_within true l)) ([] ∷ []) scopes (λ a. then_check w (λ b. fine a)) → Agrees n (length (l ∷ items_within true l)) (((n, l) ∷ []) ∷ []) scopes (λ a. if a && not (is_positional l) then wrong l else then_check w (λ b. fine (a || is_positional l)))
+item_agrees : (n : ℕ) (l : Leaf) (scopes : List Scope) (w : Check) → Agrees (n + 1) (length (command_items true l)) ([] ∷ []) scopes (λ a. then_check w (λ b. fine a)) → Agrees n (length (l ∷ command_items true l)) (((n, l) ∷ []) ∷ []) scopes (λ a. if a && not (is_positional l) then wrong l else then_check w (λ b. fine (a || is_positional l)))
 item_agrees n l scopes w f =
     let p = is_positional l in
-    let g = joined_agree n 1 (length (items_within true l)) _ (((n, l) ∷ []) ∷ []) ([] ∷ []) [] scopes (λ a. if a && not p then wrong l else fine (a || p)) (λ a. then_check w (λ b. fine a)) (omega arith) (alone_agrees n l) f in
+    let g = joined_agree n 1 (length (command_items true l)) _ (((n, l) ∷ []) ∷ []) ([] ∷ []) [] scopes (λ a. if a && not p then wrong l else fine (a || p)) (λ a. then_check w (λ b. fine a)) (omega arith) (alone_agrees n l) f in
     record {
       mark = g.mark;
       marks = g.marks;
@@ -263,7 +263,7 @@ mutual
   each_agrees n no_trees = record { mark = false; marks = line_marks [] false refl; numbers = λ a x h. absurd h; finds = λ a seen h. (sym (or-false seen), λ x k. k) }
   each_agrees n (tree t ts) = branch_agrees n _ _ _ _ _ _ _ (walked t) (walked_branches ts) (length-append (items_in true t) (items_in_parts true ts)) (agrees n t) (each_agrees (number_after n t) ts)
 
-  within_agrees : (n : ℕ) (l : Leaf) → Agrees n (length (items_within true l)) ([] ∷ []) (command_scopes n l) (λ a. then_check (walked_within l) (λ b. fine a))
+  within_agrees : (n : ℕ) (l : Leaf) → Agrees n (length (command_items true l)) ([] ∷ []) (command_scopes n l) (λ a. then_check (walked_within l) (λ b. fine a))
   within_agrees n (command c s h t i) = scope_agrees n (length (items_in true t)) t (scopes_within n t) (walked t) (agrees n t)
   within_agrees n l = nothing_agrees n 0
 

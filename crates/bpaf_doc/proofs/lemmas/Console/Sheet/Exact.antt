@@ -1,6 +1,6 @@
 -- The page that the code writes is the page as a function of the document: the walk over its marks, and the whole.
 use Rattle.std.specs.Prelude.{if◌then◌else◌, ◌&&◌, ◌++◌, ◌+◌, ◌-◌, ◌<◌, ◌==◌, ◌^◌, ◌∷◌, ◌≡◌, ◌≤◌}
-use Rattle.bpaf_doc.proofs.lemmas.Console.Words.{common_steps, length-drop, length-reverse, take_at, nat_tests, Pairs, Block, Style, Part, Text, Start, End, Chunk, Raw, Paragraph, LineBreak, columns, chunks_of, has_some, is_hidden, shown_chunks, through_paragraph, margin, is_skipped, skips_pair, tab_stop, Shift, Indent, Level, part_shift, saturated, PageSoFar, console_page, hidden_after, Sheet, blank_sheet, enumerate_from, console_text, sym, ap, arith, inl, inr, ◌∙◌, ℕ, zero, suc, Bool, true, false, not, List, [], length, take, drop, reverse, refl, slice_get, Some, IfOk, Result, String, string_bytes, opens, is_section4}
+use Rattle.bpaf_doc.proofs.lemmas.Console.Words.{common_steps, length-drop, length-reverse, take_at, nat_tests, Pairs, Block, Style, Part, Text, Start, End, Chunk, Raw, Paragraph, LineBreak, columns, chunks_of, has_some, is_hidden, shown_chunks, through_paragraph, margin, is_skipped, skips_pair, tab_stop, Shift, Indent, Level, part_shift, saturated, PageSoFar, console_page, hidden_after, Sheet, blank_sheet, enumerate_from, console_text, sym, ap, arith, inl, inr, ◌∙◌, ℕ, zero, suc, Bool, true, false, not, List, [], length, take, drop, reverse, refl, slice_get, Some, IfOk, Result, String, string_bytes, is_start_of, is_section4}
 use Rattle.bpaf_doc.proofs.lemmas.Console.Hiding.{Counts, Counts-more, is_hidden-Counts}
 use Rattle.bpaf_doc.proofs.lemmas.Console.Layout.Back.{by_test, by_cases}
 use Rattle.bpaf_doc.proofs.lemmas.Console.Layout.Turned.{reverse_cons}
@@ -123,7 +123,7 @@ module _ (full : Bool) (document : List Part) (few : length document < 2 ^ 59) w
 
   -- what the start of a block does to the stack
   opened_margins : (index : ℕ) (b : Block) (adjacent : Bool) (s : Sheet) (stack : List ℕ) → s.margins ≡ reverse stack → s.tab_stop ≡ tab_stop document
-      → adjacent ≡ (opens is_section4 (Start b) && skips_pair document index) → ((n : ℕ) → part_shift document index (Start b) ≡ Indent n → top stack + n ≤ 18446744073709551615)
+      → adjacent ≡ (is_start_of is_section4 (Start b) && skips_pair document index) → ((n : ℕ) → part_shift document index (Start b) ≡ Indent n → top stack + n ≤ 18446744073709551615)
       → (page.opened b adjacent s).margins ≡ reverse (shifted (part_shift document index (Start b)) stack)
   unfolding page.opened
   opened_margins index b adjacent s stack m t a fits = grind (arith, common_steps, length_turned, get_last, reverse_cons, tab_stop-le)
@@ -133,7 +133,7 @@ module _ (full : Bool) (document : List Part) (few : length document < 2 ^ 59) w
     abbrev next : Pairs
     next = whole.pairs_at document index b pairs
 
-    start_known : KnowsPairs document (index + 1) next × (whole.is_adjacent b next ≡ (opens is_section4 (Start b) && skips_pair document index))
+    start_known : KnowsPairs document (index + 1) next × (whole.is_adjacent b next ≡ (is_start_of is_section4 (Start b) && skips_pair document index))
     start_known = knows_start document (small document few) index b pairs (there index (Start b) rest pairs hidden s w) w.knows
 
     pub start_skips : whole.skips next index b ≡ is_skipped document index

@@ -1,5 +1,5 @@
 use Rattle.std.specs.Prelude.{◌++◌, ◌+◌, ◌≡◌, ◌⊎◌}
-use Rattle.bpaf_items.proofs.Words.{Some, false, List, ◌∙◌, ap, sym, subst, refl, drop, length, map, arith, rules, Box, OnOk, IfOk, at_drop_more, Tree, optional, required, many, subsection, custom_usage, strict, tree_of, trees_of, OnOk-map, front_type, first_front_type, entries_of, entries_of_parts, entry_of, adjacent_start, adjacent_stop, group_end, group_start, by_type}
+use Rattle.bpaf_items.proofs.Words.{Some, false, List, ◌∙◌, ap, sym, subst, refl, drop, length, map, arith, rules, Box, OnOk, IfOk, at_drop_more, Tree, optional, required, many, subsection, custom_usage, strict, tree_of, trees_of, OnOk-map, front_type, first_front_type, entries_of, entries_of_parts, entry_of, adjacent_start, adjacent_stop, group_end, group_start, if_typed}
 use Rattle.bpaf_doc.specs.declared.buffer.Doc.{Doc}
 use Rattle.bpaf_meta.specs.declared.item.Item.{the_lemmas}
 use Rattle.bpaf_meta.specs.declared.meta.Meta.{Meta}
@@ -49,7 +49,7 @@ append_adjacent-returns-clause-entries g t c =
     let at : c.len-at.result ≡ length old = search rules in
     let type : Some c.in-Some.ty ≡ front_type inner = cc (c.in_ok-ty.ensures.ty, c.in-Some.is) in
     closed_entries entry_of old c.push.new.items.items c.append.new.items.items c.close.new.items.items c.len-at.result (entry.AdjacentStart c.args.inner ty.Flag) (entry.AdjacentStart c.args.inner c.in-Some.ty) (entry.AdjacentStop c.in-Some.ty) (entries_of c.args.groups inner) at c.in_ok-push.ensures.items c.append.ensures.front c.in_ok-ty.ensures.entries c.in_ok-close.ensures.items
-    ∙ ap (λ o. map entry_of old ++ by_type o (λ k. adjacent_start inner k ∷ entries_of c.args.groups inner ++ adjacent_stop k ∷ [])) type
+    ∙ ap (λ o. map entry_of old ++ if_typed o (λ k. adjacent_start inner k ∷ entries_of c.args.groups inner ++ adjacent_stop k ∷ [])) type
 
 pub append_group-returns-in_default-clause-front : goal.append_group-returns-in_default-clause-front
 append_group-returns-in_default-clause-front g t c =
@@ -70,7 +70,7 @@ append_group-returns-clause-entries g t c =
     let at : c.len-at.result ≡ length old = search rules in
     let type : Some c.in-Some.ty ≡ front_type inner = cc (c.in_ok-ty.ensures.ty, c.in-Some.is) in
     closed_entries entry_of old c.push.new.items.items c.append-2.new.items.items c.close.new.items.items c.len-at.result (entry.GroupStart c.args.help ty.Flag) (entry.GroupStart c.args.help c.in-Some.ty) (entry.GroupEnd c.in-Some.ty) (entries_of false inner) at c.in_ok-push.ensures.items c.append-2.ensures.front c.in_ok-ty.ensures.entries c.in_ok-close.ensures.items
-    ∙ ap (λ o. map entry_of old ++ by_type o (λ k. group_start c.args.help.now k ∷ entries_of false inner ++ group_end k ∷ [])) type
+    ∙ ap (λ o. map entry_of old ++ if_typed o (λ k. group_start c.args.help.now k ∷ entries_of false inner ++ group_end k ∷ [])) type
     ∙ ap (λ b. map entry_of old ++ entries_of b (subsection inner c.args.help.now)) (sym c.if-not-groups.false)
 
 pub append_group-returns-then-not-groups-clause-entries : goal.append_group-returns-then-not-groups-clause-entries

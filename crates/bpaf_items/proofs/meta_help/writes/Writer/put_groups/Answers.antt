@@ -9,7 +9,7 @@ returns-in_err-count-clause-grows g c = Grows-then _ _ _ c.loop-rest.invariant.g
 pub loop-rest-preserved : goal.loop-rest-preserved
 loop-rest-preserved g c =
     let taken = c.in_ok-count.ensures.takes in
-    let same = left_after c.loop-rest.rest.now c.after-rest.result.now c.in_ok-count.count c.after-rest.ensures in
+    let same = left_after c.loop-rest.rest.now c.without_front-rest.result.now c.in_ok-count.count c.without_front-rest.ensures in
     record {
       paired = subst HasPairedGroups (sym same) taken.paired;
       grows = Grows-then _ _ _ c.loop-rest.invariant.grows c.put_first.ensures.grows;
