@@ -48,7 +48,7 @@ def main(folder, count="1000", seed="1"):
     judged = dict(zip(made, tried.runs([(["check"], drafts[at][1]) for at in made])))
     ends = collections.Counter()
     for at, (status, _, said) in enumerate(drafts):
-        if status == 1 and b"no usage names the program" in said:
+        if status == 1 and b"no usage line names the program" in said:
             ends["without a name"] += 1
         elif status == 0 and judged[at][0] == 0:
             ends["taken"] += 1

@@ -109,7 +109,7 @@ def characters(kind):
         yield {key: "a\ufffeb"}, [], f"{key} holds a noncharacter"
     for key in WORDS.get(kind, []) + TITLES.get(kind, []):
         yield {key: "a\nb"}, [], f"{key} holds a control character"
-        yield {key: "a\u2066b"}, [], f"{key} holds a character that is not seen"
+        yield {key: "a\u2066b"}, [], f"{key} holds an invisible character"
     for key in WORDS.get(kind, []):
         yield {key: ""}, [], f"{key} is empty"
     for key in TITLES.get(kind, []):
@@ -122,7 +122,7 @@ def characters(kind):
             yield {"text": text}, [], "text is empty"
 
 
-WHY = {"": "is empty", "a b": "holds a blank", "a\n": "holds a blank", "a\u0007": "holds a control character", "a=": "holds =", "a\ufdd0": "holds a noncharacter", "a\u202e": "holds a character that is not seen", "\u200da": "holds a character that is not seen"}
+WHY = {"": "is empty", "a b": "holds a blank", "a\n": "holds a blank", "a\u0007": "holds a control character", "a=": "holds =", "a\ufdd0": "holds a noncharacter", "a\u202e": "holds an invisible character", "\u200da": "holds an invisible character"}
 
 
 def names(kind):
@@ -138,7 +138,7 @@ def names(kind):
             yield {key: "-a"}, [], f"{key} begins with -"
     if kind in ["option", "command"]:
         for text in ["", "ab", "日本"]:
-            yield {"short": text}, [], "short is not one character; longer names are long, or aliases of a command"
+            yield {"short": text}, [], "short is not one character; write a longer name as long, or in aliases of a command"
         for text, why in [("-", "begins with -"), ("=", "holds ="), (" ", "holds a blank"), ("\uffff", "holds a noncharacter")]:
             yield {"short": text}, [], f"short {why}"
 

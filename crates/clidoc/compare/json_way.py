@@ -73,7 +73,7 @@ def differences(names, given, made):
     """The name and form of each difference between the runs on descriptions, by form, and those on their JSON."""
     for name, (status, text, reported), again in zip(names, given["json"], made["json"]):
         if status != 0 or reported or not is_json(text):
-            yield name, "no JSON"
+            yield name, "not JSON"
         if again != (0, text, b""):
             yield name, "json"
     for form in FORMS:

@@ -49,7 +49,8 @@ const NO_NAMES: &str = "clidoc: no options or commands were found in HELP; \
     if the program prints its help on standard error, add 2>&1";
 
 /// What is said after a fault of FILE where HELP has a line as a description does.
-const HELP_IS_FIRST: &str = "clidoc: HELP stands before FILE, and HELP looks like a description";
+const HELP_IS_FIRST: &str =
+    "clidoc: HELP looks like a description; HELP comes first: against HELP FILE";
 
 /// Why a run fails.
 #[derive(Debug, Drop, Error)]
@@ -373,7 +374,7 @@ where
 fn nameless(global: Global, name: Option<&str>, file: &str) -> Result<String, AllocError> {
     match name {
         None => format!(in global;
-            "{}: no usage names the program; --name NAME does",
+            "{}: no usage line names the program; give the name with --name NAME",
             Echoed(file)
         ),
         Some(name) => format!(in global;

@@ -36,7 +36,10 @@ pub fn line_of(global: Global, fault: &WordFault<'_>) -> Result<String, AllocErr
         WordFault::NoSuchForm(word) => put(&mut line, "no form ", word)?,
         WordFault::FormAfter { word, form } => put_turned(&mut line, word, form)?,
         WordFault::NoSuchOption(word) => put(&mut line, "no option ", word)?,
-        WordFault::NoValue(option) => put(&mut line, "no value after ", valued_word(*option))?,
+        WordFault::NoValue(option) => {
+            line.push_str(valued_word(*option))?;
+            line.push_str(" needs a value")?;
+        }
         WordFault::NoColumns(word) => {
             put(
                 &mut line,

@@ -67,8 +67,8 @@ pub record IsScript (sh : Shell) (d : DescriptionSaid) (script : List ℕ) : Typ
 abbrev pub IsSuffix : List ℕ → Type 0
 IsSuffix suffix = (suffix ≡ []) ⊎ ((word : List ℕ) × (suffix ≡ codes "__" ++ word))
 
-abbrev pub left_after : (name suffix : List ℕ) → List ℕ
-left_after name suffix = codes "_clidoc_" ++ (tag name ++ suffix)
+abbrev pub defined_name : (name suffix : List ℕ) → List ℕ
+defined_name name suffix = codes "_clidoc_" ++ (tag name ++ suffix)
 
 abbrev pub IsByte : ℕ → Type 0
 IsByte b = b < 256
@@ -76,4 +76,5 @@ IsByte b = b < 256
 -- the scripts of two programs define nothing under one name
 abbrev pub ScriptsDoNotMeet : Type 0
 ScriptsDoNotMeet =
-    (a b v w : List ℕ) → All IsByte a → All IsByte b → IsSuffix v → IsSuffix w → left_after a v ≡ left_after b w → a ≡ b
+    (a b v w : List ℕ) → All IsByte a → All IsByte b → IsSuffix v → IsSuffix w → defined_name a v ≡ defined_name b w
+    → a ≡ b

@@ -5,16 +5,16 @@
 
 /// What stands before the data of a script for bash.
 pub const BASH_HEAD: &str =
-    r##"# Completions for bash, from 4.2 on, which need nothing else: source this file.
+    r##"# Completions for bash 4.2 and later, which need nothing else: source this file.
 #
-# The table below has four words for each entry, which are what it is, and three that say more:
+# Each entry of the table below has four words: what it is, and three that say more:
 #
 #   program NAME - -          the program; options up to 'level' stand on each level
 #   level - - -               the top follows, up to its 'end'
-#   once HOW HINT HELP        an option that is given once; 'many': many times; 'or': where the one before is not.
+#   once HOW HINT HELP        an option that is given once; 'many': many times; 'or': in place of the one before.
 #                             HOW: flag, value, word (a value that is a word of its own), optional (only after a =)
 #   name NAME - -             one of its names
-#   place once HINT -         a positional value, the next one; 'many': many of them; 'strict': after --
+#   place once HINT -         a positional value, the next one; 'many': many of them; 'strict': only after --
 #   among VALUE - -           one of the values that an option or a positional value may have
 #   command NAME - HELP       a command; its level follows, up to its 'end'
 #   alias NAME - -            another name of the command
@@ -97,7 +97,7 @@ _clidoc_`__enter() {
     _clidoc_`__load $(($1 ? $1 : at + 4))
 }
 
-# Finds the option that has the name $1; one of the level before those of each level.
+# Finds the option that has the name $1; one of this level comes before one that stands on each level.
 _clidoc_`__find() {
     local -i i
     for ((i = ${#names[@]} - 1; i >= 0; i--)); do
@@ -110,8 +110,8 @@ _clidoc_`__find() {
     return 1
 }
 
-# The options that the word $1 gives. 'option' is the last of them, 'how' tells its value, which stands in the word
-# after 'before', unless that is empty.
+# The options that the word $1 gives. 'option' is the last of them, and 'how' says how its value is given. If 'before'
+# is not empty, the value is in the same word and follows 'before'.
 _clidoc_`__give() {
     local -i i
     before=
@@ -137,10 +137,10 @@ _clidoc_`__pass() {
     local -i i
     if ((value_of >= 0)); then
         value_of=-1
-    elif ((after)); then
+    elif ((after_dashes)); then
         place+=1
     elif [[ $1 == -- ]]; then
-        after=1
+        after_dashes=1
         for i in "${!places[@]}"; do
             if [[ ${_clidoc_`__table[places[i]]} == strict ]]; then
                 places=("${places[@]:i}") place=0
@@ -193,7 +193,7 @@ _clidoc_`__files() {
     if [[ -n $1 ]]; then compopt -o dirnames; else compopt -o default; fi
 }
 
-# Offers what the entry at $1 may be, after 'before'.
+# Offers what the entry at $1 may be, each after the text 'before'.
 _clidoc_`__values() {
     local -i at
     local word
@@ -228,17 +228,17 @@ _clidoc_`__names() {
     done
 }
 
-# Offers the values that may stand at this place, and -- before those that stand after it. Each of those before has
-# one word at least, and one that is repeated has what is left.
+# Offers the values that may stand at this place, and -- where they may only follow it. Each of the places before has
+# one word at least, and a repeated one takes all the rest.
 _clidoc_`__places() {
     local -i i is_many=0
     for ((i = 0; i < ${#places[@]} && i <= place; i++)); do
         if [[ ${_clidoc_`__table[places[i]+1]} == many ]]; then is_many=1; fi
         if ((i < place && is_many == 0)); then continue; fi
         has_place=1
-        if [[ ${_clidoc_`__table[places[i]]} == strict && $after -eq 0 ]]; then
+        if [[ ${_clidoc_`__table[places[i]]} == strict && $after_dashes -eq 0 ]]; then
             _clidoc_`__offer --
-        elif [[ $after -eq 1 || $cur != -* ]]; then
+        elif [[ $after_dashes -eq 1 || $cur != -* ]]; then
             _clidoc_`__values "${places[i]}"
         fi
     done
@@ -282,7 +282,7 @@ _clidoc_`__reply() {
 _clidoc_`() {
     local -a words=() commands=() levels=() options=() choices=() names=() owners=() places=() given=() found=()
     local cur= kept= quote= before= how= word
-    local -i place=0 after=0 option=-1 value_of=-1 files=0 has_place=0 is_cluster=0
+    local -i place=0 after_dashes=0 option=-1 value_of=-1 files=0 has_place=0 is_cluster=0
     COMPREPLY=()
     _clidoc_`__read
     _clidoc_`__enter 0
@@ -290,7 +290,7 @@ _clidoc_`() {
     before=
     if ((value_of >= 0)); then
         _clidoc_`__values "${options[value_of]}"
-    elif ((after)); then
+    elif ((after_dashes)); then
         _clidoc_`__places
     elif [[ $cur == -?* ]] && ! _clidoc_`__find "$cur" && _clidoc_`__give "$cur"; then
         if [[ -n $before ]]; then
@@ -324,14 +324,14 @@ complete -F _clidoc_` -- "${_clidoc_`__table[1]}"
 pub const ZSH_HEAD: &str =
     r##"# Completions for zsh: a file '_NAME' in a folder of 'fpath', or sourced after 'compinit'.
 #
-# The table below has four words for each entry, which are what it is, and three that say more:
+# Each entry of the table below has four words: what it is, and three that say more:
 #
 #   program NAME - -          the program; options up to 'level' stand on each level
 #   level - - -               the top follows, up to its 'end'
-#   once HOW HINT HELP        an option that is given once; 'many': many times; 'or': where the one before is not.
+#   once HOW HINT HELP        an option that is given once; 'many': many times; 'or': in place of the one before.
 #                             HOW: flag, value, word (a value that is a word of its own), optional (only after a =)
 #   name NAME - -             one of its names
-#   place once HINT -         a positional value, the next one; 'many': many of them; 'strict': after --
+#   place once HINT -         a positional value, the next one; 'many': many of them; 'strict': only after --
 #   among VALUE - -           one of the values that an option or a positional value may have
 #   command NAME - HELP       a command; its level follows, up to its 'end'
 #   alias NAME - -            another name of the command
@@ -387,7 +387,7 @@ _clidoc_`__enter() {
     _clidoc_`__load $(($1 ? $1 : at + 4))
 }
 
-# Finds the option that has the name $1; one of the level before those of each level.
+# Finds the option that has the name $1; one of this level comes before one that stands on each level.
 _clidoc_`__find() {
     local -i i
     for ((i = $#option_names; i > 0; i--)); do
@@ -400,8 +400,8 @@ _clidoc_`__find() {
     return 1
 }
 
-# The options that the word $1 gives. 'option' is the last of them, 'how' tells its value, which stands in the word
-# after 'before', unless that is empty.
+# The options that the word $1 gives. 'option' is the last of them, and 'how' says how its value is given. If 'before'
+# is not empty, the value is in the same word and follows 'before'.
 _clidoc_`__give() {
     local -i i
     before=
@@ -427,10 +427,10 @@ _clidoc_`__pass() {
     local -i i
     if ((value_of > 0)); then
         value_of=0
-    elif ((after)); then
+    elif ((after_dashes)); then
         place+=1
     elif [[ $1 == -- ]]; then
-        after=1
+        after_dashes=1
         for ((i = 1; i <= $#places; i++)); do
             if [[ $_clidoc_`__table[places[i]] == strict ]]; then
                 places=($places[i,-1]) place=1
@@ -476,7 +476,7 @@ _clidoc_`__values() {
     esac
 }
 
-# Offers 'matches', each with its help in 'texts', in the group $1; after each stands $2.
+# Offers 'matches', each with its help in 'texts', in the group $1; $2 is added to each.
 _clidoc_`__offer() {
     local -a shown
     local -i i wide=0
@@ -516,17 +516,17 @@ _clidoc_`__names() {
     _clidoc_`__offer options =
 }
 
-# Offers the values that may stand at this place, and -- before those that stand after it. Each of those before has
-# one word at least, and one that is repeated has what is left.
+# Offers the values that may stand at this place, and -- where they may only follow it. Each of the places before has
+# one word at least, and a repeated one takes all the rest.
 _clidoc_`__places() {
     local -i i is_many=0
     for ((i = 1; i <= $#places && i <= place; i++)); do
         if [[ $_clidoc_`__table[places[i]+1] == many ]]; then is_many=1; fi
         if ((i < place && ! is_many)); then continue; fi
         has_place=1
-        if [[ $_clidoc_`__table[places[i]] == strict && $after -eq 0 ]]; then
+        if [[ $_clidoc_`__table[places[i]] == strict && $after_dashes -eq 0 ]]; then
             if compadd -J options -- --; then offers=0; fi
-        elif [[ $after -eq 1 || $current != -* ]]; then
+        elif [[ $after_dashes -eq 1 || $current != -* ]]; then
             _clidoc_`__values $places[i]
         fi
     done
@@ -535,13 +535,13 @@ _clidoc_`__places() {
 _clidoc_`() {
     local -a command_names levels helps option_at choices option_names owners places given matches texts
     local current=${(Q)PREFIX} before= how= word
-    local -i place=1 after=0 option=0 value_of=0 has_place=0 is_cluster=0 offers=1
+    local -i place=1 after_dashes=0 option=0 value_of=0 has_place=0 is_cluster=0 offers=1
     _clidoc_`__enter 0
     for word in "${(@)words[2,CURRENT-1]}"; do _clidoc_`__pass "${(Q)word}"; done
     before=
     if ((value_of)); then
         _clidoc_`__values $option_at[value_of]
-    elif ((after)); then
+    elif ((after_dashes)); then
         _clidoc_`__places
     elif [[ $current == -?* ]] && ! _clidoc_`__find "$current" && _clidoc_`__give "$current"; then
         if [[ -n $before ]]; then
@@ -584,14 +584,14 @@ fi
 pub const FISH_HEAD: &str =
     r##"# Completions for fish: a file NAME.fish in 'completions' of its folder of settings, or sourced.
 #
-# The table below has four words for each entry, which are what it is, and three that say more:
+# Each entry of the table below has four words: what it is, and three that say more:
 #
 #   program NAME - -          the program; options up to 'level' stand on each level
 #   level - - -               the top follows, up to its 'end'
-#   once HOW HINT HELP        an option that is given once; 'many': many times; 'or': where the one before is not.
+#   once HOW HINT HELP        an option that is given once; 'many': many times; 'or': in place of the one before.
 #                             HOW: flag, value, word (a value that is a word of its own), optional (only after a =)
 #   name NAME - -             one of its names
-#   place once HINT -         a positional value, the next one; 'many': many of them; 'strict': after --
+#   place once HINT -         a positional value, the next one; 'many': many of them; 'strict': only after --
 #   among VALUE - -           one of the values that an option or a positional value may have
 #   command NAME - HELP       a command; its level follows, up to its 'end'
 #   alias NAME - -            another name of the command
@@ -674,15 +674,15 @@ function _clidoc_`__enter -S
     end
 end
 
-# Finds the option that has this name; one of the level before those of each level.
+# Finds the option that has this name; one of this level comes before one that stands on each level.
 function _clidoc_`__find -S
     set -l i (contains -i -- $argv[1] $option_names); or return
     set option $owners[$i]
     set how $_clidoc_`__table[(math $option_at[$option] + 1)]
 end
 
-# The options that a word gives. 'option' is the last of them, 'how' tells its value, which stands in the word after
-# 'before', unless that is empty.
+# The options that a word gives. 'option' is the last of them, and 'how' says how its value is given. If 'before' is
+# not empty, the value is in the same word and follows 'before'.
 function _clidoc_`__give -S
     set before ''
     set -l parts (string split -m 1 = -- $argv[1])
@@ -711,13 +711,13 @@ function _clidoc_`__pass -S
         set value_of 0
         return
     end
-    if test $after -eq 1
+    if test $after_dashes -eq 1
         set place (math $place + 1)
         return
     end
     switch $argv[1]
         case --
-            set after 1
+            set after_dashes 1
             set -l i 0
             for entry in $places
                 set i (math $i + 1)
@@ -771,7 +771,7 @@ function _clidoc_`__files -S
     end
 end
 
-# Offers what an entry may be, after 'before'.
+# Offers what an entry may be, each after the text 'before'.
 function _clidoc_`__values -S
     set -l at (math $argv[1] + 4)
     while contains $_clidoc_`__table[$at] name among
@@ -812,8 +812,8 @@ function _clidoc_`__names -S
     end
 end
 
-# Offers the values that may stand at this place, and -- before those that stand after it. Each of those before has
-# one word at least, and one that is repeated has what is left.
+# Offers the values that may stand at this place, and -- where they may only follow it. Each of the places before has
+# one word at least, and a repeated one takes all the rest.
 function _clidoc_`__places -S
     set -l i 0
     set -l is_many 0
@@ -823,9 +823,9 @@ function _clidoc_`__places -S
         test $_clidoc_`__table[(math $entry + 1)] = many; and set is_many 1
         test $i -lt $place -a $is_many -eq 0; and continue
         set has_place 1
-        if test $_clidoc_`__table[$entry] = strict -a $after -eq 0
+        if test $_clidoc_`__table[$entry] = strict -a $after_dashes -eq 0
             _clidoc_`__say -- ''
-        else if test $after -eq 1; or not string match -q -- '-*' $current
+        else if test $after_dashes -eq 1; or not string match -q -- '-*' $current
             _clidoc_`__values $entry
         end
     end
@@ -852,7 +852,7 @@ function _clidoc_`__offer
     set -l before ''
     set -l how ''
     set -l place 1
-    set -l after 0
+    set -l after_dashes 0
     set -l option 0
     set -l value_of 0
     set -l has_place 0
@@ -864,7 +864,7 @@ function _clidoc_`__offer
     set before ''
     if test $value_of -gt 0
         _clidoc_`__values $option_at[$value_of]
-    else if test $after -eq 1
+    else if test $after_dashes -eq 1
         _clidoc_`__places
     else if string match -q -- '-*' $current; and test "$current" != -; and not _clidoc_`__find $current
         and _clidoc_`__give $current

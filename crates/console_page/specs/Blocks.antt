@@ -3,7 +3,7 @@ use Rattle.std.specs.Prelude.{ℕ, ◌-◌, List, [], ◌∷◌, ◌++◌, flat_
 use Rattle.page_model.specs.Content.{Line, BlockSaid, paragraph, code, bullets}
 use Rattle.console_page.specs.declared.texts.Role.TheVariants.{Code}
 use Rattle.console_page.specs.Texts.{shown, line_text}
-use Rattle.console_page.specs.Lines.{after, laid_out}
+use Rattle.console_page.specs.Lines.{prefixed, laid_out}
 
 -- the text of lines with a line break between two, as a document has it
 abbrev pub further_line : Line → List ℕ
@@ -18,7 +18,7 @@ abbrev pub paragraph_text : ℕ → List Line → List ℕ
 paragraph_text width lines = laid_out width (broken_lines lines) ++ codes "\n"
 
 abbrev pub item_text : ℕ → List Line → List ℕ
-item_text width item = after (codes "- ") (codes "  ") (paragraph_text (width - 2) item)
+item_text width item = prefixed (codes "- ") (codes "  ") (paragraph_text (width - 2) item)
 
 -- a line of code as it stands
 abbrev pub code_line : List ℕ → List ℕ
@@ -26,7 +26,7 @@ code_line line = shown Code line ++ codes "\n"
 
 -- code is indented by four columns
 abbrev pub code_text : List (List ℕ) → List ℕ
-code_text lines = after (codes "    ") (codes "    ") (flat_map code_line lines)
+code_text lines = prefixed (codes "    ") (codes "    ") (flat_map code_line lines)
 
 abbrev pub block_text : ℕ → BlockSaid → List ℕ
 block_text width (paragraph lines) = paragraph_text width lines

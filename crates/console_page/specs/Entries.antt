@@ -4,7 +4,7 @@ use Rattle.std.specs.List.{before_first}
 use Rattle.bpaf_doc.specs.Splitter.Chunks.{columns, has_some}
 use Rattle.page_model.specs.Content.{Line, EntrySaid}
 use Rattle.console_page.specs.Texts.{line_text}
-use Rattle.console_page.specs.Lines.{after, blanks, parting}
+use Rattle.console_page.specs.Lines.{prefixed, blanks, parting}
 use Rattle.console_page.specs.Blocks.{blocks_text}
 
 -- terms with a comma and a blank between two
@@ -55,8 +55,8 @@ gap column term = blanks (max (column - columns term) 2)
 -- a term and what is said, as they stand by themselves
 abbrev pub hung : ℕ → ℕ → List ℕ → List ℕ → List ℕ
 hung width column term help =
-    if is_beside width column term help then after (term ++ gap column term) (blanks column) help
-    else term ++ (codes "\n" ++ after (blanks column) (blanks column) help)
+    if is_beside width column term help then prefixed (term ++ gap column term) (blanks column) help
+    else term ++ (codes "\n" ++ prefixed (blanks column) (blanks column) help)
 
 abbrev pub entry_text : ℕ → ℕ → EntrySaid → List ℕ
 entry_text width column entry =

@@ -16,14 +16,14 @@ abbrev pub fronted : List ℕ → List ℕ → List ℕ
 fronted front [] = []
 fronted front (b ∷ line) = front ++ (b ∷ line)
 
--- The lines of a text, the first after one prefix and each further one after another: `first` stands before the next
+-- The lines of a text, the first with one prefix and each further one with a second: `first` stands before the next
 -- byte, unless that ends the line; after a newline it is the other prefix.
-abbrev pub after : List ℕ → List ℕ → List ℕ → List ℕ
-after first others [] = []
-after first others (b ∷ text) =
+abbrev pub prefixed : List ℕ → List ℕ → List ℕ → List ℕ
+prefixed first others [] = []
+prefixed first others (b ∷ text) =
     elim (b == 10) [
-      | true ↦ 10 ∷ after others others text
-      | false ↦ first ++ (b ∷ after [] others text)
+      | true ↦ 10 ∷ prefixed others others text
+      | false ↦ first ++ (b ∷ prefixed [] others text)
     ]
 
 -- an empty line, where one is wanted

@@ -3,7 +3,7 @@ use Rattle.std.specs.Prelude.{ℕ, ◌+◌, ◌-◌, Bool, true, false, not, Lis
 use Rattle.page_model.specs.Content.{FormSaid, PartSaid, heading, usage, block, entries}
 use Rattle.console_page.specs.declared.texts.Role.TheVariants.{Text}
 use Rattle.console_page.specs.Texts.{shown}
-use Rattle.console_page.specs.Lines.{after, parting}
+use Rattle.console_page.specs.Lines.{prefixed, parting}
 use Rattle.console_page.specs.Blocks.{block_text}
 use Rattle.console_page.specs.Entries.{entries_text, widest_of}
 use Rattle.console_page.specs.Usage.{usage_text}
@@ -23,9 +23,9 @@ help_column parts = fold widest_in 0 parts + 6
 abbrev pub part_text : ℕ → ℕ → List ℕ → List ℕ → PartSaid → List ℕ
 part_text width column word margin (heading rank title) = shown Text title ++ codes ":\n"
 part_text width column word margin (usage forms) =
-    after margin margin (usage_text (width - length margin) word forms)
+    prefixed margin margin (usage_text (width - length margin) word forms)
 part_text width column word margin (block shown) =
-    after margin margin (block_text (width - length margin) shown)
+    prefixed margin margin (block_text (width - length margin) shown)
 part_text width column word margin (entries list) = entries_text width column false list
 
 abbrev pub is_heading : PartSaid → Bool

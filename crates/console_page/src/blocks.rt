@@ -5,7 +5,7 @@ ghost use Rattle.page_model.specs.View.{block_of, line_of};
 ghost use Rattle.console_page.specs.Blocks.{block_text, blocks_text, broken_lines, code_line, code_text};
 ghost use Rattle.console_page.specs.Blocks.{further_block, further_line, item_text, paragraph_text};
 
-use crate::lines::{lay_out, push_after};
+use crate::lines::{lay_out, push_prefixed};
 use crate::texts::{Role, push_line};
 use page_model::replaced::push_replaced;
 use page_model::{Block, Line};
@@ -66,7 +66,7 @@ fn push_item<A: Allocator + Copy, B: Allocator>(
 {
     let mut text = String::new(alloc);
     push_paragraph(&mut text, alloc, item, width.saturating_sub(2))?;
-    push_after(out, text.as_str(), "- ", "  ")
+    push_prefixed(out, text.as_str(), "- ", "  ")
 }
 
 fn push_items<A: Allocator + Copy, B: Allocator>(
@@ -111,7 +111,7 @@ fn push_code<A: Allocator + Copy>(
 {
     let mut text = String::new(alloc);
     push_code_lines(&mut text, lines)?;
-    push_after(out, text.as_str(), "    ", "    ")
+    push_prefixed(out, text.as_str(), "    ", "    ")
 }
 
 /// Writes a block at the margin.

@@ -8,7 +8,7 @@ ghost use Rattle.console_page.specs.Lines.{blanks};
 ghost use Rattle.console_page.specs.Entries.{hung, is_beside, narrow, term_text, terms_front, terms_text, widest_of};
 
 use crate::blocks::push_blocks;
-use crate::lines::{columns_of, parting, push_after, push_blanks};
+use crate::lines::{columns_of, parting, push_blanks, push_prefixed};
 use crate::texts::push_line;
 use page_model::{Block, Entry, Line};
 use std::alloc::{AllocError, Allocator};
@@ -141,11 +141,11 @@ fn push_hung<A: Allocator>(
 {
     if is_beside(width, column, term.as_str(), help) {
         push_gap(&mut term, column)?;
-        return push_after(out, help, term.as_str(), margin);
+        return push_prefixed(out, help, term.as_str(), margin);
     }
     out.push_str(term.as_str())?;
     out.push_str("\n")?;
-    push_after(out, help, margin, margin)
+    push_prefixed(out, help, margin, margin)
 }
 
 fn push_entry<A: Allocator + Copy, B: Allocator>(

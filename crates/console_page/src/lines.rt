@@ -4,7 +4,7 @@ ghost use Rattle.std.specs.Prelude.{◌≡◌, ◌++◌, IfOk, OnOk, string_byte
 ghost use Rattle.std.specs.Int.{is_in_range};
 ghost use Rattle.std.specs.List.{list_all};
 ghost use Rattle.bpaf_doc.specs.Splitter.Chunks.{columns};
-ghost use Rattle.console_page.specs.Lines.{after, blanks, fronted, laid_out, parting};
+ghost use Rattle.console_page.specs.Lines.{prefixed, blanks, fronted, laid_out, parting};
 
 use bpaf_doc::buffer::Doc;
 use std::alloc::{AllocError, Allocator};
@@ -42,16 +42,16 @@ fn push_fronted<A: Allocator>(
     out.push_str(line)
 }
 
-/// Writes the lines of a text, the first after one prefix and each further one after another. Nothing stands before an
-/// empty line.
-pub fn push_after<A: Allocator>(
+/// Writes the lines of a text, the first with one prefix and each further one with a second. An empty line has no
+/// prefix.
+pub fn push_prefixed<A: Allocator>(
     out: &mut String<A>,
     text: &str,
     first: &str,
     others: &str,
 ) -> Result<(), AllocError>
     ensures { OnOk result (string_bytes out.new
-        ≡ string_bytes out.old ++ after first.now others.now text.now) }
+        ≡ string_bytes out.old ++ prefixed first.now others.now text.now) }
 {
     let mut front = first;
     let mut rest = text;

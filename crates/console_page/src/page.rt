@@ -11,7 +11,7 @@ ghost use Rattle.console_page.specs.Promises.{page_fault, usage_fault};
 
 use crate::blocks::push_block;
 use crate::entries::{push_entries, widest_of};
-use crate::lines::{parting, push_after};
+use crate::lines::{parting, push_prefixed};
 use crate::texts::Role;
 use crate::usage::push_usage;
 use page_model::permitted::{are_permitted, are_permitted_forms, are_permitted_parts};
@@ -74,11 +74,11 @@ fn push_part<A: Allocator + Copy, B: Allocator>(
         }
         Part::Usage(forms) => {
             push_usage(&mut text, alloc, width, sheet.word, forms.as_slice())?;
-            push_after(out, text.as_str(), margin, margin)
+            push_prefixed(out, text.as_str(), margin, margin)
         }
         Part::Block(block) => {
             push_block(&mut text, alloc, block, width)?;
-            push_after(out, text.as_str(), margin, margin)
+            push_prefixed(out, text.as_str(), margin, margin)
         }
         Part::Entries(entries) => {
             push_entries(out, alloc, sheet.width, sheet.column, entries.as_slice())

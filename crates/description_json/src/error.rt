@@ -50,8 +50,8 @@ pub enum Why {
     NoComma(char),
     /// A comma stands before this closing bracket.
     LastComma,
-    /// The object at the top ends before this.
-    After,
+    /// Something follows the object at the top.
+    Trailing,
     /// This is not an escape.
     Escape,
     /// This escape is half of a character, and the other half is not beside it.
@@ -74,25 +74,25 @@ impl Display for Why {
     fn fmt<W: fmt::Write>(&self, f: &mut fmt::Formatter<W>) -> fmt::Result {
         match self {
             Why::NotClosed(mark) => write!(f, "{mark} is not closed"),
-            Why::NoObject => f.write_str("no object of JSON; { has to stand here"),
+            Why::NoObject => f.write_str("not a JSON object; { has to stand here"),
             Why::NoKey => f.write_str("a key in double quotes has to stand here"),
-            Why::NoColon => f.write_str("a colon has to stand after this key"),
-            Why::NoValue => f.write_str("a value of JSON has to stand here"),
+            Why::NoColon => f.write_str("a colon has to follow this key"),
+            Why::NoValue => f.write_str("a JSON value has to stand here"),
             Why::NoComma(closing) => write!(f, "a comma or {closing} has to stand here"),
             Why::LastComma => f.write_str("no comma may stand before this bracket"),
-            Why::After => f.write_str("nothing may stand after the object"),
-            Why::Escape => f.write_str("no escape of JSON"),
+            Why::Trailing => f.write_str("nothing may follow the object"),
+            Why::Escape => f.write_str("not an escape of JSON"),
             Why::Surrogate => f.write_str("half of a surrogate pair, without the other half"),
             Why::Control => {
                 f.write_str(
                     "a control character in a string; write \\n for a newline, \\t for a tab",
                 )
             }
-            Why::Twice => f.write_str("this key stands in the object already"),
-            Why::Deep => f.write_str("arrays and objects may stand 80 deep in one another"),
+            Why::Twice => f.write_str("this key is already in the object"),
+            Why::Deep => f.write_str("arrays and objects may be nested at most 80 deep"),
             Why::Null => f.write_str("null is no value here; leave the key out"),
             Why::Number => f.write_str("this number does not fit 64 bits"),
-            Why::NoJson => f.write_str("no JSON"),
+            Why::NoJson => f.write_str("not JSON"),
         }
     }
 }

@@ -134,7 +134,7 @@ impl<'s> Walk<'s> {
         match self.awaited() {
             Awaited::Key => {}
             Awaited::Object => return Ok(Some(Why::NoObject)),
-            Awaited::Nothing => return Ok(Some(Why::After)),
+            Awaited::Nothing => return Ok(Some(Why::Trailing)),
             Awaited::Value | Awaited::Element => return Ok(Some(Why::NoValue)),
         }
         let Some(open) = self.open.last_mut() else {
@@ -163,7 +163,7 @@ impl<'s> Walk<'s> {
             Awaited::Element => None,
             Awaited::Key => Some(no_key),
             Awaited::Object => Some(Why::NoObject),
-            Awaited::Nothing => Some(Why::After),
+            Awaited::Nothing => Some(Why::Trailing),
         }
     }
 
@@ -197,7 +197,7 @@ impl<'s> Walk<'s> {
             Awaited::Element => Some(Why::NoComma(']')),
             Awaited::Value => Some(Why::NoValue),
             Awaited::Object => Some(Why::NoObject),
-            Awaited::Nothing => Some(Why::After),
+            Awaited::Nothing => Some(Why::Trailing),
         }
     }
 
@@ -239,7 +239,7 @@ impl<'s> Walk<'s> {
             Awaited::Object => Why::NoObject,
             Awaited::Key => Why::NoKey,
             Awaited::Value | Awaited::Element => Why::NoValue,
-            Awaited::Nothing => Why::After,
+            Awaited::Nothing => Why::Trailing,
         }
     }
 
@@ -249,7 +249,7 @@ impl<'s> Walk<'s> {
             Awaited::Key | Awaited::Value => Why::NoComma('}'),
             Awaited::Element => Why::NoComma(']'),
             Awaited::Object => Why::NoObject,
-            Awaited::Nothing => Why::After,
+            Awaited::Nothing => Why::Trailing,
         }
     }
 }

@@ -146,7 +146,7 @@ name = 'a'
 [[option]]
 short = 'b'
 value = "A\u2066B"
-=> option 1 (-b): value holds a character that is not seen
+=> option 1 (-b): value holds an invisible character
 
 name = 'a'
 [[positional]]
@@ -185,19 +185,19 @@ title = "\uffff"
 
 name = 'a'
 title = "a\u202eb"
-=> title holds a character that is not seen
+=> title holds an invisible character
 
 name = 'a'
 date = "\ufeff"
-=> date holds a character that is not seen
+=> date holds an invisible character
 
 name = 'a'
 vendor = "\u206f"
-=> vendor holds a character that is not seen
+=> vendor holds an invisible character
 
 name = 'a'
 vendor = "\u205f\u2070\ufefe\ufefd\u2029\u202f\U000dfffd\U000e1000\u27ff\u2801\ufff8\ufffc"
-=> vendor holds a character that is not seen
+=> vendor holds an invisible character
 
 name = 'a'
 vendor = "\u205f\u2070\ufefe\ufefd\u2029\u202f\U000dfffd\U000e1000\u27ff\u2801\ufffc"
@@ -209,13 +209,13 @@ vendor = "\u2764\ufe0f\u845b\U000e0100\u1820\u180b"
 
 name = 'a'
 title = "\u3164"
-=> title holds a character that is not seen
+=> title holds an invisible character
 
 name = 'a'
 [[option]]
 short = 'b'
 value = "A\u00ad"
-=> option 1 (-b): value holds a character that is not seen
+=> option 1 (-b): value holds an invisible character
 
 name = 'a'
 title = ''
@@ -560,22 +560,22 @@ long = 'aaaaaaaaaaaaaaaaaaaaaaaaaaaaaaaaaaaaaaaaaaaaaaaaaaaaaaaaaaaaaaaaaaaaaaaa
 => option 1 (--aaaaaaaaaaaaaaaaaaaaaaaaaaaaaaaaaaaaaaaaaaaaaaaaaaaaaaaaaaaa..): long is over 200 bytes long
 
 name = "a\u200b"
-=> name holds a character that is not seen
+=> name holds an invisible character
 
 name = "\u200cb"
-=> name holds a character that is not seen
+=> name holds an invisible character
 
 name = "b\u200f"
-=> name holds a character that is not seen
+=> name holds an invisible character
 
 name = "\U000e0061"
-=> name holds a character that is not seen
+=> name holds an invisible character
 
 name = "\U000e007f"
-=> name holds a character that is not seen
+=> name holds an invisible character
 
 name = "a\u2060"
-=> name holds a character that is not seen
+=> name holds an invisible character
 
 name = "\u2010\u200a"
 => name holds a blank
@@ -584,43 +584,43 @@ name = "\u2010\u2070\U000e1000"
 => read
 
 name = "a\u00adb"
-=> name holds a character that is not seen
+=> name holds an invisible character
 
 name = "a\u034f"
-=> name holds a character that is not seen
+=> name holds an invisible character
 
 name = "\u115f"
-=> name holds a character that is not seen
+=> name holds an invisible character
 
 name = "\u1160"
-=> name holds a character that is not seen
+=> name holds an invisible character
 
 name = "\u17b5"
-=> name holds a character that is not seen
+=> name holds an invisible character
 
 name = "a\u180e"
-=> name holds a character that is not seen
+=> name holds an invisible character
 
 name = "\u3164"
-=> name holds a character that is not seen
+=> name holds an invisible character
 
 name = "\uffa0"
-=> name holds a character that is not seen
+=> name holds an invisible character
 
 name = "a\ufe0f"
-=> name holds a character that is not seen
+=> name holds an invisible character
 
 name = "a\ufff9"
-=> name holds a character that is not seen
+=> name holds an invisible character
 
 name = "\u2800"
-=> name holds a character that is not seen
+=> name holds an invisible character
 
 name = "a\U0001d17a"
-=> name holds a character that is not seen
+=> name holds an invisible character
 
 name = "a\U000e0fff"
-=> name holds a character that is not seen
+=> name holds an invisible character
 
 name = 'a\'
 => name holds a backslash
@@ -680,7 +680,7 @@ name = 'a'
 [[command]]
 name = 'b'
 short = 'bb'
-=> command 1 (b): short is not one character; longer names are long, or aliases of a command
+=> command 1 (b): short is not one character; write a longer name as long, or in aliases of a command
 
 name = 'a'
 [[option]]
@@ -740,7 +740,7 @@ short = "\ufdd1"
 name = 'a'
 [[option]]
 short = ''
-=> option 1: short is not one character; longer names are long, or aliases of a command
+=> option 1: short is not one character; write a longer name as long, or in aliases of a command
 
 name = 'a'
 [[option]]
@@ -1735,7 +1735,7 @@ short = 'dd'
 => option 1 (-b): long begins with -; write it without dashes
 option 2 (-b): long begins with -; write it without dashes
 option 3 (--c[): syntax holds a bracket that is in no pair
-command 2 (e): short is not one character; longer names are long, or aliases of a command
+command 2 (e): short is not one character; write a longer name as long, or in aliases of a command
 
 # The first 20 are told, and how many more there are.
 name = 'a'

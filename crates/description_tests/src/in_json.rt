@@ -46,22 +46,18 @@ fn texts_in_json_give_tables(rt: HostRuntime) {
 
 // A text that gives no table, cut at the place of its fault, and what is reported.
 const FAULTS: &[(&str, &str, &str)] = &[
-    (" ", "", "no object of JSON; { has to stand here"),
-    ("", "[1]", "no object of JSON; { has to stand here"),
-    ("", "name = 'app'", "no object of JSON; { has to stand here"),
+    (" ", "", "not a JSON object; { has to stand here"),
+    ("", "[1]", "not a JSON object; { has to stand here"),
+    ("", "name = 'app'", "not a JSON object; { has to stand here"),
     ("{", "name: 1}", "a key in double quotes has to stand here"),
     ("{", "1: 1}", "a key in double quotes has to stand here"),
-    ("{", "\"a\" 1}", "a colon has to stand after this key"),
-    ("{", "\"a\"}", "a colon has to stand after this key"),
-    ("{\"a\": ", "}", "a value of JSON has to stand here"),
-    ("{\"a\": ", "True}", "a value of JSON has to stand here"),
-    ("{\"a\": ", "01}", "a value of JSON has to stand here"),
-    ("{\"a\": [", ", 1]}", "a value of JSON has to stand here"),
-    (
-        "{\"a\": [",
-        "\"b\": 1]}",
-        "a value of JSON has to stand here",
-    ),
+    ("{", "\"a\" 1}", "a colon has to follow this key"),
+    ("{", "\"a\"}", "a colon has to follow this key"),
+    ("{\"a\": ", "}", "a JSON value has to stand here"),
+    ("{\"a\": ", "True}", "a JSON value has to stand here"),
+    ("{\"a\": ", "01}", "a JSON value has to stand here"),
+    ("{\"a\": [", ", 1]}", "a JSON value has to stand here"),
+    ("{\"a\": [", "\"b\": 1]}", "a JSON value has to stand here"),
     (
         "{\"a\": 1 ",
         "\"\\q\": 2}",
@@ -75,8 +71,8 @@ const FAULTS: &[(&str, &str, &str)] = &[
         "]}",
         "no comma may stand before this bracket",
     ),
-    ("{} ", "{}", "nothing may stand after the object"),
-    ("{}", "}", "nothing may stand after the object"),
+    ("{} ", "{}", "nothing may follow the object"),
+    ("{}", "}", "nothing may follow the object"),
     ("", "{\"a\": 1", "{ is not closed"),
     ("", "{\"a\": 1, ", "{ is not closed"),
     ("{\"a\": ", "[{}, 2\n", "[ is not closed"),
@@ -86,8 +82,8 @@ const FAULTS: &[(&str, &str, &str)] = &[
         "\n\"}",
         "a control character in a string; write \\n for a newline, \\t for a tab",
     ),
-    ("{\"a\": \"\\\\", "\\q\"}", "no escape of JSON"),
-    ("{\"a\": \"\\u00e9", "\\u12g4\"}", "no escape of JSON"),
+    ("{\"a\": \"\\\\", "\\q\"}", "not an escape of JSON"),
+    ("{\"a\": \"\\u00e9", "\\u12g4\"}", "not an escape of JSON"),
     (
         "{\"a\": \"\\ud83d\\ude00",
         "\\ud83d\\u0041\"}",
@@ -101,7 +97,7 @@ const FAULTS: &[(&str, &str, &str)] = &[
     (
         "{\"a\": {\"a\": 1}, ",
         "\"\\u0061\": 2}",
-        "this key stands in the object already",
+        "this key is already in the object",
     ),
     (
         "{\"a\": [",
@@ -169,7 +165,7 @@ fn told_of_nested(alloc: Global, count: usize) -> Option<String> {
 fn an_object_is_at_most_80_deep(rt: HostRuntime) {
     assert!(rt; told_of_nested(rt.alloc(), 79).is_none());
     let told = told_of_nested(rt.alloc(), 80).expect(&rt, "a fault");
-    assert!(rt; told.as_str() == "arrays and objects may stand 80 deep in one another");
+    assert!(rt; told.as_str() == "arrays and objects may be nested at most 80 deep");
 }
 
 const TEXT: &str =

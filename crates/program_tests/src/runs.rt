@@ -146,7 +146,7 @@ clidoc|--width=1|full|--width=2
 clidoc: --width stands twice
 
 clidoc|full|--command
-clidoc: no value after --command
+clidoc: --command needs a value
 
 clidoc|man|--width=3|--command=x
 clidoc: --width is no option of man; it goes with usage, full and brief
@@ -233,7 +233,7 @@ clidoc|html|--deep|--date=x
 clidoc: --deep is no option of html; it goes with man and markdown
 
 clidoc|man|--date
-clidoc: no value after --date
+clidoc: --date needs a value
 
 clidoc|--vendor=a|man|--vendor|b
 clidoc: --vendor stands twice

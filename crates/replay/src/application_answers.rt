@@ -124,5 +124,5 @@ fn write_bare_manual(words: &mut Words, tree: &Meta, info: &Info) {
         tree,
         info,
     );
-    words.page_after(&[APOSTROPHE_PREABMLE, ".TH app 1 - - \"\"\n"], page);
+    words.page_without_heads(&[APOSTROPHE_PREABMLE, ".TH app 1 - - \"\"\n"], page);
 }

@@ -133,7 +133,7 @@ fn add_pages(words: &mut Words, document: &Doc, lines: &mut Lines) {
         words.end(key, lines);
     }
     let page = document.render_roff(Roff::new(words.alloc));
-    words.page_after(&[APOSTROPHE_PREABMLE], page);
+    words.page_without_heads(&[APOSTROPHE_PREABMLE], page);
     words.end("rf", lines);
     write_first_line(words, document);
     words.end("fl", lines);

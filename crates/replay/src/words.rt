@@ -102,13 +102,13 @@ impl Words {
 
     /// Prints the text that a call made.
     pub fn page(&mut self, page: Result<String, AllocError>) {
-        self.page_after(&[], page);
+        self.page_without_heads(&[], page);
     }
 
     /// Prints the text that a call made, without these texts at its head.
-    pub fn page_after(&mut self, heads: &[&str], page: Result<String, AllocError>) {
+    pub fn page_without_heads(&mut self, heads: &[&str], page: Result<String, AllocError>) {
         match page {
-            Ok(page) => self.text(" ", after(heads, page.as_str())),
+            Ok(page) => self.text(" ", without_heads(heads, page.as_str())),
             Err(_) => self.fail(Bad::Memory),
         }
     }
@@ -185,7 +185,7 @@ impl Words {
 }
 
 // A text without these texts at its head.
-fn after<'a>(heads: &[&str], text: &'a str) -> &'a str {
+fn without_heads<'a>(heads: &[&str], text: &'a str) -> &'a str {
     let mut rest = text;
     for head in heads {
         rest = rest.strip_prefix(*head).unwrap_or(rest);

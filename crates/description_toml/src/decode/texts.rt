@@ -99,7 +99,7 @@ fn is_hidden(character: char) -> bool
     is_unseen(character) && !is_joiner(character)
 }
 
-const HIDDEN: &str = " holds a character that is not seen";
+const HIDDEN: &str = " holds an invisible character";
 
 fn refused_in_a_word(character: char) -> Refusal
     ensures { is_none result ≡ is_word_character character }
@@ -192,7 +192,7 @@ pub fn refused_as_character(text: &str) -> &'static str {
     if text.as_bytes().first() == Some(&b'-') {
         WITHOUT_DASHES
     } else {
-        " is not one character; longer names are long, or aliases of a command"
+        " is not one character; write a longer name as long, or in aliases of a command"
     }
 }
 

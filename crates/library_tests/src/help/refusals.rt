@@ -118,8 +118,8 @@ fn a_refused_call_leaves_what_it_was_lent(rt: HostRuntime) {
     }
 }
 
-// A tree, and a call after one that shows what stands before it.
-const BEHIND: &[(&str, Call, Call)] = &[
+// A tree, a call that shows what stands before, and the call after it.
+const AFTER_A_CALL: &[(&str, Call, Call)] = &[
     (PARTS, Call::List, Call::Append),
     (
         APPLICATION,
@@ -145,13 +145,13 @@ fn shows_the_same(rt: &impl Abort, out: Global, text: &str, one: Call, other: Ca
 
 #[test]
 fn a_refused_call_leaves_lists(rt: HostRuntime) {
-    for &(text, first, call) in BEHIND {
+    for &(text, first, call) in AFTER_A_CALL {
         assert!(rt;
             takes_room_after(&rt, rt.alloc(), text, first, call),
             "{text}"
         );
     }
-    let (_, section, copy) = BEHIND[2];
+    let (_, section, copy) = AFTER_A_CALL[2];
     assert!(rt; shows_the_same(&rt, rt.alloc(), APPLICATION, section, copy));
 }
 

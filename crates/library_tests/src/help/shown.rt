@@ -99,7 +99,7 @@ fn all_forms_of_a_document_and_a_tree(rt: HostRuntime) {
 // What stands before and after the words of a title line, in a manual page of nothing.
 const BEFORE: &str = ".ie \\n(.g .ds Aq \\(aq\n.el .ds Aq '\n.TH a\\ b\\\\ ";
 
-const BEHIND: &str = "\n.SH SYNOPSIS\n\\fBa b\\\\\\fP\\fR \\fP";
+const AFTER: &str = "\n.SH SYNOPSIS\n\\fBa b\\\\\\fP\\fR \\fP";
 
 fn titles(rt: &impl Abort, out: Global, words: ManualTitle<'_>, want: &str) -> bool {
     let info = info(rt, out, BARE);
@@ -108,7 +108,7 @@ fn titles(rt: &impl Abort, out: Global, words: ManualTitle<'_>, want: &str) -> b
         .expect(rt, "a page");
     drop(info);
     let is_that = match page.as_str().strip_prefix(BEFORE) {
-        Some(rest) => rest.strip_suffix(BEHIND) == Some(want),
+        Some(rest) => rest.strip_suffix(AFTER) == Some(want),
         None => false,
     };
     drop(page);

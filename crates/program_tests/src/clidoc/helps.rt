@@ -159,7 +159,7 @@ const WRONG: &[(&str, &[u8], &[u8], &str)] = &[
         DESCRIPTION,
         b"name = 1",
         "-:1:1: name is no text
-clidoc: HELP stands before FILE, and HELP looks like a description",
+clidoc: HELP looks like a description; HELP comes first: against HELP FILE",
     ),
     (
         "clidoc|against|my.txt",
@@ -224,7 +224,7 @@ const DRAFTS: &[Drafting] = &[
         b"  -v  Talk more\n",
         1,
         b"",
-        "-: no usage names the program; --name NAME does",
+        "-: no usage line names the program; give the name with --name NAME",
     ),
     (
         "clidoc|draft|--name|-x",

@@ -99,11 +99,11 @@ const FAULTS: &str = "-:1:1: name is missing
 ====
 {name: \"app\"}
 ----
--:1:2: a colon has to stand after this key
+-:1:2: a colon has to follow this key
 ====
 {\"name\" \"app\"}
 ----
--:2:10: a value of JSON has to stand here
+-:2:10: a JSON value has to stand here
 ====
 
 {\"name\": 'app'}
@@ -118,11 +118,11 @@ const FAULTS: &str = "-:1:1: name is missing
 {\"name\": \"app\",
 }
 ----
--:1:17: nothing may stand after the object
+-:1:17: nothing may follow the object
 ====
 {\"name\": \"app\"} x
 ----
--:1:12: no escape of JSON
+-:1:12: not an escape of JSON
 ====
 {\"name\": \"a\\q\"}
 ----
@@ -134,7 +134,7 @@ const FAULTS: &str = "-:1:1: name is missing
 ====
 {\"name\": \"a\tb\"}
 ----
--:3:3: this key stands in the object already
+-:3:3: this key is already in the object
 ====
 {\"name\": \"a\",\r
 \r
@@ -239,7 +239,7 @@ fn nested_answer(
     Ok(answers(global, "clidoc|usage", input.as_bytes(), status, printed))
 }
 
-const TOO_DEEP: &str = "-:41:1: arrays and objects may stand 80 deep in one another";
+const TOO_DEEP: &str = "-:41:1: arrays and objects may be nested at most 80 deep";
 
 #[test]
 fn commands_in_json_stand_in_one_another(rt: HostRuntime) {

@@ -1,7 +1,7 @@
 use Rattle.std.proofs.Common.{arith, string_bytes, rules, Some, None}
 use Rattle.std.proofs.lemmas.Str.Pattern.{split_parts}
 use Rattle.console_page.proofs.After.{line_step, last_step}
-use Rattle.console_page.proofs.lines.push_after.Goals as goal
+use Rattle.console_page.proofs.lines.push_prefixed.Goals as goal
 
 pub loop-line-preserved : goal.loop-line-preserved
 loop-line-preserved g c =
