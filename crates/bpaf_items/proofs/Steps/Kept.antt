@@ -28,9 +28,6 @@ mutual
 pub ungrouped : (t : Tree) (d : List Part) → entries_of false (subsection t d) ≡ entries_of false t
 ungrouped t d = grind (arith, no_entries)
 
-pub unnoted : (g : Bool) (t : Tree) (d : List Part) → front_type t ≡ None → if_typed (front_type t) (λ k. entries_of g t ++ note d k ∷ []) ≡ entries_of g t
-unnoted g t d e = ap (λ o. if_typed o (λ k. entries_of g t ++ note d k ∷ [])) e ∙ sym (no_entries g t e)
-
 pub option_or-assoc : (o p q : Option HiTy) → option_or (option_or o p) q ≡ option_or o (option_or p q)
 option_or-assoc o p q = grind arith
 

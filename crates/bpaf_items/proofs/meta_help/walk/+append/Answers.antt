@@ -1,5 +1,5 @@
-use Rattle.std.specs.Prelude.{◌++◌, ◌+◌, ◌≡◌, ◌⊎◌}
-use Rattle.bpaf_items.proofs.Words.{Some, false, List, ◌∙◌, ap, sym, subst, refl, drop, length, map, arith, rules, Box, OnOk, IfOk, at_drop_more, Tree, optional, required, many, subsection, custom_usage, strict, tree_of, trees_of, OnOk-map, front_type, first_front_type, entries_of, entries_of_parts, entry_of, adjacent_start, adjacent_stop, group_end, group_start, if_typed}
+use Rattle.std.specs.Prelude.{◌++◌, ◌+◌, ◌∷◌, ◌≡◌, ◌⊎◌}
+use Rattle.bpaf_items.proofs.Words.{Some, false, List, [], ◌∙◌, ap, sym, subst, refl, drop, length, map, arith, rules, Box, OnOk, IfOk, at_drop_more, Tree, optional, required, many, subsection, custom_usage, strict, tree_of, trees_of, OnOk-map, front_type, first_front_type, entries_of, entries_of_parts, entry_of, adjacent_start, adjacent_stop, group_end, group_start, if_typed}
 use Rattle.bpaf_doc.specs.declared.buffer.Doc.{Doc}
 use Rattle.bpaf_meta.specs.declared.item.Item.{the_lemmas}
 use Rattle.bpaf_meta.specs.declared.meta.Meta.{Meta}
@@ -7,7 +7,7 @@ use Rattle.bpaf_meta.specs.declared.meta.Meta.TheVariants.{Optional, Required, M
 use Rattle.bpaf_items.specs.declared.meta_help.entry.HiTy.TheVariants as ty
 use Rattle.bpaf_items.specs.declared.meta_help.entry.HelpItem.TheVariants as entry
 use Rattle.bpaf_items.proofs.Steps.Fronts.{front_whole, front_then, append_turn}
-use Rattle.bpaf_items.proofs.Steps.Kept.{type_turn, ungrouped, unnoted, away_front, closed_front, closed_entries}
+use Rattle.bpaf_items.proofs.Steps.Kept.{type_turn, ungrouped, no_entries, away_front, closed_front, closed_entries}
 use Rattle.bpaf_items.proofs.meta_help.walk.+append.Goals as goal
 
 pub append_parts-loop-part-init : goal.append_parts-loop-part-init
@@ -80,7 +80,7 @@ append_group-returns-then-not-groups-clause-entries g t c =
     OnOk-map {P = map entry_of c.append.new.items.items ≡ old ++ entries_of false inner} c.append.result (λ e. e ∙ ap (λ es. old ++ es) (sym (ungrouped inner c.args.help.now) ∙ ap (λ b. entries_of b (subsection inner c.args.help.now)) (sym c.if-not-groups.true))) c.append.ensures.entries
 
 pub append_noted-returns-in_default-clause-entries : goal.append_noted-returns-in_default-clause-entries
-append_noted-returns-in_default-clause-entries g t c = grind (arith, unnoted)
+append_noted-returns-in_default-clause-entries g t c = grind (arith, no_entries c.args.groups (tree_of c.args.inner.now))
 
 -- a tree around another one, except a block of its own
 tree_around : {A : Type 0} (m : Meta A) (inner : Box (Meta A) A) → (m ≡ Optional inner) ⊎ ((m ≡ Required inner) ⊎ ((m ≡ Many inner) ⊎ (((d : Box (Doc A) A) × (m ≡ CustomUsage inner d)) ⊎ (m ≡ Strict inner)))) → {X : Type 0} (f : Tree → X)
