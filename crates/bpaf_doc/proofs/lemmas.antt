@@ -1,4 +1,5 @@
--- Lemmas by the module that they are about. What proves one function stands beside this folder, under the function's path.
+-- Lemmas by the module that they are about. What proves one function stands beside
+-- this folder, under the function's path.
 pub mod Lists
 pub mod Snippets
 pub mod Buffer

@@ -29,7 +29,8 @@ abbrev pub is_brace : Option ℕ → Bool
 is_brace None = false
 is_brace (Some byte) = byte == open_brace
 
--- JSON where the name of the file ends in `.json`, and where the text begins, after white space, with a brace, as no TOML does
+-- JSON where the name of the file ends in `.json`, and where the text begins,
+-- after white space, with a brace, as no TOML does
 abbrev pub notation_of : (file text : List ℕ) → Notation
 notation_of file text = if ends_with ◌==◌ file (codes ".json") || is_brace (first_ink text) then Json else Toml
 
@@ -66,8 +67,8 @@ pub record IsNoText (input : List ℕ) (place : Place) : Type 0 where
   pub line : place.line ≡ line_after (take (utf8_valid_len input) input)
   pub column : place.column ≡ column_after (take (utf8_valid_len input) input)
 
--- The text is not TOML, the error has a span in it, and the place is where this span begins. The kit says no more of an error: that
--- reading this text gave it is only tested.
+-- The text is not TOML, the error has a span in it, and the place is where this span begins. The kit says no more of
+-- an error: that reading this text gave it is only tested.
 pub record IsNoTomlText (text : List ℕ) (place : Place) (error : Error) : Type 0 where
   pub refused : parse_document text ≡ None
   pub not_memory : ¬ IsMemory error

@@ -21,8 +21,8 @@ use Rattle.clidoc_engine.specs.Words.{PageSaid, console, html, markdown, man, co
 abbrev pub AtLevel : (commands : List (List ℕ)) → DescriptionSaid → (SubjectSaid → Type 0) → Type 0
 AtLevel commands d P = (s : SubjectSaid) × (level_at commands d ≡ Some s) × P s
 
--- What a reader of the page's medium reads in the bytes: what the page says. None reads a page on a console. Of differences it is which
--- names there are.
+-- What a reader of the page's medium reads in the bytes: what the page says. None reads a page on a console. Of
+-- differences it is which names there are.
 abbrev pub IsRendering : PageSaid → DescriptionSaid → List ℕ → Type 0
 IsRendering (console form commands width) d output = ⊤
 IsRendering (html extent commands given) d output = AtLevel commands d (λ s. IsHtmlOf d extent given s output)
@@ -71,7 +71,8 @@ needs_advice p written = not (written == 0) && is_of_no_name p
 abbrev pub HasCharacter : Option PageFault → PageError → Type 0
 HasCharacter fault error = (fault ≡ Some Character) × (error ≡ making.Character)
 
--- The page of what the commands lead to is not written, and this says why. Of a page in HTML it is the first thing that no such page has.
+-- The page of what the commands lead to is not written, and this says why. Of a page
+-- in HTML it is the first thing that no such page has.
 abbrev pub IsUnwritable : PageSaid → DescriptionSaid → PageError → Type 0
 IsUnwritable (console form commands width) d error = AtLevel commands d (λ s. HasCharacter (console_page_fault form d.words s) error)
 IsUnwritable (html extent commands given) d error = AtLevel commands d (λ s. html_page_fault d given s ≡ Some error)

@@ -1,4 +1,5 @@
--- What a run writes. A writer tells which bytes it holds, here before and after the run; of one that doesn't tell, nothing is said.
+-- What a run writes. A writer tells which bytes it holds, here before and after
+-- the run; of one that doesn't tell, nothing is said.
 use Rattle.std.specs.Prelude.{◌≡◌, ℕ, List, Option, None}
 use Rattle.std.specs.Io.KnownBytes.{Appends}
 use Rattle.watched.specs.Watched.{AppendsPart}

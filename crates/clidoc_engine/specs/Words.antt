@@ -39,7 +39,8 @@ pub data ChoiceSaid : Type 0 where
 
 -- ---- what each word gives
 
--- the words that stand for themselves, the values of each option, each `--deep`, `--fragment` and `--strict`, and the words after `--`, in order
+-- the words that stand for themselves, the values of each option, each `--deep`,
+-- `--fragment` and `--strict`, and the words after `--`, in order
 pub record Given : Type 0 where
   pub plain : List (List ℕ)
   pub commands : List (List ℕ)
@@ -114,8 +115,8 @@ abbrev pub other_kind : List ℕ → Kind
 other_kind word =
     if bytes_eq word (codes "-") || not (slice_index word 0 == 45) then plain else joined_kind (Command ∷ Width ∷ Into ∷ Date ∷ Vendor ∷ Name ∷ []) word
 
--- a word that begins with `-` is `--`, or `-` alone, or `--deep`, or `--fragment`, or `--strict`, or an option with a value, which follows `=` or is the next word, whatever
--- that is; any other such word is unknown
+-- a word that begins with `-` is `--`, or `-` alone, or `--deep`, or `--fragment`, or `--strict`, or an option with a
+-- value, which follows `=` or is the next word, whatever that is; any other such word is unknown
 abbrev pub kind_of : List ℕ → Kind
 kind_of word =
     if bytes_eq word (codes "--") then dashes else
@@ -210,8 +211,8 @@ HasNoTitle g = (g.dates ≡ []) × (g.vendors ≡ [])
 abbrev pub HasNoLevel : Given → Type 0
 HasNoLevel g = (g.commands ≡ []) × (g.widths ≡ []) × (g.deeps ≡ []) × (g.fragments ≡ [])
 
--- each option is one that a page takes: none says where pages are written, how a description is judged, or what a program
--- is called
+-- each option is one that a page takes: none says where pages are written, how a
+-- description is judged, or what a program is called
 abbrev pub HasOnlyPageOptions : Given → Type 0
 HasOnlyPageOptions g = (g.folders ≡ []) × (g.stricts ≡ []) × (g.names ≡ [])
 

@@ -29,7 +29,8 @@ use Rattle.command_pages.specs.declared.given.ConsoleForm.TheVariants.{Usage, Fu
 
 -- ---- what is given
 
--- the words of the title line of a manual page, and of the foot of a page in HTML, that take the place of the description's
+-- the words of the title line of a manual page, and of the foot of a page in HTML,
+-- that take the place of the description's
 pub record TitleGiven : Type 0 where
   pub date : Option (List ℕ)
   pub vendor : Option (List ℕ)

@@ -74,7 +74,8 @@ hidden_command = commands (command (record { name = codes "c"; initial = None; a
 abbrev a_hidden_place : List EntrySaid
 a_hidden_place = entry (codes "place") (codes "once") (codes "none") [] ∷ []
 
--- a usage alone offers files, and one with a positional value or a command, also a hidden one or one of a group, does not
+-- a usage alone offers files, and one with a positional value or a command, also a
+-- hidden one or one of a group, does not
 pub usages_offer_files :
     (level_entries (with_texts own_usage no_groups [] no_commands) ≡ entry (codes "place") (codes "many") (codes "file") [] ∷ [])
     × (level_entries (with_texts no_usage no_groups [] no_commands) ≡ [])

@@ -97,8 +97,8 @@ width_hints ForHelp o = []
 width_hints InUsage o = item_hints o
 width_hints OutsideUsage o = []
 
--- a text in place of a usage names options of its level, or help options; `own` says whether one of the former is called
--- by a word, and `is_help_word` whether one of the latter is
+-- a text in place of a usage names options of its level, or help options; `own` says whether one of the former is
+-- called by a word, and `is_help_word` whether one of the latter is
 abbrev pub usage_piece_hints : (own is_help_word : List ℕ → Bool) → Piece → List HintSaid
 usage_piece_hints own is_help_word (words text) = []
 usage_piece_hints own is_help_word (literal text) = hint_if (is_no_option own text && is_no_option is_help_word text) (not_on_level text)

@@ -12,7 +12,8 @@ abbrev pub page_below : (above name : List ℕ) → List ℕ
 page_below above name = above ++ codes "-" ++ name
 
 abbrev mutual
-  -- the levels below one that are not hidden and stand below none that is, in the order of the records; `above` is the name of its page
+  -- the levels below one that are not hidden and stand below none that is, in the
+  -- order of the records; `above` is the name of its page
   pub pages_below : Path → (above : List ℕ) → LevelSaid → List PageSiteSaid
   pages_below path above (level texts required options choices gs positionals subcommands) =
       groups_pages path above 0 gs ++ commands_pages path above 0 subcommands

@@ -1,7 +1,7 @@
 //! What a description that is correct would better say.
 //!
-//! A hint is here a warning of `check`. The key `hint` of an option, what a shell offers for its value, is `ValueHint` of
-//! `description`.
+//! A hint is here a warning of `check`. The key `hint` of an option, what a shell
+//! offers for its value, is `ValueHint` of `description`.
 #![tactic(auto)]
 
 mod around;

@@ -21,7 +21,8 @@ at_path (step ∷ path) j = option_and_then (at_path path) (step_to step j)
 abbrev pub Shows : List Step → List ℕ → Bool → Type 0
 Shows path text is_there = (j : Json) × (document text ≡ Some j) × (is_there ≡ is_some (at_path path j))
 
--- the entry that a step leads to: in braces a member with this key, and no other; or in brackets an element, and no other
+-- the entry that a step leads to: in braces a member with this key, and no other;
+-- or in brackets an element, and no other
 abbrev pub IsEntry : Step → List ℕ → Type 0
 IsEntry (key_step k) entry =
     (j : Json) × (document (ascii.open_brace ∷ (entry ++ ascii.close_brace ∷ [])) ≡ Some (object (member k.now j no_members)))

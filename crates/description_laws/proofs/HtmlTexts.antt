@@ -1,4 +1,5 @@
--- No text of a page in HTML is refused where those of its frame and of its levels are permitted: neither what is said, nor where links lead, nor an id.
+-- No text of a page in HTML is refused where those of its frame and of its levels are
+-- permitted: neither what is said, nor where links lead, nor an id.
 use Rattle.std.proofs.Common.{◌≡◌, ℕ, ◌+◌, ◌/◌, ◌%◌, ◌<◌, ◌≤◌, ◌==◌, Bool, true, false, ◌&&◌, List, [], ◌∷◌, ◌++◌, codes, decimal, encode_utf8, flat_map, nat_lt, Option, Some, None, refl, sym, ap, ◌∙◌, subst, arith}
 use Rattle.std.specs.Prelude.{if◌then◌else◌, not}
 use Rattle.std.specs.Char.{digit_char}

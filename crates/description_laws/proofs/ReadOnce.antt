@@ -1,4 +1,5 @@
--- The title line and the headings of a description that a TOML text gives hold no backslash and no double quote, reader by reader.
+-- The title line and the headings of a description that a TOML text gives hold no
+-- backslash and no double quote, reader by reader.
 use Rattle.std.proofs.lemmas.Grind.{common_steps}
 use Rattle.std.proofs.Common.{◌≡◌, ℕ, zero, suc, ◌+◌, length, take, List, [], ◌∷◌, ◌++◌, true, false, Option, None, Some, refl, ◌∙◌, arith, codes, flat_map}
 use Rattle.std.specs.Prelude.{◌&&◌, chars, flat_map, not}

@@ -1,4 +1,5 @@
--- What the law of pages sees: a control character on a page is a fault of each medium, and a reader of TOML that let one pass would break the law.
+-- What the law of pages sees: a control character on a page is a fault of each medium, and
+-- a reader of TOML that let one pass would break the law.
 use Rattle.std.proofs.Common.{◌≡◌, ℕ, Bool, true, false, ◌||◌, ◌==◌, List, [], ◌∷◌, ◌++◌, codes, Some, None, refl}
 use Rattle.std.specs.Str.{chars}
 use Rattle.std.proofs.lemmas.Bool.{false≢true}

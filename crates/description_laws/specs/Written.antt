@@ -23,8 +23,8 @@ all_texts d =
 abbrev pub given_texts : TitleGiven → List (List ℕ)
 given_texts given = text_of given.date ++ text_of given.vendor
 
--- No page of a level has a fault on a console, as a manual page and in markdown, and where it has one in HTML, no text is at
--- fault. Words that are given for a title line are fit too.
+-- No page of a level has a fault on a console, as a manual page and in markdown, and where it has one in HTML, no
+-- text is at fault. Words that are given for a title line are fit too.
 pub record IsWritten (d : DescriptionSaid) (s : SubjectSaid) : Type 0 where
   pub console : (form : ConsoleForm) → console_page_fault form d.words s ≡ None
   pub manual : (depth : Depth) (given : TitleGiven) → list_all is_fit (given_texts given) ≡ true → manual_page_fault d depth given s ≡ None

@@ -1,4 +1,5 @@
--- Steps of a summary: the first paragraph of two texts, a line without the full stop at its end, and lines that are the same.
+-- Steps of a summary: the first paragraph of two texts, a line without the full
+-- stop at its end, and lines that are the same.
 use Rattle.std.proofs.Common.{◌≡◌, ◌≢◌, suc, Bool, true, false, ◌&&◌, List, [], ◌∷◌, ◌++◌, length, map, refl, sym, ap, ◌∙◌, append-nil}
 use Rattle.std.proofs.lemmas.List.{map-append}
 use Rattle.std.specs.Option.{option_or}

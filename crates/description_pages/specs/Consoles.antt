@@ -1,5 +1,5 @@
--- The page of a level for a console, as the parts of a page, and its usage alone. There are no pages beside it, and so no
--- references to them.
+-- The page of a level for a console, as the parts of a page, and its usage alone. There
+-- are no pages beside it, and so no references to them.
 use Rattle.std.specs.Prelude.{List, codes}
 use Rattle.page_model.specs.Content.{FormSaid, PartSaid}
 use Rattle.page_model.specs.declared.parts.Rank.TheVariants.{Section}

@@ -12,7 +12,8 @@ use Rattle.description_pages.specs.declared.levels.Depth.TheVariants.{Alone, Dee
 use Rattle.description_pages.specs.declared.sections.Detail.{Detail}
 use Rattle.description_pages.specs.declared.topics.Place.TheVariants.{Notes, References}
 
--- a level, by what its pages say: the names that lead there, what the level above says of it, and the options that ask for help
+-- a level, by what its pages say: the names that lead there, what the level above
+-- says of it, and the options that ask for help
 pub record SubjectSaid : Type 0 where
   pub names : List (List ℕ)
   pub help : Option (List ℕ)

@@ -53,7 +53,8 @@ abbrev pub is_shown : CommandSaid → Bool
 is_shown (command called help l) = not called.hidden
 
 abbrev mutual
-  -- the commands at any depth that are not hidden and stand below none that is: those of a level in the order of `commands_on`, each before those below it
+  -- the commands at any depth that are not hidden and stand below none that is: those of a level in the order of
+  -- `commands_on`, each before those below it
   pub below_level : SubjectSaid → LevelSaid → List SubjectSaid
   below_level s (level texts required options choices gs values subcommands) = below_groups s gs ++ below_commands s subcommands
 

@@ -188,7 +188,8 @@ fn all_below<'p, 'a: 'p, C: Allocator>(
 }
 
 /// The levels below one as they follow it on its page: of the options that ask for help they have the names and the
-/// word for the value alone, since the page says at the first level what these do. An error comes only where an allocation failed.
+/// word for the value alone, since the page says at the first level what these do.
+/// An error comes only where an allocation failed.
 pub fn all_after<'p, 'a: 'p, C: Allocator>(
     arena: &'p Bump,
     subject: LevelSubject<'p, 'a, C>,

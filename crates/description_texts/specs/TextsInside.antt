@@ -62,7 +62,8 @@ last_byte text = slice_index text (length text - 1)
 abbrev pub is_edge_back : List ℕ → Bool
 is_edge_back text = length text == 0 || is_white (last_byte text)
 
--- White space of a literal is dropped at its ends, where white space of the text or the end of the line stands beside it.
+-- White space of a literal is dropped at its ends, where white space of the text
+-- or the end of the line stands beside it.
 abbrev pub front_kept : (before inner : List ℕ) → List ℕ
 front_kept before inner = if is_edge_back before then without_white_front inner else inner
 

@@ -1,4 +1,5 @@
--- The description that the data of a TOML text gives, or `None`. Each kind of table has the keys that are listed for it, and no others.
+-- The description that the data of a TOML text gives, or `None`. Each kind of table
+-- has the keys that are listed for it, and no others.
 pub mod Texts
 pub mod Values
 pub mod Taken

@@ -1,4 +1,5 @@
--- The syntax of an option: one text that says how the option is written. What of it is a name, and when it is well formed.
+-- The syntax of an option: one text that says how the option is written. What of
+-- it is a name, and when it is well formed.
 pub mod Steps
 use Rattle.std.specs.Prelude.{chars, codes, ℕ, ◌-◌, List, [], ◌∷◌, ◌++◌, ◌==◌, length, take, filter, fold, count_by, Bool, true, false, not, ◌&&◌, ◌||◌, if◌then◌else◌, Option, Some, None}
 use Rattle.std.specs.Char.{is_whitespace}
@@ -78,7 +79,8 @@ is_outside before = count_by is_opening before == count_by is_closing before
 abbrev pub closes : (opening closing : ℕ) → Bool
 closes o c = ((o == 91 && c == 93) || (o == 40 && c == 41)) || ((o == 60 && c == 62) || (o == 123 && c == 125))
 
--- the brackets that are left over, the last one first: one takes away the opening one of its kind that is left directly before it
+-- the brackets that are left over, the last one first: one takes away the opening
+-- one of its kind that is left directly before it
 abbrev pub with_bracket : (left : List ℕ) → ℕ → List ℕ
 with_bracket [] b = b ∷ []
 with_bracket (o ∷ os) b = if closes o b then os else b ∷ o ∷ os

@@ -1,4 +1,5 @@
--- The syntax of an option: one text that says how the option is written. What of it is a name, what a word for a value, what it is called, and what of it a usage shows.
+-- The syntax of an option: one text that says how the option is written. What of it is a name, what a word for a
+-- value, what it is called, and what of it a usage shows.
 pub mod Steps
 use Rattle.std.specs.Prelude.{codes, ℕ, ◌-◌, List, [], ◌∷◌, ◌++◌, ◌==◌, length, drop, take, map, find, count_by, nat_lt, unwrap_or, option_map, Bool, true, false, not, ◌&&◌, ◌||◌, if◌then◌else◌, Option, Some, None}
 use Rattle.std.specs.Char.{is_ascii_alphanumeric, is_ascii_lowercase, is_ascii_uppercase}

@@ -155,7 +155,8 @@ spelling f = if is_plain f then plain_spelling f.names f.value else syntax_spell
 abbrev pub closes : (opening closing : ℕ) → Bool
 closes o c = ((o == 91 && c == 93) || (o == 40 && c == 41)) || ((o == 60 && c == 62) || (o == 123 && c == 125))
 
--- the brackets left over, the last one first: one takes away the opening one of its kind that is left directly before it
+-- the brackets left over, the last one first: one takes away the opening one of
+-- its kind that is left directly before it
 abbrev pub with_bracket : (left : List ℕ) → ℕ → List ℕ
 with_bracket [] b = b ∷ []
 with_bracket (o ∷ os) b = if closes o b then os else b ∷ o ∷ os

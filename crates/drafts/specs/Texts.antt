@@ -44,7 +44,8 @@ wider width line = max width (length (trim line))
 abbrev pub width_of : (lines : List (List ℕ)) → ℕ
 width_of lines = fold wider 70 lines
 
--- whether the first word of a line, after a blank, would have stood on the one above: then the break between them is meant
+-- whether the first word of a line, after a blank, would have stood on the one
+-- above: then the break between them is meant
 abbrev pub is_broken : (width : ℕ) → (above line : List ℕ) → Bool
 is_broken width above line = nat_lt (length (first_word (trim line))) (width - length (trim above))
 

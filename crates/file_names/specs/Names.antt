@@ -63,7 +63,8 @@ begins_well name = not (slice_index name 0 == 46) && not (slice_index name 0 == 
 abbrev pub is_file_name : List ℕ → Bool
 is_file_name name = not (list_any is_slash name) && not (list_any is_foreign name) && begins_well name && nat_le (length name) 200 && not (is_device name) && not (is_index name)
 
--- what stands for a name where it is compared with others by their letters alone: canonical caseless matching of Unicode
+-- what stands for a name where it is compared with others by their letters alone:
+-- canonical caseless matching of Unicode
 abbrev pub name_key : List ℕ → List ℕ
 name_key name = encode_utf8_all (canonical_key (chars name))
 

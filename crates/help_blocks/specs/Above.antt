@@ -1,4 +1,5 @@
--- What a line has above it: lines that have been read, the nearest first, each with the kind of block that it begins, if any.
+-- What a line has above it: lines that have been read, the nearest first, each
+-- with the kind of block that it begins, if any.
 use Rattle.std.specs.Prelude.{ℕ, Bool, true, false, ◌&&◌, List, [], ◌∷◌, Option, Some, None, if◌then◌else◌}
 use Rattle.help_blocks.specs.declared.shape.Shape.{Shape}
 use Rattle.help_blocks.specs.declared.place.Kind.{Kind}

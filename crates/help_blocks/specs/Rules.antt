@@ -25,8 +25,8 @@ abbrev pub is_at_help : (help : Option ℕ) → (here : Shape) → Bool
 is_at_help None here = false
 is_at_help (Some n) here = nat_le n here.indent
 
--- Below an entry all that is indented deeper is its help. But an option is one of the list, if it is not far from the entry's front,
--- and not where the help stands; and a word below commands in braces is a command, if it is not far.
+-- Below an entry all that is indented deeper is its help. But an option is one of the list, if it is not far from the
+-- entry's front, and not where the help stands; and a word below commands in braces is a command, if it is not far.
 abbrev pub is_help : Open → (help : Option ℕ) → (here : Shape) → Bool
 is_help o help here =
     if here.is_option then is_far o here || is_at_help help here
@@ -71,7 +71,8 @@ leads here next = nat_lt here.indent next.indent && not next.is_empty
 abbrev pub is_above_option : (here next : Shape) → Bool
 is_above_option here next = next.is_option && not (next.is_empty && here.is_word)
 
--- a title without a colon: a line after an empty one, with an option or columns below it, indented deeper; in capitals with anything below it
+-- a title without a colon: a line after an empty one, with an option or columns below
+-- it, indented deeper; in capitals with anything below it
 abbrev pub is_plain_title : (is_after_blank : Bool) → (here next : Shape) → Bool
 is_plain_title after here next = (after && leads here next) && ((next.is_option || next.is_code) || here.is_in_capitals)
 

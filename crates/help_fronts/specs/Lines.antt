@@ -1,4 +1,5 @@
--- The names of options at the front of a line: those of its front, and of each further one that follows directly, as in `-mount -noleaf -xdev`.
+-- The names of options at the front of a line: those of its front, and of each further
+-- one that follows directly, as in `-mount -noleaf -xdev`.
 use Rattle.std.specs.Prelude.{ℕ, ◌||◌, Bool, List, [], ◌∷◌, if◌then◌else◌}
 use Rattle.help_fronts.specs.declared.front.Kind.TheVariants as kind
 use Rattle.help_fronts.specs.Pieces.{first_word, pieces, word}

@@ -1,4 +1,5 @@
--- The pieces of a line: it is cut, outside brackets, before each blank, and before a dash that directly follows a divider.
+-- The pieces of a line: it is cut, outside brackets, before each blank, and before
+-- a dash that directly follows a divider.
 use Rattle.std.specs.Prelude.{ℕ, ◌+◌, ◌-◌, ◌==◌, ◌||◌, ◌&&◌, Bool, List, [], ◌∷◌, if◌then◌else◌}
 use Rattle.std.specs.List.{onto_first}
 use Rattle.help_fronts.specs.Bytes.{is_blank, is_closing, is_dash, is_divider, is_opening}

@@ -158,8 +158,8 @@ fn joint_after(after: &str) -> u8
 
 // ---- options
 
-// The option of this name, with the value and the byte before it; without both, where no word for a value is left of the
-// text.
+// The option of this name, with the value and the byte before it; without both,
+// where no word for a value is left of the text.
 fn used_with<'a>(name: &'a str, joint: u8, value: &'a str) -> UsageOption<'a>
     ensures { used_said result ≡ spec.used_with name.now joint value.now }
 {

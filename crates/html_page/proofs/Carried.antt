@@ -1,4 +1,5 @@
--- What the parts of a page give to it: the ids of elements, and the targets of links. Each part ends the elements that it starts.
+-- What the parts of a page give to it: the ids of elements, and the targets of
+-- links. Each part ends the elements that it starts.
 use Rattle.std.proofs.Common.{◌≡◌, ℕ, Bool, true, false, List, [], ◌∷◌, ◌++◌, codes, flat_map, fold, if◌then◌else◌, Option, Some, None, refl, sym, ap, subst, ◌∙◌, append-nil}
 use Rattle.std.specs.List.{join_by, list_any}
 use Rattle.std.proofs.lemmas.Grind.{flat_map-append, fold-append}

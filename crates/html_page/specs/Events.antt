@@ -8,7 +8,8 @@ use Rattle.web_page.specs.declared.elements.Element.{Element}
 use Rattle.web_page.specs.declared.elements.Tag.TheVariants.{A, Br, Of}
 use Rattle.web_page.specs.declared.errors.PageError.{PageError}
 
--- the start of an element, of one with an id, or of a link; a text; a line break; or the end of the element that was started last
+-- the start of an element, of one with an id, or of a link; a text; a line break;
+-- or the end of the element that was started last
 pub data Event : Type 0 where
   start : Element → Event
   start_with_id : Element → (id : List ℕ) → Event

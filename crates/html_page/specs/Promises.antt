@@ -27,7 +27,8 @@ page_draft frame top = with_events (begun_page frame top) (page_events frame top
 abbrev pub page_tree : FrameSaid → ChapterSaid → Nodes
 page_tree frame top = whole_page (page_draft frame top)
 
--- A text of a page reads, whole, as its tree; what stands in its body alone reads, in the body of any page, as what the body holds.
+-- A text of a page reads, whole, as its tree; what stands in its body alone reads,
+-- in the body of any page, as what the body holds.
 abbrev pub ReadsBack : declared.Extent → Draft → List ℕ → Type 0
 ReadsBack extent.Page draft text = ReadsAs text (whole_page draft)
 ReadsBack extent.Fragment draft text = ReadsInBody text draft.nodes

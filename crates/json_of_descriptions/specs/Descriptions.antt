@@ -194,7 +194,7 @@ json_of d = object_with (description_fields d)
 abbrev pub json_text : DescriptionSaid → List ℕ
 json_text d = pretty (json_tokens (json_of d)) ++ codes "\n"
 
--- The text is one of this value and a newline: wherever arrays and objects may nest as deep as those of the value, it is
--- what a reader finds.
+-- The text is one of this value and a newline: wherever arrays and objects may nest as
+-- deep as those of the value, it is what a reader finds.
 abbrev pub IsReadBack : (text : List ℕ) → Json → Type 0
 IsReadBack text j = (body : List ℕ) × (text ≡ body ++ codes "\n") × ((limit : ℕ) → depth j ≤ limit → value limit (tokens body) ≡ Some (j, []))

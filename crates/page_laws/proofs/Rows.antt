@@ -1,4 +1,5 @@
--- What the law of pages refuses: an escape character between the name of a page and its summary, which no other clause speaks of.
+-- What the law of pages refuses: an escape character between the name of a page
+-- and its summary, which no other clause speaks of.
 use Rattle.std.proofs.Common.{◌≡◌, ℕ, true, List, [], ◌∷◌, codes}
 use Rattle.std.specs.List.{list_all}
 use Rattle.std.proofs.lemmas.Bool.{and_parts, false≢true}

@@ -1,4 +1,5 @@
--- The usage of a level with permitted texts has permitted texts alone: its items, and the forms of a text that stands in their place.
+-- The usage of a level with permitted texts has permitted texts alone: its items,
+-- and the forms of a text that stands in their place.
 use Rattle.std.proofs.Common.{◌≡◌, ◌⊎◌, ℕ, zero, suc, ◌-◌, ◌<◌, ◌≤◌, Bool, true, false, cond, List, [], ◌∷◌, ◌++◌, length, get_or, take, drop, reverse, map, codes, flat_map, filter, Option, Some, None, refl, sym, ap, ◌∙◌, subst, arith, inl, inr, encode_utf8, nat_lt, true≢false}
 use Rattle.std.specs.Prelude.{if◌then◌else◌, ◌==◌, ◌&&◌, ◌||◌, not, unwrap_or, bytes_eq, option_and_then, option_map}
 use Rattle.std.specs.List.{find, list_all, prefix_len, slice_get, suffix_len, slice_split}

@@ -33,7 +33,8 @@ abbrev pub is_permitted_if : Option EntrySaid → Bool
 is_permitted_if None = true
 is_permitted_if (Some entry) = is_permitted_entry entry
 
--- of what has fit texts, with the blocks of a help that is fit, and with fixed words that are; of a command where that leads to a fit name or title
+-- of what has fit texts, with the blocks of a help that is fit, and with fixed words that
+-- are; of a command where that leads to a fit name or title
 pub record EntriesArePermitted : Type 0 where
   pub option : (fixed : WordsSaid) (o : OptSaid) (help : List ℕ) → list_all is_fit (help ∷ fixed_texts fixed) ≡ true → list_all is_fit (option_texts o) ≡ true → is_permitted_entry (option_entry fixed o (text_blocks help)) ≡ true
   pub positional : (fixed : WordsSaid) (p : PositionalSaid) (help : List ℕ) → list_all is_fit (help ∷ fixed_texts fixed) ≡ true → list_all is_fit (positional_texts p) ≡ true → is_permitted_if (positional_entry fixed p (text_blocks help)) ≡ true

@@ -19,7 +19,8 @@ use Rattle.page_laws.specs.Texts.{fixed_texts, level_texts, option_texts, text_o
 abbrev pub subject_texts : SubjectSaid → List (List ℕ)
 subject_texts s = s.names ++ (text_of s.help ++ (flat_map option_texts s.help_options ++ level_texts s.level))
 
--- each text of a page of the level is one that the media write, and of the levels below it, where they stand on the page too
+-- each text of a page of the level is one that the media write, and of the levels
+-- below it, where they stand on the page too
 pub record IsPermitted (fixed : WordsSaid) (s : SubjectSaid) : Type 0 where
   -- on a console, in full and in brief, and the usage alone
   pub console : (detail : Detail) → list_all is_permitted_part (console_of fixed detail s) ≡ true

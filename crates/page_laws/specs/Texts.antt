@@ -1,4 +1,5 @@
--- The texts that a level of a description says, its names among them, and the fixed words. A short name is the text of its character.
+-- The texts that a level of a description says, its names among them, and the fixed
+-- words. A short name is the text of its character.
 use Rattle.std.specs.Prelude.{encode_utf8, ℕ, List, [], ◌∷◌, ◌++◌, flat_map, Option, Some, None}
 use Rattle.description.specs.Content.{NameSaid, short, long, both, SpellingSaid, named, syntax, OptSaid, ChoiceSaid, PositionalSaid, TopicSaid, TextsSaid, LevelSaid, level, GroupsSaid, no_groups, groups, GroupSaid, group, CommandsSaid, no_commands, commands, CommandSaid, command}
 use Rattle.description.specs.Words.{WordsSaid}

@@ -41,7 +41,8 @@ pub data PartSaid : Type 0 where
   entries : List EntrySaid → PartSaid
 
 mutual
-  -- a level with those below it: what it is called on the whole page, and under the level above; what it is about; and what follows that
+  -- a level with those below it: what it is called on the whole page, and under the
+  -- level above; what it is about; and what follows that
   pub data ChapterSaid : Type 0 where
     chapter : (title name : List ℕ) → (about : List BlockSaid) → List PartSaid → (below : ChaptersSaid) → ChapterSaid
 

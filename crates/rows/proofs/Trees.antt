@@ -62,7 +62,8 @@ row_1 : normalized true (optional (many (required (or_of (two a b))))) ≡ many 
 unfolding encode
 row_1 = (refl, refl)
 
--- normal forms: `--` goes out of an optional part, one command stands for several, and an empty usage of its own hides what is inside
+-- normal forms: `--` goes out of an optional part, one command stands for several,
+-- and an empty usage of its own hides what is inside
 row_2 : normalized true (and_of (two v (optional (strict FILE)))) ≡ and_of (two v (strict (optional FILE)))
     × normalized true (optional (and_of (tree (strict FILE) no_trees))) ≡ optional (strict FILE)
     × normalized true (or_of (two x y)) ≡ x

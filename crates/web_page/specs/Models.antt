@@ -246,8 +246,8 @@ pub record IsFront (front language : List ℕ) (head : Nodes) : Type 0 where
   pub encoded : begins_with_encoding head ≡ true
 
 -- A text that is the content of a body. After the front of a page, whatever its language and head are and however it is
--- written, and before the end tags of the body and of html it reads as that page, with these nodes in its body; there may
--- be white space before and after it.
+-- written, and before the end tags of the body and of html it reads as that page, with these nodes
+-- in its body; there may be white space before and after it.
 abbrev pub ReadsInBody : List ℕ → Nodes → Type 0
 ReadsInBody bytes nodes =
     (front language : List ℕ) (head : Nodes) → IsFront front language head

@@ -1,5 +1,5 @@
--- Lemmas about console pages. `Layout`: a page that keeps the rules is a layout. `Sheet`: the page that the code makes is the exact
--- one, and keeps the rules.
+-- Lemmas about console pages. `Layout`: a page that keeps the rules is a layout. `Sheet`: the page that the code
+-- makes is the exact one, and keeps the rules.
 pub mod Words
 pub mod Hiding
 pub mod Ink

@@ -18,7 +18,8 @@ const TRIES: u32 = 8;
 /// How many files that earlier runs have left are reported.
 const MOST_TOLD: u32 = 8;
 
-/// The bits of a file's mode that say who may read, write and run it. The bits beside these would have it run as its owner.
+/// The bits of a file's mode that say who may read, write and run it. The bits
+/// beside these would have it run as its owner.
 const MODE: u32 = 0o777;
 
 /// Goes into the folder, and so holds it: what is put in its place from here on is not written into. Refuses a folder

@@ -1,4 +1,5 @@
--- Names that stand twice on a level. The options of its choices and groups count as its own, and so do the commands of its groups.
+-- Names that stand twice on a level. The options of its choices and groups count
+-- as its own, and so do the commands of its groups.
 use Rattle.std.specs.Prelude.{codes, ℕ, List, [], ◌∷◌, ◌++◌, ◌==◌, drop, length, flat_map, filter, Bool, true, false, not, ◌&&◌, Option, Some, option_and_then, option_to_list, bytes_eq, if◌then◌else◌}
 use Rattle.std.specs.List.{list_any, starts_with}
 use Rattle.toml.specs.Data.{Data, array, Items, no_items, item, Members, get_member, as_str, as_table}

@@ -1,4 +1,5 @@
--- What stands at a key of a table: a flag, a character, a section, a date, or tables. Each answer is `None` where the value is of another kind.
+-- What stands at a key of a table: a flag, a character, a section, a date, or tables.
+-- Each answer is `None` where the value is of another kind.
 use Rattle.std.specs.Prelude.{chars, codes, ℕ, ◌+◌, nat_lt, ℤ, pos, negsuc, List, [], ◌∷◌, Bool, true, false, ◌&&◌, if◌then◌else◌, Option, Some, None, is_some, option_map, option_and_then, bytes_eq}
 use Rattle.std.specs.Fmt.{signed_decimal}
 use Rattle.std.specs.List.{join_by, list_any}

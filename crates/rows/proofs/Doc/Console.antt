@@ -63,8 +63,8 @@ pages_2 : console_page true 100 (inside block.ItemTerm (words (replicate 30 97))
 unfolding computed
 pages_2 = (refl, refl, refl, refl, refl, refl, refl, refl, refl, refl, refl, refl, refl, refl)
 
--- The two blanks before an item's body come again and again, where the texts of the bodies have no ink: of 48 columns the words and the
--- blanks of the texts take 40 and the greatest margin 6, and yet there is a break.
+-- The two blanks before an item's body come again and again, where the texts of the bodies have no ink: of 48 columns
+-- the words and the blanks of the texts take 40 and the greatest margin 6, and yet there is a break.
 abbrev blank_body : List Part
 blank_body = inside block.ItemBody (words (codes " "))
 
@@ -77,7 +77,8 @@ row_bodies : console_page true 48 blank_bodies ≡ replicate 30 97 ++ codes "\nb
 unfolding computed
 row_bodies = (refl, refl, refl)
 
--- the ink of a document with a term reference: in full a console shows it with two backquotes, in brief what stands before a paragraph
+-- the ink of a document with a term reference: in full a console shows it with two
+-- backquotes, in brief what stands before a paragraph
 abbrev referenced : List Part
 referenced = words (codes "a ") ++ (inside block.TermRef (words (codes "b c")) ++ words (codes " d\n\ne"))
 

@@ -1,5 +1,6 @@
--- The pieces of groups, help pages, collected pages and manual pages of hard trees: groups in adjacent blocks and blocks in groups,
--- notes, repeats with and without help, environment names, empty titles, nested commands. Each computes.
+-- The pieces of groups, help pages, collected pages and manual pages of hard trees: groups in adjacent blocks and
+-- blocks in groups, notes, repeats with and without help, environment names, empty titles, nested commands. Each
+-- computes.
 use Rattle.std.specs.Prelude.{◌≡◌, true, false, List, [], ◌∷◌, refl, codes, Some, None}
 use Rattle.std.specs.Str.{chars}
 use Rattle.unicode.specs.Binary.{is_uppercase}

@@ -89,7 +89,8 @@ heading_too_refused =
 notes : shown_entries (item_list (suffix (suffix (item c) h) h)) ≡ listed c ∷ note h ty.Flag ∷ []
 notes = refl
 
--- in an adjacent block, outside groups, what has no help falls under nothing: here the last adjacent mark is the outer start
+-- in an adjacent block, outside groups, what has no help falls under nothing: here
+-- the last adjacent mark is the outer start
 abbrev grouped : Tree
 grouped = and_of (tree (subsection (adjacent (item c)) []) (tree (item b) no_trees))
 

@@ -1,4 +1,5 @@
--- Counting the inline blocks that have to end before texts are shown again comes to what the definition of hidden texts says.
+-- Counting the inline blocks that have to end before texts are shown again comes
+-- to what the definition of hidden texts says.
 use Rattle.std.specs.Prelude.{◌&&◌, ◌++◌, ◌==◌, ◌||◌, ◌∷◌, ◌≡◌}
 use Rattle.bpaf_doc.proofs.lemmas.Console.Words.{sym, ◌∙◌, ap, arith, append_assoc, append-nil, ℕ, zero, suc, Bool, false, not, List, [], nat_le, nat_tests, or-false, Block, Part, Start, stays_open, breaks_off, is_hidden, is_inline, hidden_after, is_start_of, is_end_of}
 use Rattle.bpaf_doc.proofs.lemmas.Lists.Opening.{closed, stays_open_is}
@@ -29,8 +30,8 @@ kept hidden part parts = grind (arith, open_is, not_zero, nat_tests, start_is, o
 
 -- ---- the count after a front
 
--- What a count says of the parts before it: whatever follows, they hide a text after it as long as not all these inline blocks
--- have ended.
+-- What a count says of the parts before it: whatever follows, they hide a text after
+-- it as long as not all these inline blocks have ended.
 abbrev pub Counts : ℕ → List Part → Type 0
 Counts hidden before = (between : List Part) → is_hidden (before ++ between) ≡ (stays_hidden hidden between || is_hidden between)
 

@@ -1,4 +1,5 @@
--- The page that the code writes, one fragment after another, is the page as a function of the document, and this meets the laws.
+-- The page that the code writes, one fragment after another, is the page as a
+-- function of the document, and this meets the laws.
 use Rattle.std.proofs.lemmas.Grind.{common_steps}
 use Rattle.std.specs.Prelude.{◌&&◌, ◌++◌, ◌-◌, ◌||◌, ◌∷◌, ◌≡◌, ◌⊎◌}
 use Rattle.bpaf_doc.proofs.lemmas.Html.Words.{ℕ, zero, suc, Bool, true, false, List, [], inl, inr, refl, sym, ap, ◌∙◌, append_assoc, append-nil, arith, reverse, flat_map, nat_eq, length, take, list_all, ends_with, reverse-append, list_all-append, and_parts, and_from, cases_Bool, eqb-false, false≢true, Decides-eqb, or-true, and-false, and-true, Block, Part, IsWellNested, Raw, Paragraph, LineBreak, is_line_byte, Fragment, TextStart, Shown, TextEnd, Hidden, Start, End, shown_fragments, escaped_character, IsHtmlPageOf, IsHtmlTextPageOf, Written, blank_page, with_heading, first_or_false, closed, page_after, page_after_all}

@@ -1,5 +1,5 @@
--- What the writer of a page keeps is what looking back over the marks gives, so the page that comes out is the page as a function of the document; and where the
--- page takes a document, a reader reads the document's events.
+-- What the writer of a page keeps is what looking back over the marks gives, so the page that comes out is the page
+-- as a function of the document; and where the page takes a document, a reader reads the document's events.
 use Rattle.std.specs.Prelude.{if◌then◌else◌, ◌++◌, ◌∷◌, ◌≡◌}
 use Rattle.bpaf_doc.proofs.lemmas.Manpage.Words.{str_to_ascii_uppercase, ap, ◌∙◌, sym, append_assoc, arith, ℕ, Bool, true, false, List, [], Some, None, find, flat_map, refl, append-nil, reverse-append, flat_map-append, Script, RoffText, text_of, with_written, text_pieces, Handle, Part, Text, Start, End, font_of, is_start, last_is_start, is_section, is_term_mark, captured_texts, TakesDocument, IsPageOf, start_name, heading_name, style_name, Draft, draft_on, after_text, after_start, after_section, after_block, after_end, after_part, after_parts, Style, Block, Option, control_pieces, Piece, Escape, is_mark_of}
 use Rattle.bpaf_roff.proofs.lemmas.Written.{written_on}

@@ -41,7 +41,8 @@ are_calls : (ps : List (List Part × Part)) → AllByRecursion IsCall (flat_map 
 are_calls [] = tt
 are_calls (place ∷ ps) = AreCalls-append (place_calls place) (flat_map place_calls ps) (grind (arith)) (are_calls ps)
 
--- A page that takes a document, with the pieces of the document's calls after its own, is rendered to the page of the document.
+-- A page that takes a document, with the pieces of the document's calls after its
+-- own, is rendered to the page of the document.
 pub page_read : (page : Script) → TakesDocument page → (document : List Part) → IsPageOf page document (rendering Handle (page.pieces ++ flat_map pieces_of (page_calls document)))
 page_read page takes document = record { body = text_after Handle (escaped Handle page.pieces) (signs (flat_map pieces_of (page_calls document))); joined = rw (signs-append page.pieces (flat_map pieces_of (page_calls document)), text_after-append Handle [] (signs page.pieces) (signs (flat_map pieces_of (page_calls document)))) (sym (append_assoc preamble (escaped Handle page.pieces) _)); reads = reads }
   where

@@ -1,4 +1,5 @@
--- The text that the code writes, one fragment after another, is the text as a function of the document, and this meets the laws.
+-- The text that the code writes, one fragment after another, is the text as a
+-- function of the document, and this meets the laws.
 use Rattle.std.specs.Prelude.{if◌then◌else◌, ◌++◌, ◌<◌, ◌^◌, ◌∷◌, ◌≡◌}
 use Rattle.bpaf_doc.proofs.lemmas.Markdown.Words.{common_steps, ℕ, Bool, false, List, [], length, refl, sym, ap, ◌∙◌, append_assoc, append-nil, nat_lt, arith, filter, codes, list_any, reverse-append, Fragment, shown_fragments, IsMarkdownOf, is_header_start, is_in_list, is_in_mono, is_after_empty_item, Marked, blank_text, with_new_line, with_blank_line, with_item, with_raw, is_term_end, marked_after, marked_after_all, first_is, shows, is_code_line}
 use Rattle.bpaf_doc.specs.Buffer.Parts.{Part}

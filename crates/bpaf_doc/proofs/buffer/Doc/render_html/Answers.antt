@@ -1,4 +1,5 @@
--- The page after all fragments, with the style sheet after it, is the page as a function of the document, and so it has the laws.
+-- The page after all fragments, with the style sheet after it, is the page as a
+-- function of the document, and so it has the laws.
 use Rattle.std.specs.Prelude.{◌++◌, ◌≡◌}
 use Rattle.bpaf_doc.proofs.lemmas.Buffer.Words.{rules, [], sym, ◌∙◌, ap, subst, shown_fragments, page_after_all}
 use Rattle.bpaf_doc.specs.Html.Page.{IsHtmlPageOf, IsHtmlTextPageOf}

@@ -1,5 +1,5 @@
--- The rules of what is light: a line is broken between ordinary chunks with light chunks and marks between them only where the second would
--- pass the width.
+-- The rules of what is light: a line is broken between ordinary chunks with light chunks and
+-- marks between them only where the second would pass the width.
 use Rattle.std.specs.Prelude.{◌&&◌}
 use Rattle.bpaf_doc.proofs.lemmas.Console.Words.{arith, ℕ, Bool, true, false, and_parts, Chunk, is_inked, is_ordinary, event_columns, is_light, is_light_mark}
 use Rattle.bpaf_doc.proofs.lemmas.Console.Layout.Reach.{Rule, IsSound, sum_of}

@@ -1,4 +1,5 @@
--- How much of a line is taken since a chunk, reckoned by some rule; and that the line is broken only where the next chunk has no room.
+-- How much of a line is taken since a chunk, reckoned by some rule; and that the
+-- line is broken only where the next chunk has no room.
 use Rattle.std.specs.Prelude.{◌+◌, ◌<◌, ◌∷◌, ◌≡◌, ◌≤◌, ◌⊎◌}
 use Rattle.bpaf_doc.proofs.lemmas.Console.Words.{IsTrue, list_all, sym, subst, ap, arith, ◌∙◌, ℕ, Bool, true, false, List, [], length, refl, and_parts, Block, Request, NoBreak, Chunk, Raw, Paragraph, LineBreak, columns, is_ordinary, Event, Shows, Opens, Closes, Stretch, Gap, Placed, Passed, Place, chunk_at, event_bytes, is_silent_block}
 use Rattle.bpaf_doc.proofs.lemmas.Console.Layout.State.{State, Piece, Lines, Pads, Begins, first, stays, wraps, Next, raw, break, mark, Grows, padded, trimmed, sat, wrapped, put, passed, dropped, broken, asked_after, pending_after, Suits, IsShallow}
@@ -8,7 +9,8 @@ use Rattle.bpaf_doc.proofs.lemmas.Console.Layout.Split.{events_back, after_lines
 
 -- ---- rules
 
--- Which chunks are looked at; what may follow them, and whether chunks may; what an event takes of the line, and what all since the chunk do.
+-- Which chunks are looked at; what may follow them, and whether chunks may; what an
+-- event takes of the line, and what all since the chunk do.
 pub record Rule : Type 0 where
   pub begins : Chunk → Bool
   pub follows : Event → Bool

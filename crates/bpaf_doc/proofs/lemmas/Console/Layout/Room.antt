@@ -1,4 +1,5 @@
--- The rule of what asks for no newline: a line is broken between neighbouring inked chunks only where the second has no room in it.
+-- The rule of what asks for no newline: a line is broken between neighbouring
+-- inked chunks only where the second has no room in it.
 use Rattle.std.specs.Prelude.{if◌then◌else◌, ◌&&◌, ◌++◌, ◌+◌, ◌<◌, ◌∷◌, ◌≡◌, ◌≤◌, ◌⊎◌}
 use Rattle.bpaf_doc.proofs.lemmas.Console.Words.{ℕ, ⊤, Bool, true, false, not, List, [], refl, list_any, list_all, sym, subst, arith, ◌∙◌, is_inked, Event, Shows, Opens, Closes, Stretch, Placed, Place, is_inked_stretch, asks_newline, room_of, shows_chunk}
 use Rattle.bpaf_doc.proofs.lemmas.Console.Layout.State.{State, Pads, Piece, Begins, Next, raw, Grows, padded, Suits}
@@ -19,7 +20,8 @@ abbrev pub IsUpTo : Bool → ℕ → ℕ → Type 0
 IsUpTo true j k = j < k
 IsUpTo false j k = j ≤ k
 
--- The chunks, newest first, are of texts up to this one; of earlier ones where a mark came since, or where that is said.
+-- The chunks, newest first, are of texts up to this one; of earlier ones where a
+-- mark came since, or where that is said.
 abbrev pub Since : Bool → ℕ → List Event → Type 0
 Since strict k [] = ⊤
 Since strict k (Shows j chunk ∷ es) = IsUpTo strict j k × Since strict k es

@@ -1,11 +1,12 @@
--- A console page as it grows. The rules of the console as a relation between what stands before a document event and after it.
+-- A console page as it grows. The rules of the console as a relation between what
+-- stands before a document event and after it.
 -- Internal: `IsLayout` is what is promised, and it is proved of each page that grows so.
 use Rattle.std.specs.Prelude.{if◌then◌else◌, ◌&&◌, ◌++◌, ◌+◌, ◌-◌, ◌<◌, ◌||◌, ◌∷◌, ◌≡◌, ◌≢◌, ◌≤◌, ◌⊎◌}
 use Rattle.bpaf_doc.proofs.lemmas.Console.Words.{trim_end, IsLine, Chunk, Raw, Paragraph, LineBreak, columns, is_inked, has_some, is_ordinary, Event, Shows, Opens, Closes, Stretch, Gap, Placed, Passed, Place, chunk_at, event_bytes, stretch_bytes, is_newline, asks_newline, asks_blank_line, opens_body, is_silent_block, is_empty_code, Request, NoBreak, NewLine, BlankLine, at_least_new_line, Block, IsTrue, IsUtf8, ℕ, zero, suc, min, ⊤, Bool, true, false, List, [], length, codes}
 use Rattle.bpaf_doc.specs.declared.buffer.Block.TheVariants as blocks
 
--- The page so far. The stretches stand newest first; `latest` is the part of the last chunk, `marked` says that a mark came since,
--- and `settled` that a chunk was placed last.
+-- The page so far. The stretches stand newest first; `latest` is the part of the last chunk, `marked` says that a
+-- mark came since, and `settled` that a chunk was placed last.
 pub record State : Type 0 where
   pub back : List Stretch
   pub column : ℕ
@@ -132,7 +133,8 @@ pub record Piece : Type 0 where
   pub bytes : List ℕ
   pub weight : ℕ
 
--- where a chunk that is placed begins: on the page as it is, if nothing is written; else after what was asked for, or on a new line
+-- where a chunk that is placed begins: on the page as it is, if nothing is
+-- written; else after what was asked for, or on a new line
 pub data Begins (width : ℕ) (st : State) (p : Piece) (base : State) : Type 0 where
   first : has_text st.back ≡ false → base ≡ st → Begins width st p base
   stays : has_text st.back ≡ true → Lines st base → sat (base.column + columns p.bytes) ≤ width → Begins width st p base
@@ -163,8 +165,8 @@ pub data Grows (width : ℕ) (st : State) : Next → State → Type 0 where
 
 -- ---- what the events of a document keep to
 
--- A chunk of a text: its margin is in force, parts come in order and not twice round a mark, and an ordinary chunk has some bytes
--- and weighs its columns.
+-- A chunk of a text: its margin is in force, parts come in order and not twice round a mark,
+-- and an ordinary chunk has some bytes and weighs its columns.
 pub record Fits (margin_of : ℕ → ℕ) (st : State) (p : Piece) : Type 0 where
   pub margin_is : st.margin ≡ margin_of p.part
   pub order : st.latest ≤ p.part
