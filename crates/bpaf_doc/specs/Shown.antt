@@ -19,7 +19,7 @@ fronts (x ∷ xs) = [] ∷ map (λ front. x ∷ front) (fronts xs)
 abbrev pub stays_open : {A : Type 0} → (A → Bool) → (A → Bool) → List A → Bool
 stays_open opens closes xs = list_all (λ front. nat_le (count_by closes front) (count_by opens front)) (fronts xs)
 
--- a block that hiding counts
+-- the block InlineBlock, which hiding counts
 abbrev pub is_inline : Block → Bool
 is_inline InlineBlock = true
 is_inline _ = false

@@ -138,7 +138,7 @@ def names(kind):
             yield {key: "-a"}, [], f"{key} begins with -"
     if kind in ["option", "command"]:
         for text in ["", "ab", "日本"]:
-            yield {"short": text}, [], "short is not one character; write a longer name as long, or in aliases of a command"
+            yield {"short": text}, [], "short is not one character; a longer name of an option goes in long, one of a command in aliases"
         for text, why in [("-", "begins with -"), ("=", "holds ="), (" ", "holds a blank"), ("\uffff", "holds a noncharacter")]:
             yield {"short": text}, [], f"short {why}"
 

@@ -139,7 +139,7 @@ def ink(text):
 
 def shows(page, text):
     """Whether the page has the words around the text, the text between them."""
-    return ink(text) in ink(page) if ink(text).isascii() else "before" in ink(page) and "behind" in ink(page)
+    return ink(text) in ink(page) if ink(text).isascii() else "before" in ink(page) and "afterwards" in ink(page)
 
 
 def commands(page):

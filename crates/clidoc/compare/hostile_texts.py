@@ -30,4 +30,4 @@ OTHER = [
     "'''", "\"\"\"", "\n[[option]]\n", "\nname = \"x\"\n", "%s%n", "$(id)", "`id`", "; id", "\t", "\t\t\t", "\u202e", "\u200b", "\u00a0", "\u2028", "\ufeff", "\ufffd", "a" * 300, "a " * 300, "\u0301" * 40, "\U0001f468\u200d\U0001f469",
 ]
 
-TEXTS = [f"before{text}behind" for text in TERMINAL + ROFF + HTML + OTHER]
+TEXTS = [f"before{text}afterwards" for text in TERMINAL + ROFF + HTML + OTHER]

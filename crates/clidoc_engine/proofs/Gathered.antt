@@ -9,25 +9,25 @@ use Rattle.std.proofs.lemmas.Slice.Eq.{bytes_eq-Decides}
 use Rattle.std.specs.Str.Pattern.{FindsTextPrefix, StripsPrefix}
 use Rattle.clidoc_engine.specs.Chosen.{words_said}
 use Rattle.clidoc_engine.specs.Reading.{before, together}
-use Rattle.clidoc_engine.specs.Words.{Given, after, kind_of, only_files, other_kind}
+use Rattle.clidoc_engine.specs.Words.{Given, following, kind_of, only_files, other_kind}
 
 -- where the word does not begin with the front, nothing follows it
-pub after_none : (front word : List ℕ) → ((rest : List ℕ) → word ≢ front ++ rest) → after front word ≡ None
-after_none [] word h = absurd (h word refl)
-after_none (c ∷ cs) [] h = refl
-after_none (c ∷ cs) (d ∷ ds) h = grind (arith, after_none cs ds, eqb_tells)
+pub following_none : (front word : List ℕ) → ((rest : List ℕ) → word ≢ front ++ rest) → following front word ≡ None
+following_none [] word h = absurd (h word refl)
+following_none (c ∷ cs) [] h = refl
+following_none (c ∷ cs) (d ∷ ds) h = grind (arith, following_none cs ds, eqb_tells)
 
-after_some : (front rest : List ℕ) → after front (front ++ rest) ≡ Some rest
-after_some [] rest = refl
-after_some (c ∷ cs) rest = elim (eqb_tells c c) [
-  | inl p ↦ ap (λ b. if b then after cs (cs ++ rest) else None) p.0 ∙ after_some cs rest
+following_some : (front rest : List ℕ) → following front (front ++ rest) ≡ Some rest
+following_some [] rest = refl
+following_some (c ∷ cs) rest = elim (eqb_tells c c) [
+  | inl p ↦ ap (λ b. if b then following cs (cs ++ rest) else None) p.0 ∙ following_some cs rest
   | inr p ↦ absurd (p.1 refl)
 ]
 
 -- what stripping a prefix answers
-pub stripped : (front word : List ℕ) (r : Option (Bor (List ℕ))) → MatchOption r (FindsTextPrefix front word None) (λ x. StripsPrefix (FindsTextPrefix front) word x.now) → option_map (λ x. x.now) r ≡ after front word
-stripped front word None h = sym (after_none front word h)
-stripped front word (Some x) h = ap Some h.2 ∙ sym (ap (after front) h.1.1 ∙ after_some front (drop h.0 word))
+pub stripped : (front word : List ℕ) (r : Option (Bor (List ℕ))) → MatchOption r (FindsTextPrefix front word None) (λ x. StripsPrefix (FindsTextPrefix front) word x.now) → option_map (λ x. x.now) r ≡ following front word
+stripped front word None h = sym (following_none front word h)
+stripped front word (Some x) h = ap Some h.2 ∙ sym (ap (following front) h.1.1 ∙ following_some front (drop h.0 word))
 
 pub before_nothing : (o : Option Given) → before (only_files []) o ≡ o
 before_nothing o = grind arith

@@ -96,10 +96,10 @@ pub data Kind : Type 0 where
   unknown : Kind
 
 -- what follows a front of the word
-abbrev pub after : (front word : List ℕ) → Option (List ℕ)
-after [] word = Some word
-after (c ∷ cs) [] = None
-after (c ∷ cs) (d ∷ ds) = if c == d then after cs ds else None
+abbrev pub following : (front word : List ℕ) → Option (List ℕ)
+following [] word = Some word
+following (c ∷ cs) [] = None
+following (c ∷ cs) (d ∷ ds) = if c == d then following cs ds else None
 
 -- an option of these, with its value after `=`
 abbrev pub joined_to : Valued → (value : Option (List ℕ)) → (other : Kind) → Kind
@@ -108,7 +108,7 @@ joined_to o None other = other
 
 abbrev pub joined_kind : List Valued → (word : List ℕ) → Kind
 joined_kind [] word = unknown
-joined_kind (o ∷ os) word = joined_to o (after (option_word o ++ codes "=") word) (joined_kind os word)
+joined_kind (o ∷ os) word = joined_to o (following (option_word o ++ codes "=") word) (joined_kind os word)
 
 -- a word that is not an option by itself
 abbrev pub other_kind : List ℕ → Kind

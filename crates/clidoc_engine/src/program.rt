@@ -48,7 +48,7 @@ const STANDARD_INPUT: &str = "-";
 const NO_NAMES: &str = "clidoc: no options or commands were found in HELP; \
     if the program prints its help on standard error, add 2>&1";
 
-/// What is said after a fault of FILE where HELP has a line as a description does.
+/// Said after the faults of FILE if a line of HELP begins as the name of a description does.
 const HELP_IS_FIRST: &str =
     "clidoc: HELP looks like a description; HELP comes first: against HELP FILE";
 
@@ -283,7 +283,7 @@ where
     }
 }
 
-// Whether a line begins as that of a description with its name.
+// Whether a line begins as the name of a description does.
 fn has_name_key(text: &str) -> bool {
     text.lines().any(|line| {
         line.strip_prefix("name")
@@ -542,7 +542,7 @@ fn within<T: Drop, S: Drop>(
     let is_empty = reader.moved() == 0;
     match outcome {
         Ok(made) => Ok(made),
-        Err(Fault::NotDescription(_)) if is_empty => {
+        Err(Fault::NotDescription(_) | Fault::NotJson { .. }) if is_empty => {
             Err(Failure::Told(format!(in global; "{}: the input is empty", Echoed(file))?))
         }
         Err(fault) => Err(told(global, &fault, file)),

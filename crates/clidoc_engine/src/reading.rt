@@ -4,7 +4,7 @@ ghost use Rattle.std.specs.Prelude.{◌≡◌, ◌≢◌, ◌⊎◌, ◌++◌, �
 ghost use Rattle.std.specs.Prelude.{codes, option_map};
 ghost use Rattle.clidoc_engine.specs.Chosen.{words_said};
 ghost use Rattle.clidoc_engine.specs.Reading.{IsRefused, before, given_after, given_of, kind_said, together};
-ghost use Rattle.clidoc_engine.specs.Words.{after, given_in, joined_kind, kind_of, only_files, other_kind};
+ghost use Rattle.clidoc_engine.specs.Words.{following, given_in, joined_kind, kind_of, only_files, other_kind};
 ghost use Rattle.clidoc_engine.specs.Words.{with_value};
 ghost use Rattle.clidoc_engine.specs.declared.reading.Valued.TheVariants.{Command, Date, Into, Name, Vendor, Width};
 
@@ -284,17 +284,17 @@ fn other_kind(word: &str) -> Kind<'_>
 fn joined(word: &str) -> Kind<'_>
     ensures { kind_said result ≡ joined_kind (Command ∷ Width ∷ Into ∷ Date ∷ Vendor ∷ Name ∷ []) word.now }
 {
-    if let Some(value) = after(word, "--command=") {
+    if let Some(value) = following(word, "--command=") {
         Kind::Joined(Valued::Command, value)
-    } else if let Some(value) = after(word, "--width=") {
+    } else if let Some(value) = following(word, "--width=") {
         Kind::Joined(Valued::Width, value)
-    } else if let Some(value) = after(word, "--into=") {
+    } else if let Some(value) = following(word, "--into=") {
         Kind::Joined(Valued::Into, value)
-    } else if let Some(value) = after(word, "--date=") {
+    } else if let Some(value) = following(word, "--date=") {
         Kind::Joined(Valued::Date, value)
-    } else if let Some(value) = after(word, "--vendor=") {
+    } else if let Some(value) = following(word, "--vendor=") {
         Kind::Joined(Valued::Vendor, value)
-    } else if let Some(value) = after(word, "--name=") {
+    } else if let Some(value) = following(word, "--name=") {
         Kind::Joined(Valued::Name, value)
     } else {
         Kind::Unknown
@@ -302,8 +302,8 @@ fn joined(word: &str) -> Kind<'_>
 }
 
 // What follows this front of the word.
-fn after<'w>(word: &'w str, front: &str) -> Option<&'w str>
-    ensures { option_map (λ rest. rest.now) result ≡ after front.now word.now }
+fn following<'w>(word: &'w str, front: &str) -> Option<&'w str>
+    ensures { option_map (λ rest. rest.now) result ≡ following front.now word.now }
 {
     word.strip_prefix(front)
 }

@@ -15,7 +15,10 @@ const TABLES: &[Table] = &[
     ("commands have their levels", rows::COMMANDS),
     ("helps are first paragraphs", rows::HELPS),
     ("texts stand in quotes", rows::QUOTES),
-    ("what is left behind is named by the program", rows::NAMES),
+    (
+        "what a script defines is named after its program",
+        rows::NAMES,
+    ),
 ];
 
 #[test]

@@ -6,7 +6,7 @@ FILES = {"a file", "b.txt", "dir"}
 FOLDERS = {"dir"}
 
 
-def after(front, words):
+def prefixed(front, words):
     return {front + word for word in words}
 
 
@@ -17,7 +17,7 @@ TAR_LONG = {"--help", "--version", "--file=", "--format=", "--multi-volume", "--
             "--zstd", "--use-compress-program=", "--directory=", "--files-from=", "--null", "--exclude=", "--dereference", "--newer=", "--one-file-system",
             "--keep-old-files", "--strip-components=", "--to-stdout", "--preserve-permissions", "--touch", "--same-owner", "--no-same-owner", "--verbose", "--interactive"}
 FORMATS = {"gnu", "oldgnu", "pax", "posix", "ustar", "v7"}
-TAR_ALL = TAR_DEEDS | TAR_LONG | after("-", TAR_SHORT)
+TAR_ALL = TAR_DEEDS | TAR_LONG | prefixed("-", TAR_SHORT)
 
 GIT = {"clone", "init", "add", "commit", "ci", "status", "log", "diff", "fetch", "push", "remote"}
 GIT_OPTIONS = {"-h", "--help", "-C", "-c", "--git-dir=", "--work-tree=", "--no-pager"}
@@ -42,7 +42,7 @@ PLACES = {
         ("--", TAR_LONG | {it for it in TAR_DEEDS if it.startswith("--")}),
         ("--f", {"--file=", "--files-from=", "--format="}),
         ("--format", {"--format="}),
-        ("--format=", after("--format=", FORMATS)),
+        ("--format=", prefixed("--format=", FORMATS)),
         ("--format=p", {"--format=pax", "--format=posix"}),
         ("--format p", {"pax", "posix"}),
         ("--format ", FORMATS),
@@ -51,7 +51,7 @@ PLACES = {
         ("-cH", {"-cH"}),
         ("-cHu", {"-cHustar"}),
         ("-cH u", {"ustar"}),
-        ("--file=", after("--file=", FILES)),
+        ("--file=", prefixed("--file=", FILES)),
         ("--file ", FILES),
         ("-f", {"-f"}),
         ("-fb", {"-fb.txt"}),
@@ -59,8 +59,8 @@ PLACES = {
         ("-xvf ", FILES),
         ("-xvfa", {"-xvfa file"}),
         ("-xvf a\\ file ", FILES),
-        ("-xv", after("-xv", TAR_SHORT)),
-        ("-cw", after("-cw", TAR_SHORT - {"w"})),
+        ("-xv", prefixed("-xv", TAR_SHORT)),
+        ("-cw", prefixed("-cw", TAR_SHORT - {"w"})),
         ("-c -", TAR_ALL - TAR_DEEDS),
         ("--get -", TAR_ALL - TAR_DEEDS),
         ("-x --ex", {"--exclude="}),
@@ -83,7 +83,7 @@ PLACES = {
         ("c", {"clone", "commit", "ci"}),
         ("-", GIT_OPTIONS),
         ("--", {"--help", "--git-dir=", "--work-tree=", "--no-pager"}),
-        ("--git-dir=", after("--git-dir=", FOLDERS)),
+        ("--git-dir=", prefixed("--git-dir=", FOLDERS)),
         ("--git-dir dir ", GIT),
         ("-C ", FOLDERS),
         ("-C b", set()),
@@ -98,11 +98,11 @@ PLACES = {
         ("--no-pager commit -", COMMIT | HELP),
         ("commit -am ", FILES),
         ("commit -am text -", (COMMIT | HELP) - {"-a", "--all"}),
-        ("commit --message=", after("--message=", FILES)),
+        ("commit --message=", prefixed("--message=", FILES)),
         ("commit -s --s", set()),
         ("log -", LOG | HELP),
         ("log --", {"--help", "--oneline", "--graph", "--decorate", "--decorate="}),
-        ("log --decorate=", after("--decorate=", DECORATE)),
+        ("log --decorate=", prefixed("--decorate=", DECORATE)),
         ("log --decorate=f", {"--decorate=full"}),
         ("log --decorate ", FILES),
         ("log -n 5 --on", {"--oneline"}),
@@ -132,7 +132,7 @@ PLACES = {
         ("h", {"html"}),
         ("html ", FILES),
         ("html b", {"b.txt"}),
-        ("all --into=", after("--into=", FOLDERS)),
+        ("all --into=", prefixed("--into=", FOLDERS)),
         ("all --into ", FOLDERS),
         ("all --into b", set()),
         ("--width ", set()),
@@ -141,7 +141,7 @@ PLACES = {
     "edges.toml": [
         ("-", EDGE_OPTIONS),
         ("--", EDGE_LONG),
-        ("--mode=", after("--mode=", MODES)),
+        ("--mode=", prefixed("--mode=", MODES)),
         ("--mode ", MODES),
         ("--mode=very", {"--mode=very fast", "--mode=very slow"}),
         ("--mode=very\\ f", {"--mode=very fast"}),
@@ -170,7 +170,7 @@ PLACES = {
         ("--json --no", set()),
         ("--no-table --js", set()),
         ("--sec", set()),
-        ("--into=", after("--into=", FOLDERS)),
+        ("--into=", prefixed("--into=", FOLDERS)),
         ("--into ", FOLDERS),
         ("--into=b", set()),
         ("--into b", set()),
@@ -187,7 +187,7 @@ PLACES = {
         ("--text b", set()),
         ("--old", set()),
         ("-q", {"-q"}),
-        ("-qq", after("-qq", set("mODIn"))),
+        ("-qq", prefixed("-qq", set("mODIn"))),
         ("", {"a file", "plain"} | RUN),
         ("a", {"a file"}),
         ("x ", {"one", "two"} | RUN),

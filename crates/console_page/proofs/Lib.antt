@@ -1,6 +1,6 @@
+pub mod Alone
 pub mod Bars
-pub mod After
 pub mod Items
 pub mod Lists
+pub mod Prefixed
 pub mod Rows
-pub mod Alone

@@ -81,7 +81,7 @@ impl Display for Why {
             Why::NoComma(closing) => write!(f, "a comma or {closing} has to stand here"),
             Why::LastComma => f.write_str("no comma may stand before this bracket"),
             Why::Trailing => f.write_str("nothing may follow the object"),
-            Why::Escape => f.write_str("not an escape of JSON"),
+            Why::Escape => f.write_str("not a JSON escape; write \\\\ for a backslash"),
             Why::Surrogate => f.write_str("half of a surrogate pair, without the other half"),
             Why::Control => {
                 f.write_str(

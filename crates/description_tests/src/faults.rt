@@ -680,7 +680,7 @@ name = 'a'
 [[command]]
 name = 'b'
 short = 'bb'
-=> command 1 (b): short is not one character; write a longer name as long, or in aliases of a command
+=> command 1 (b): short is not one character; a longer name of an option goes in long, one of a command in aliases
 
 name = 'a'
 [[option]]
@@ -740,7 +740,7 @@ short = "\ufdd1"
 name = 'a'
 [[option]]
 short = ''
-=> option 1: short is not one character; write a longer name as long, or in aliases of a command
+=> option 1: short is not one character; a longer name of an option goes in long, one of a command in aliases
 
 name = 'a'
 [[option]]
@@ -1735,7 +1735,7 @@ short = 'dd'
 => option 1 (-b): long begins with -; write it without dashes
 option 2 (-b): long begins with -; write it without dashes
 option 3 (--c[): syntax holds a bracket that is in no pair
-command 2 (e): short is not one character; write a longer name as long, or in aliases of a command
+command 2 (e): short is not one character; a longer name of an option goes in long, one of a command in aliases
 
 # The first 20 are told, and how many more there are.
 name = 'a'

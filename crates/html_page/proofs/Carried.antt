@@ -15,7 +15,7 @@ use Rattle.html_page.specs.Events as events
 use Rattle.html_page.specs.Events.{Event, break_line, inside, inside_with_id, link_to, say, text_in}
 use Rattle.html_page.specs.Ids.{chapter_id}
 use Rattle.html_page.specs.Laws.{addresses_below, addresses_in, all_led_to, block_addresses, entry_addresses, led_to, led_to_below, line_addresses, part_addresses, piece_addresses, target_titles}
-use Rattle.html_page.specs.Page.{Before, after, block_events, blocks_events, chapter_links, chapter_sections, chapters_links, chapters_sections, code_events, entries_events, entry_events, entry_words, footer_events, form_events, has_links, header_events, heading_after, heading_link, heading_links, headings_of, id_after, item_events, line_events, lines_events, listed_links, lone_section, lower_section, main_events, nav_events, nothing_before, own_section, own_term, page_events, part_events, parts_events, piece_events, term_events, terms_events, top_section, usage_events, usage_item, usage_piece}
+use Rattle.html_page.specs.Page.{Before, counted, block_events, blocks_events, chapter_links, chapter_sections, chapters_links, chapters_sections, code_events, entries_events, entry_events, entry_words, footer_events, form_events, has_links, header_events, heading_after, heading_link, heading_links, headings_of, id_after, item_events, line_events, lines_events, listed_links, lone_section, lower_section, main_events, nav_events, nothing_before, own_section, own_term, page_events, part_events, parts_events, piece_events, term_events, terms_events, top_section, usage_events, usage_item, usage_piece}
 use Rattle.html_page.specs.View.{FrameSaid}
 use Rattle.html_page.proofs.Among.{Each, each_append, each_left, each_right}
 use Rattle.html_page.proofs.Attributes.{AreBalanced, event_values, given_in, opened, outer}
@@ -55,7 +55,7 @@ part_ids title before (entries listed) = entries_ids title before.words listed
 
 abbrev pub parts_ids : (title : List ℕ) → Before → List PartSaid → List (List ℕ)
 parts_ids title before [] = []
-parts_ids title before (part ∷ parts) = part_ids title before part ++ parts_ids title (after before part) parts
+parts_ids title before (part ∷ parts) = part_ids title before part ++ parts_ids title (counted before part) parts
 
 abbrev pub headings_ids : (title : List ℕ) → (before texts : List (List ℕ)) → List (List ℕ)
 headings_ids title before [] = []
@@ -249,7 +249,7 @@ module _ (P : List ℕ → Type 0) where
       → Carries P (parts_ids title before parts) (parts_events frame title before parts)
   parts_give frame title before [] h own led = nothing
   parts_give frame title before (part ∷ parts) h own led =
-      let rest : Before = after before part in
+      let rest : Before = counted before part in
       two (part_events frame title before part) (parts_events frame title rest parts)
       (part_gives frame title before part (each_left P (part_addresses part) (flat_map part_addresses parts) h) (each_left (λ id. P (place id)) (part_ids title before part) (parts_ids title rest parts) own)
       (each_left (λ t. P (place (chapter_id t))) (led_to part) (flat_map led_to parts) led))
@@ -311,11 +311,11 @@ module _ (P : List ℕ → Type 0) where
   -- the ids of headings are among those of parts
   headings_there : (title : List ℕ) (before : Before) (parts : List PartSaid) → Each (λ id. P (place id)) (parts_ids title before parts) → Each (λ id. P (place id)) (headings_ids title before.headings (flat_map headings_of parts))
   headings_there title before [] own = tt
-  headings_there title before (heading rank text ∷ parts) own = (own.0, headings_there title (after before (heading rank text)) parts own.1)
+  headings_there title before (heading rank text ∷ parts) own = (own.0, headings_there title (counted before (heading rank text)) parts own.1)
   headings_there title before (usage forms ∷ parts) own = headings_there title before parts own
   headings_there title before (block shown ∷ parts) own = headings_there title before parts own
   headings_there title before (entries listed ∷ parts) own =
-      headings_there title (after before (entries listed)) parts (each_right (λ id. P (place id)) (entries_ids title before.words listed) (parts_ids title (after before (entries listed)) parts) own)
+      headings_there title (counted before (entries listed)) parts (each_right (λ id. P (place id)) (entries_ids title before.words listed) (parts_ids title (counted before (entries listed)) parts) own)
 
   listed_give : (b : Bool) (es : List Event) → Quiet P es → Quiet P (listed_links b es)
   listed_give true es p = in_element Ul es p

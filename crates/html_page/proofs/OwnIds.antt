@@ -7,7 +7,7 @@ use Rattle.std.proofs.lemmas.Slice.Eq.{bytes_eq-Decides}
 use Rattle.page_model.specs.Content.{TargetSaid, to_page, to_heading, EntrySaid, PartSaid, heading, usage, block, entries, ChapterSaid, chapter, ChaptersSaid, no_chapters, chapters}
 use Rattle.html_page.specs.Ids.{chapter_id, times}
 use Rattle.html_page.specs.Laws.{IdsAreDistinct, addresses_in, all_led_to, ids_in, is_parted, titles_below, titles_in}
-use Rattle.html_page.specs.Page.{Before, after, entry_words, id_after, word_with_id}
+use Rattle.html_page.specs.Page.{Before, counted, entry_words, id_after, word_with_id}
 use Rattle.html_page.specs.Promises.{page_tree}
 use Rattle.html_page.specs.View.{FrameSaid}
 use Rattle.html_page.proofs.Among.{Among, Each, among_either, each_among, each_from, each_mapped, each_weaker}
@@ -140,7 +140,7 @@ module _ (title : List ℕ) where
   both_in before ns ws hs e f =
       ap₂ (λ ws hs. record { words = ws; headings = hs }) (sym (words_append before ns ∙ ap (λ vs. words_in before ++ vs) e)) (sym (headings_append before ns ∙ ap (λ vs. headings_in before ++ vs) f))
 
-  part_after : (before : List Named) (part : PartSaid) → after (before_in before) part ≡ before_in (before ++ part_named part)
+  part_after : (before : List Named) (part : PartSaid) → counted (before_in before) part ≡ before_in (before ++ part_named part)
   part_after before (heading rank text) = ap (λ ws. record { words = ws; headings = headings_in before ++ text ∷ [] }) (sym (append-nil (words_in before))) ∙ both_in before (of_heading text ∷ []) [] (text ∷ []) refl refl
   part_after before (usage forms) = ap before_in (sym (append-nil before))
   part_after before (block shown) = ap before_in (sym (append-nil before))

@@ -124,15 +124,16 @@ part_events frame title before (usage forms) = usage_events frame.usage forms
 part_events frame title before (block shown) = block_events shown
 part_events frame title before (entries listed) = inside Dl (entries_events title before.words listed)
 
-abbrev pub after : Before → PartSaid → Before
-after before (heading rank text) = record before { headings = before.headings ++ text ∷ [] }
-after before (usage forms) = before
-after before (block shown) = before
-after before (entries listed) = record before { words = before.words ++ flat_map entry_words listed }
+-- what stands before the next part
+abbrev pub counted : Before → PartSaid → Before
+counted before (heading rank text) = record before { headings = before.headings ++ text ∷ [] }
+counted before (usage forms) = before
+counted before (block shown) = before
+counted before (entries listed) = record before { words = before.words ++ flat_map entry_words listed }
 
 abbrev pub parts_events : FrameSaid → (title : List ℕ) → Before → List PartSaid → List Event
 parts_events frame title before [] = []
-parts_events frame title before (part ∷ parts) = part_events frame title before part ++ parts_events frame title (after before part) parts
+parts_events frame title before (part ∷ parts) = part_events frame title before part ++ parts_events frame title (counted before part) parts
 
 -- ---- sections
 

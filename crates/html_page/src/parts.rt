@@ -4,7 +4,7 @@
 ghost use Rattle.std.specs.Prelude.{◌≡◌, ◌++◌, ◌∷◌, [], flat_map, map, OnOk};
 ghost use Rattle.page_model.specs.View.{entry_of, form_of, part_of};
 ghost use Rattle.html_page.specs.Events.{inside, inside_with_id, say};
-ghost use Rattle.html_page.specs.Page.{after, entries_events, entry_words, heading_after, nothing_before};
+ghost use Rattle.html_page.specs.Page.{counted, entries_events, entry_words, heading_after, nothing_before};
 ghost use Rattle.html_page.specs.Page.{part_events, parts_events};
 ghost use Rattle.html_page.specs.Steps.{Puts};
 ghost use Rattle.html_page.specs.Steps.View.{before_of, texts_of};
@@ -85,7 +85,7 @@ fn put_part<'a, A: Allocator + Copy, B: Allocator>(
 ) -> Result<(), PageError>
     ensures put { Puts page.old (part_events (frame_of frame.now) title.now (before_of before.old)
         (part_of part.now)) page.new result }
-    ensures counted { OnOk result (before_of before.new ≡ after (before_of before.old) (part_of part.now)) }
+    ensures counted { OnOk result (before_of before.new ≡ counted (before_of before.old) (part_of part.now)) }
 {
     match part {
         Part::Heading(_, text) => put_heading(alloc, page, title, &mut before.headings, text),

@@ -46,7 +46,7 @@ abbrev pub asks_blank_line : Request → Bool
 asks_blank_line BlankLine = true
 asks_blank_line _ = false
 
--- (a) a line or a blank line is asked for, and the text does not end in a newline
+-- (a) a new line or a blank line is asked for, and the text does not end in a newline
 abbrev pub lacks_newline : PageSoFar → Bool
 lacks_newline page = asks_line page.request && not (ends_with nat_eq page.text (codes "\n"))
 
@@ -76,7 +76,7 @@ wrapped page = on_new_line (record page { text = trim_end page.text })
 
 -- ---- steps 2 to 4: the slice is written from its margin on
 
--- step 3: where the margin is pending and the column is at least 28, two blanks in all, this many of which step 2 put
+-- step 3: where the margin is pending and the column is at least 28, blanks until there are two with those of step 2
 abbrev pub body_parted : ℕ → PageSoFar → PageSoFar
 body_parted missing page = if page.is_pending && nat_le 28 page.column then with_blanks (2 - missing) page else page
 
@@ -94,7 +94,7 @@ placed margin slice weight page =
 
 -- A Raw chunk, at the margin of its text. Step 1 is skipped where there is no text yet; otherwise what is asked for is
 -- put at its end, and where the slice then has no room (c), the line is wrapped. A blank that has no room is dropped,
--- and what was asked for still is. Any other slice is placed.
+-- and the request stays. Any other slice is placed.
 abbrev pub raw_put : ℕ → ℕ → List ℕ → ℕ → PageSoFar → PageSoFar
 raw_put width margin slice weight page =
     let met : PageSoFar = request_met page in

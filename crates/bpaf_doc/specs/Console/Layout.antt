@@ -169,7 +169,7 @@ pub record BreaksWhereAsked (width : ℕ) (stretches : List Stretch) : Type 0 wh
       → IsTrue (not (list_any (shows_chunk is_raw) (events_of between))) → columns f.bytes ≤ width
       → HasBlankLine (text_of between)
 
--- kept whole; a byte outside the places only where it may be added
+-- kept whole: a Raw has a place, and a place its whole chunk; a byte is outside the places only where it may be added
 abbrev pub IsKept : Type 0 → Stretch → Type 0
 IsKept may_add (Gap b) = may_add
 IsKept may_add (Placed e) = e.shown ≡ e.bytes
@@ -199,7 +199,7 @@ is_written (Closes b) = is_term_ref b
 abbrev pub BeginsClear : List Event → Type 0
 BeginsClear events = IsTrue (not (list_any is_empty_code (before_first is_written events)))
 
--- there is no inked chunk before it in its line
+-- what follows these stretches has no inked chunk before it in its line
 abbrev pub IsFirstInLine : List Stretch → Type 0
 IsFirstInLine before = IsTrue (not (list_any is_inked_stretch (line_before before)))
 
@@ -223,8 +223,8 @@ pub record FollowsBlank (before : List Stretch) (f : Place) : Type 0 where
   pub same_text : e.part ≡ f.part
   pub one_blank : events_of between ≡ Shows f.part (Raw (codes " ") 1) ∷ []
 
--- An inked chunk's column is at least its margin. It is the margin for the first inked chunk of a line if since the
--- last ink there was no Raw chunk and no TermRef mark, or of the document only one blank of the same text.
+-- An inked chunk's column is at least its margin. It is the margin for the first inked chunk of a line if the document
+-- has no Raw chunk and no TermRef mark since the last ink, or only one ordinary blank within one text.
 pub record KeepsMargin (document : List Part) (stretches : List Stretch) : Type 0 where
   pub at_least : (before after : List Stretch) (f : Place) → stretches ≡ before ++ Placed f ∷ after
       → IsTrue (is_inked (chunk_at f)) → margin document f.part ≤ column before

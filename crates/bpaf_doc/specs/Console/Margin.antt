@@ -9,7 +9,7 @@ greatest ns = fold max 0 ns
 
 -- ---- skipped pairs
 
--- the block of Section4 marks
+-- the block Section4
 abbrev pub is_section4 : Block → Bool
 is_section4 blocks.Section4 = true
 is_section4 _ = false
@@ -37,7 +37,7 @@ is_skipped document k =
 
 -- ---- the tab stop
 
--- the block of ItemTerm marks
+-- the block ItemTerm
 abbrev pub is_term : Block → Bool
 is_term blocks.ItemTerm = true
 is_term _ = false

@@ -20,7 +20,7 @@ closing_tags style = flat_map closing_tag (reverse (style_elements style))
 
 -- ---- blocks
 
--- the tag at the start of a block, which is directly in a definition list or not
+-- what stands at the start of a block, which is directly in a definition list or not: a tag, or the sign of a header
 abbrev pub start_tag : Block → Bool → List ℕ
 start_tag blocks.Header _ = codes "# "
 start_tag blocks.Section2 _ = codes "<div>\n"

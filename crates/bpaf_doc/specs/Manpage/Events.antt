@@ -27,14 +27,14 @@ is_section block.Section3 = true
 is_section block.Section4 = true
 is_section _ = false
 
--- the start and the end of a term, and the end of a body
-abbrev pub is_term_mark : Part → Bool
-is_term_mark (Start block.ItemTerm) = true
-is_term_mark (End block.ItemTerm) = true
-is_term_mark (End block.ItemBody) = true
-is_term_mark _ = false
+-- what sets whether newlines are stripped: the start and the end of a term, and the end of a body
+abbrev pub sets_stripping : Part → Bool
+sets_stripping (Start block.ItemTerm) = true
+sets_stripping (End block.ItemTerm) = true
+sets_stripping (End block.ItemBody) = true
+sets_stripping _ = false
 
--- the text of a place, if it is one and the last section mark before it is a start
+-- the text at a place, if the last section mark before it is a start; nothing of another place or part
 abbrev pub captured_text : List Part × Part → List ℕ
 captured_text (before, Text bytes how) = if last_is_start (is_mark_of is_section) before then bytes else []
 captured_text _ = []
@@ -85,7 +85,7 @@ end_name block.ItemBody = Some (codes "PP")
 end_name block.Meta = Some (codes "fi")
 end_name _ = None
 
--- an emphasized text is under a heading without words
+-- the control before a text of this style: an emphasized one is under a heading without words
 abbrev pub style_name : Style → Option (List ℕ)
 style_name style.Emphasis = Some (codes "SS")
 style_name _ = None
@@ -106,7 +106,7 @@ abbrev pub place_steps : List Part × Part → List Step
 place_steps (before, Text bytes how) =
     if last_is_start (is_mark_of is_section) before then []
     else control_steps (style_name how)
-    ++ Gives (Span (font_of how) (if last_is_start is_term_mark before then map newline_as_blank bytes else bytes)) ∷ []
+    ++ Gives (Span (font_of how) (if last_is_start sets_stripping before then map newline_as_blank bytes else bytes)) ∷ []
 place_steps (before, Start b) = control_steps (start_name b)
 place_steps (before, End b) = end_steps before b (heading_name b)
 

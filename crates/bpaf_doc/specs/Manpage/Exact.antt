@@ -4,7 +4,7 @@
 -- (proofs/lemmas/Manpage/Drafts, proofs/lemmas/Manpage/PageRead).
 use Rattle.std.specs.Prelude.{if◌then◌else◌, ◌++◌, ◌∷◌}
 use Rattle.bpaf_doc.specs.Words.{ℕ, Bool, List, [], Option, Some, None, reverse, find, flat_map, str_to_ascii_uppercase, Block, Part, Text, Start, End, is_mark_of, Piece, Script, control_pieces, linebreak_pieces, text_pieces, rendering, Handle, Escape}
-use Rattle.bpaf_doc.specs.Manpage.Events.{places, is_start, last_is_start, is_section, is_term_mark, captured_texts, font_of, start_name, heading_name, end_name, style_name}
+use Rattle.bpaf_doc.specs.Manpage.Events.{places, is_start, last_is_start, is_section, sets_stripping, captured_texts, font_of, start_name, heading_name, end_name, style_name}
 use Rattle.bpaf_doc.specs.declared.buffer.Block.TheVariants as block
 
 -- a control without arguments, if there is one
@@ -31,7 +31,7 @@ start_or by_page (Some mark) = is_start (Some mark)
 -- whether newlines are stripped after these parts: the last ItemTerm start, ItemTerm end or ItemBody end is a start;
 -- where there was none, the page strips them
 abbrev pub strips_newlines : Bool → List Part → Bool
-strips_newlines by_page before = start_or by_page (find is_term_mark (reverse before))
+strips_newlines by_page before = start_or by_page (find sets_stripping (reverse before))
 
 -- The pieces that a part adds, by the parts before it. A text is captured where the last section mark before it is a
 -- start, otherwise written in the font of its style.

@@ -3,7 +3,7 @@
 use Rattle.std.specs.Prelude.{if◌then◌else◌, ◌++◌, ◌||◌, ◌∷◌}
 use Rattle.bpaf_doc.specs.Words.{ℕ, Bool, false, List, [], Option, Some, None, fold, str_to_ascii_uppercase, Style, Block, Part, Text, Start, End, RoffText, with_written, control_pieces, text_pieces}
 use Rattle.bpaf_doc.specs.Manpage.Exact.{name_pieces, closing_pieces}
-use Rattle.bpaf_doc.specs.Manpage.Events.{start_name, heading_name, style_name, font_of, is_section, is_start, is_term_mark}
+use Rattle.bpaf_doc.specs.Manpage.Events.{start_name, heading_name, style_name, font_of, is_section, is_start, sets_stripping}
 
 -- the text of the page, whether newlines are stripped, the captured texts since the last end of a section, and whether
 -- a text is captured
@@ -28,7 +28,7 @@ after_text draft text how =
 
 -- newlines are stripped from the start of a term on, and kept from the end of a term or a body on
 abbrev pub strips_after : Part → Bool → Bool
-strips_after part strips = if is_term_mark part then is_start (Some part) else strips
+strips_after part strips = if sets_stripping part then is_start (Some part) else strips
 
 abbrev pub after_start : Draft → Block → Draft
 after_start draft b =

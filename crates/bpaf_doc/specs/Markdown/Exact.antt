@@ -28,11 +28,11 @@ starts_line text = is_empty text || ends_with nat_eq text (codes "\n")
 abbrev pub starts_paragraph : List ℕ → Bool
 starts_paragraph text = is_empty text || ends_with nat_eq text (codes "\n\n")
 
--- "new line"
+-- "new line": a newline, unless the text is at the start of a line
 abbrev pub new_line : List ℕ → List ℕ
 new_line text = if starts_line text then [] else codes "\n"
 
--- "blank line"
+-- "blank line": two newlines, unless the text is at the start of a paragraph
 abbrev pub blank_line : List ℕ → List ℕ
 blank_line text = if starts_paragraph text then [] else codes "\n\n"
 
@@ -42,7 +42,7 @@ indented_line line = codes "  " ++ (line ++ codes "\n")
 
 -- ---- code
 
--- a code line opens a code block; an ordinary Raw and the end of a text close it
+-- what decides whether a code block is open: a code line opens one; an ordinary Raw and the end of a text close it
 abbrev pub decides_code : Fragment → Bool
 decides_code f = shows is_code_line f || (shows is_ordinary f || is_text_end f)
 
@@ -80,7 +80,7 @@ chunk_markdown text before LineBreak = codes "\n"
 abbrev pub item_mark : List Fragment → List ℕ
 item_mark after = if first_is is_term_end after then codes "  " else codes "- "
 
--- in a definition list, a long dash before a body, or a blank after such an item
+-- before a body in a definition list a long dash, or a blank where the item has blanks in place of its dash
 abbrev pub body_mark : List Fragment → List ℕ
 body_mark before =
     if is_in_list before then (if is_after_empty_item before then codes " " else codes " &mdash; ") else []

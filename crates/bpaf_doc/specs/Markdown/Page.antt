@@ -120,6 +120,7 @@ headings_of before _ after = []
 abbrev pub headed_snippets : List Fragment → Fragment → List Fragment → List MarkdownSnippet
 headed_snippets before fragment after = Of fragment ∷ map Put (headings_of before fragment after)
 
+-- a heading mark or a list mark
 abbrev pub is_heading : Mark → Bool
 is_heading Heading = true
 is_heading SecondHeading = true

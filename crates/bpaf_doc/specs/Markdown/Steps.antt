@@ -19,7 +19,7 @@ abbrev pub is_empty : Item → Bool
 is_empty items.Empty = true
 is_empty _ = false
 
--- The bytes so far; whether a heading was written; whether the last mark of a definition list was a start; whether an
+-- The bytes so far; whether a Header was started; whether the last mark of a definition list was a start; whether an
 -- item's dash waits for the next fragment, and otherwise whether it is empty; the Mono starts and ends so far; whether
 -- a code block is open.
 pub record Marked : Type 0 where

@@ -172,7 +172,8 @@ pub data Spells : Form → List Chunk → List ℕ → Type 0 where
 abbrev pub without_front : (ℕ → Bool) → List ℕ → List ℕ
 without_front test bytes = drop (prefix_len test bytes) bytes
 
--- the chunks of a text of at most n bytes, read in this form
+-- The chunks of a text of at most n bytes, read in this form. In ordinary text a byte that is neither a word byte nor
+-- a blank is a newline, and what follows says what it is.
 unfoldable pub chunks_within : ℕ → Form → List ℕ → List Chunk
 chunks_within zero form text = []
 chunks_within (suc n) form [] = []

@@ -5,7 +5,7 @@ ghost use Rattle.bpaf_doc.specs.Buffer.Parts.{is_end_of, is_start_of};
 ghost use Rattle.bpaf_doc.specs.Buffer.View.{part_of};
 ghost use Rattle.bpaf_doc.specs.Console.Margin.{is_section4};
 ghost use Rattle.bpaf_doc.specs.Console.Steps.Text.{no_pairs, pairs_at, is_adjacent, skips, section4_end};
-ghost use Rattle.bpaf_doc.specs.Console.Steps.Text.{has_empty_block, is_block};
+ghost use Rattle.bpaf_doc.specs.Console.Steps.Text.{has_empty_block, is_plain_block};
 
 use crate::buffer::{Block, Doc, Part};
 use std::alloc::Allocator;
@@ -85,13 +85,13 @@ fn is_section4_end(part: Option<Part<'_>>) -> bool
 }
 
 fn is_block_start(part: Option<Part<'_>>) -> bool
-    ensures { result ≡ option_map_or (is_start_of is_block) (option_map part_of part.entry) false }
+    ensures { result ≡ option_map_or (is_start_of is_plain_block) (option_map part_of part.entry) false }
 {
     matches!(part, Some(Part::Start(Block::Block)))
 }
 
 fn is_block_end(part: Option<Part<'_>>) -> bool
-    ensures { result ≡ option_map_or (is_end_of is_block) (option_map part_of part.entry) false }
+    ensures { result ≡ option_map_or (is_end_of is_plain_block) (option_map part_of part.entry) false }
 {
     matches!(part, Some(Part::End(Block::Block)))
 }

@@ -47,7 +47,7 @@ impl Item {
 #[derive(Drop)]
 struct Markdown<B: Allocator> {
     text: String<B>,
-    // Whether a heading was written.
+    // Whether a Header was started.
     headed: bool,
     // Whether the last mark of a definition list was a start.
     in_list: bool,

@@ -89,7 +89,7 @@ abbrev pub name_cmp : Name → Name → Ordering
 name_cmp = then_cmp (on name_form_number nat_cmp)
     (then_cmp (on short_name (option_cmp nat_cmp)) (on name_text (slice_cmp nat_cmp)))
 
--- by class, then by document, name and text, where the class has them, and then by help, none before one
+-- by class, then by document, name and text, where the class has them, and then by help, where none is less than any
 abbrev pub key_cmp : Key → Key → Ordering
 key_cmp = then_cmp (on key_class nat_cmp)
     (then_cmp (on key_document document_cmp)

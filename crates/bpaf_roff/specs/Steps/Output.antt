@@ -20,7 +20,7 @@ abbrev pub written : Bool → List ℕ
 written true = []
 written false = 0 ∷ []
 
--- a byte that a plain text has as it is, wherever it stands
+-- a byte that Special text has as it is, wherever it stands
 abbrev pub is_plain : ℕ → Bool
 is_plain b = not (b == backslash) && not (b == dash) && not (b == dot) && not (b == apostrophe)
 

@@ -30,17 +30,17 @@ def letters(nodes):
     return "".join("\n" if is_a(node, "break") else plain([node]) for node in nodes)
 
 
-def after(first, others, lines):
-    """The lines, the first one after one prefix and the others after another. Nothing stands before an empty one."""
+def prefixed(first, others, lines):
+    """The lines, the first with one prefix and each further one with a second. An empty line has no prefix."""
     return [(others if number else first) + line if line else "" for number, line in enumerate(lines)]
 
 
 def block_lines(block, width):
     if is_a(block, "code"):
-        return after("    ", "    ", plain(block.inside).split("\n"))
+        return prefixed("    ", "    ", plain(block.inside).split("\n"))
     if is_a(block, "list"):
         return [
-            line for item in block.inside for line in after("- ", "  ", filled(letters(item.inside), room(width, 2)))
+            line for item in block.inside for line in prefixed("- ", "  ", filled(letters(item.inside), room(width, 2)))
         ]
     return filled(letters(block.inside), width)
 
@@ -80,7 +80,7 @@ def entry_lines(entry, column, width):
         return [term]
     margin, before = " " * column, term + " " * max(column - columns(term), 2)
     is_beside = lines[0] and (columns(before) == column or columns(lines[0]) <= room(width, columns(before)))
-    return after(before, margin, lines) if is_beside else [term, *after(margin, margin, lines)]
+    return prefixed(before, margin, lines) if is_beside else [term, *prefixed(margin, margin, lines)]
 
 
 def entries_lines(entries, column, width):
@@ -96,7 +96,7 @@ def section_lines(section, column, width):
     found = [plain(section.child("heading").inside) + ":"]
     for entries in section.children("entries"):
         found += entries_lines(entries.inside, column, width)
-    return found + after("    ", "    ", blocks_lines(section.children("paragraph", "code", "list"), room(width, 4)))
+    return found + prefixed("    ", "    ", blocks_lines(section.children("paragraph", "code", "list"), room(width, 4)))
 
 
 def at_bars(piece):
@@ -137,7 +137,7 @@ def usage_lines(usage, word, width):
     found = []
     for form in usage.inside:
         lines = form_lines(form, columns(word), width)
-        found += after(" " * columns(word) if found else word, "", lines)
+        found += prefixed(" " * columns(word) if found else word, "", lines)
     return found
 
 

@@ -192,7 +192,7 @@ pub fn refused_as_character(text: &str) -> &'static str {
     if text.as_bytes().first() == Some(&b'-') {
         WITHOUT_DASHES
     } else {
-        " is not one character; write a longer name as long, or in aliases of a command"
+        " is not one character; a longer name of an option goes in long, one of a command in aliases"
     }
 }
 

@@ -72,7 +72,7 @@ name = 'app'
 [[positional]]
 
 ----
--:3:1: option 1 (-vv): short is not one character; write a longer name as long, or in aliases of a command
+-:3:1: option 1 (-vv): short is not one character; a longer name of an option goes in long, one of a command in aliases
 ====
 name = 'app'
 [[option]]
@@ -215,7 +215,7 @@ lnog = 1
 lnog = 1
 
 ----
--:3:1: option 1 (-vv): short is not one character; write a longer name as long, or in aliases of a command
+-:3:1: option 1 (-vv): short is not one character; a longer name of an option goes in long, one of a command in aliases
 -:4:1: option 2: short, long or syntax is missing
 -:5:1: option 2: no key lnog is known here; is it long?
 ====

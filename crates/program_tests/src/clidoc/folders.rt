@@ -463,6 +463,12 @@ const JSON_FILES: &[(&str, &[&str], &[u8], &str)] = &[
         "my.json:2:1: not a JSON object; { has to stand here",
     ),
     (
+        "clidoc|check|my.json",
+        &["open my.json"],
+        b"",
+        "my.json: the input is empty",
+    ),
+    (
         "clidoc|all|--into|out|my.json",
         &["open my.json", "enter out"],
         b"# name = 'a'",

@@ -163,6 +163,13 @@ clidoc: HELP looks like a description; HELP comes first: against HELP FILE",
     ),
     (
         "clidoc|against|my.txt",
+        b"name='app'",
+        b"name = 1",
+        "-:1:1: name is no text
+clidoc: HELP looks like a description; HELP comes first: against HELP FILE",
+    ),
+    (
+        "clidoc|against|my.txt",
         PRINTED,
         b"",
         "-: the input is empty",

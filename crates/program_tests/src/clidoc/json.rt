@@ -122,7 +122,7 @@ const FAULTS: &str = "-:1:1: name is missing
 ====
 {\"name\": \"app\"} x
 ----
--:1:12: not an escape of JSON
+-:1:12: not a JSON escape; write \\\\ for a backslash
 ====
 {\"name\": \"a\\q\"}
 ----

@@ -184,10 +184,10 @@ section4_end_is document index = grind arith
 
 empty_block_is : (document : List Part) (index : ℕ) → length document < 2 ^ 64 → whole.has_empty_block document index ≡ has_empty_block (drop (index + 1) document)
 empty_block_is document index small =
-    empty_block-is document (index + 1) (option_map_or (is_start_of whole.is_block) (slice_get document (min (index + 1) 18446744073709551615)) false) (option_map_or (is_end_of whole.is_block) (slice_get document (min (index + 2) 18446744073709551615)) false)
-    (subst (λ (o : Option Part). IsTrue (option_map_or (is_start_of whole.is_block) (slice_get document (min (index + 1) 18446744073709551615)) false) ↔ o ≡ Some (Start blocks.Block)) (slice_get-saturates document (index + 1) small)
+    empty_block-is document (index + 1) (option_map_or (is_start_of whole.is_plain_block) (slice_get document (min (index + 1) 18446744073709551615)) false) (option_map_or (is_end_of whole.is_plain_block) (slice_get document (min (index + 2) 18446744073709551615)) false)
+    (subst (λ (o : Option Part). IsTrue (option_map_or (is_start_of whole.is_plain_block) (slice_get document (min (index + 1) 18446744073709551615)) false) ↔ o ≡ Some (Start blocks.Block)) (slice_get-saturates document (index + 1) small)
     (grind arith))
-    (subst (λ (o : Option Part). IsTrue (option_map_or (is_end_of whole.is_block) (slice_get document (min (index + 2) 18446744073709551615)) false) ↔ o ≡ Some (End blocks.Block))
+    (subst (λ (o : Option Part). IsTrue (option_map_or (is_end_of whole.is_plain_block) (slice_get document (min (index + 2) 18446744073709551615)) false) ↔ o ≡ Some (End blocks.Block))
     (slice_get-saturates document (index + 2) small ∙ ap (λ (k : ℕ). slice_get document k) (omega arith)) (grind arith))
 
 module _ (document : List Part) (small : length document < 2 ^ 64) where
@@ -197,15 +197,15 @@ module _ (document : List Part) (small : length document < 2 ^ 64) where
   knows_start index b pairs here knows = grind (arith, by_test, KnowsPairs-found, nat_tests, section4_end_is, KnowsPairs-shared, shared_answer, empty_block_is, KnowsPairs-more)
 
   pub skips_is : (index : ℕ) (b : Block) (pairs : Pairs) → KnowsPairs document (index + 1) pairs → HasMarkAt document index b → whole.skips pairs index b ≡ is_skipped document index
-  skips_is index b pairs knows mark = at (whole.is_block b) refl where
+  skips_is index b pairs knows mark = at (whole.is_plain_block b) refl where
     within : (p : Bool) (a c : ℕ) → IsTrue (p && (nat_lt a c && nat_le (c - a) 2)) ↔ (p ≡ true) × (a < c) × (c ≤ a + 2)
     within true a c = ((λ h. (refl, grind (arith, nat_tests), grind (arith, nat_tests))), (λ h. grind (arith, nat_tests)))
     within false a c = ((λ h. absurd cc), (λ h. absurd (let no : false ≡ true = h.0 in cc)))
 
-    at : (c : Bool) → whole.is_block b ≡ c → ((pairs.has_pair && c) && (nat_lt pairs.end index && nat_le (index - pairs.end) 2)) ≡ is_skipped document index
+    at : (c : Bool) → whole.is_plain_block b ≡ c → ((pairs.has_pair && c) && (nat_lt pairs.end index && nat_le (index - pairs.end) 2)) ≡ is_skipped document index
     at true h =
         ap (λ t. t && (nat_lt pairs.end index && nat_le (index - pairs.end) 2)) (and-true pairs.has_pair)
         ∙ skipped-is document index pairs b knows mark (pairs.has_pair && (nat_lt pairs.end index && nat_le (index - pairs.end) 2)) (within pairs.has_pair pairs.end index)
     at false h =
         ap (λ t. t && (nat_lt pairs.end index && nat_le (index - pairs.end) 2)) (and-false pairs.has_pair)
-        ∙ skipped-other document index pairs b knows mark (λ e. let yes : whole.is_block b ≡ true = ap whole.is_block e in let no : true ≡ false = sym yes ∙ h in cc)
+        ∙ skipped-other document index pairs b knows mark (λ e. let yes : whole.is_plain_block b ≡ true = ap whole.is_plain_block e in let no : true ≡ false = sym yes ∙ h in cc)

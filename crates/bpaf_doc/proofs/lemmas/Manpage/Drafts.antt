@@ -1,7 +1,7 @@
 -- What the writer of a page keeps is what looking back over the marks gives, so the page that comes out is the page
 -- as a function of the document; and where the page takes a document, a reader reads the document's events.
 use Rattle.std.specs.Prelude.{if◌then◌else◌, ◌++◌, ◌∷◌, ◌≡◌}
-use Rattle.bpaf_doc.proofs.lemmas.Manpage.Words.{str_to_ascii_uppercase, ap, ◌∙◌, sym, append_assoc, arith, ℕ, Bool, true, false, List, [], Some, None, find, flat_map, refl, append-nil, reverse-append, flat_map-append, Script, RoffText, text_of, with_written, text_pieces, Handle, Part, Text, Start, End, font_of, is_start, last_is_start, is_section, is_term_mark, captured_texts, TakesDocument, IsPageOf, start_name, heading_name, style_name, Draft, draft_on, after_text, after_start, after_section, after_block, after_end, after_part, after_parts, Style, Block, Option, control_pieces, Piece, Escape, is_mark_of}
+use Rattle.bpaf_doc.proofs.lemmas.Manpage.Words.{str_to_ascii_uppercase, ap, ◌∙◌, sym, append_assoc, arith, ℕ, Bool, true, false, List, [], Some, None, find, flat_map, refl, append-nil, reverse-append, flat_map-append, Script, RoffText, text_of, with_written, text_pieces, Handle, Part, Text, Start, End, font_of, is_start, last_is_start, is_section, sets_stripping, captured_texts, TakesDocument, IsPageOf, start_name, heading_name, style_name, Draft, draft_on, after_text, after_start, after_section, after_block, after_end, after_part, after_parts, Style, Block, Option, control_pieces, Piece, Escape, is_mark_of}
 use Rattle.bpaf_roff.proofs.lemmas.Written.{written_on}
 use Rattle.bpaf_doc.specs.Manpage.Exact.{name_pieces, closing_pieces, end_pieces, start_or, strips_newlines, part_pieces, document_pieces, roff_page}
 use Rattle.bpaf_doc.specs.declared.buffer.Block.TheVariants as block
@@ -29,13 +29,13 @@ one_more page text by_page done part more e same =
 text_by : (captures : Bool) (page : List (Piece Escape)) (by_page : Bool) (done : List Part) (so_far : RoffText) (strips : Bool) (heading text : List ℕ) (how : Style) → Holds page by_page done (record { page = so_far; strips = strips; heading = heading; captures = captures })
     → Holds page by_page (done ++ Text text how ∷ []) (after_text (record { page = so_far; strips = strips; heading = heading; captures = captures }) text how)
 text_by true page by_page done so_far strips heading text how h =
-    grind (arith, append-nil, document_pieces, places-append, flat_map-append, start_or, find, is_term_mark, reverse-append, is_start, captured_texts-append)
+    grind (arith, append-nil, document_pieces, places-append, flat_map-append, start_or, find, sets_stripping, reverse-append, is_start, captured_texts-append)
 text_by false page by_page done so_far strips heading text how h =
     let written = sym h.captures in
     record {
       text =
           one_more page so_far by_page done (Text text how) (name_pieces (style_name how) ++ text_pieces strips ((font_of how, text) ∷ [])) h.text (rw written (ap (λ strip. name_pieces (style_name how) ++ text_pieces strip ((font_of how, text) ∷ [])) h.strips));
-      strips = h.strips ∙ sym (ap (λ parts. start_or by_page (find is_term_mark parts)) (reverse-append done ((Text text how) ∷ [])) ∙ grind arith);
+      strips = h.strips ∙ sym (ap (λ parts. start_or by_page (find sets_stripping parts)) (reverse-append done ((Text text how) ∷ [])) ∙ grind arith);
       captures = h.captures ∙ sym (ap (λ parts. is_start (find (is_mark_of is_section) parts)) (reverse-append done ((Text text how) ∷ [])) ∙ (grind arith));
       heading =
           h.heading ∙ sym (append-nil (captured_texts done)) ∙ ap (λ x. captured_texts done ++ (if x then text else [])) h.captures ∙ sym (captured_texts-append done (Text text how));
@@ -45,20 +45,20 @@ start_holds : (page : List (Piece Escape)) (by_page : Bool) (done : List Part) (
 start_holds page by_page done draft b h = record {
   text = one_more page draft.page by_page done (Start b) (name_pieces (start_name b)) h.text refl;
   strips =
-      (grind arith) ∙ ap (λ x. if is_term_mark (Start b) then true else x) h.strips ∙ sym (ap (λ parts. start_or by_page (find is_term_mark parts)) (reverse-append done ((Start b) ∷ [])) ∙ grind arith);
+      (grind arith) ∙ ap (λ x. if sets_stripping (Start b) then true else x) h.strips ∙ sym (ap (λ parts. start_or by_page (find sets_stripping parts)) (reverse-append done ((Start b) ∷ [])) ∙ grind arith);
   captures =
       (grind arith) ∙ ap (λ x. if is_section b then true else x) h.captures ∙ sym (ap (λ parts. is_start (find (is_mark_of is_section) parts)) (reverse-append done ((Start b) ∷ [])) ∙ (grind arith));
   heading = h.heading ∙ sym (append-nil (captured_texts done)) ∙ sym (captured_texts-append done (Start b));
 }
 
 -- the end of a section writes its heading
-section_holds : (page : List (Piece Escape)) (by_page : Bool) (done : List Part) (draft : Draft) (b : Block) (name : List ℕ) → heading_name b ≡ Some name → is_section b ≡ true → is_term_mark (End b) ≡ false
+section_holds : (page : List (Piece Escape)) (by_page : Bool) (done : List Part) (draft : Draft) (b : Block) (name : List ℕ) → heading_name b ≡ Some name → is_section b ≡ true → sets_stripping (End b) ≡ false
     → Holds page by_page done draft → Holds page by_page (done ++ End b ∷ []) (after_section draft name)
 section_holds page by_page done draft b name named section term h = record {
   text = one_more page draft.page by_page done (End b) (control_pieces name (str_to_ascii_uppercase draft.heading ∷ [])) h.text
       (ap (λ text. control_pieces name (str_to_ascii_uppercase text ∷ [])) h.heading ∙ ap (end_pieces done b) (sym named));
   strips =
-      h.strips ∙ sym ((ap (λ parts. start_or by_page (find is_term_mark parts)) (reverse-append done ((End b) ∷ [])) ∙ grind arith) ∙ ap (λ x. if x then false else strips_newlines by_page done) term);
+      h.strips ∙ sym ((ap (λ parts. start_or by_page (find sets_stripping parts)) (reverse-append done ((End b) ∷ [])) ∙ grind arith) ∙ ap (λ x. if x then false else strips_newlines by_page done) term);
   captures =
       sym ((ap (λ parts. is_start (find (is_mark_of is_section) parts)) (reverse-append done ((End b) ∷ [])) ∙ (grind arith)) ∙ ap (λ x. if x then false else last_is_start (is_mark_of is_section) done) section);
   heading = sym (captured_texts-append done (End b) ∙ ap (λ x. if x then [] else captured_texts done ++ []) section);
@@ -68,7 +68,7 @@ section_holds page by_page done draft b name named section term h = record {
 block_holds : (page : List (Piece Escape)) (by_page : Bool) (done : List Part) (draft : Draft) (b : Block) → heading_name b ≡ None → is_section b ≡ false → Holds page by_page done draft
     → Holds page by_page (done ++ End b ∷ []) (after_block draft b)
 block_holds page by_page done draft b unnamed inner h =
-    grind (arith, one_more page draft.page by_page done (End b) (closing_pieces b) h.text (ap (end_pieces done b) (sym unnamed)), start_or, find, is_term_mark, reverse-append, is_start, captured_texts-append done (End b), append-nil (captured_texts done))
+    grind (arith, one_more page draft.page by_page done (End b) (closing_pieces b) h.text (ap (end_pieces done b) (sym unnamed)), start_or, find, sets_stripping, reverse-append, is_start, captured_texts-append done (End b), append-nil (captured_texts done))
 
 end_holds : (page : List (Piece Escape)) (by_page : Bool) (done : List Part) (draft : Draft) (b : Block) → Holds page by_page done draft → Holds page by_page (done ++ End b ∷ []) (after_end draft b (heading_name b))
 end_holds page by_page done draft block.Header h = section_holds page by_page done draft block.Header _ refl refl refl h

@@ -1,6 +1,6 @@
 -- The calls of a roff that show a document are read as its events.
 use Rattle.std.specs.Prelude.{if◌then◌else◌, ◌++◌, ◌∷◌, ◌≡◌}
-use Rattle.bpaf_doc.proofs.lemmas.Manpage.Words.{AllByRecursion, str_to_ascii_uppercase, ap, ◌∙◌, sym, subst, append_assoc, arith, ℕ, true, List, [], Option, Some, None, map, flat_map, codes, Result, IfOk, refl, is_line_start, signs, text_after, escaped, Script, control_pieces, preamble, rendering, Handle, Part, Text, Start, End, Control, IsName, Reads, AtLineStart, Step, places, place_steps, page_steps, page_events, events_of_steps, captured_texts, word_of, last_is_start, is_term_mark, font_of, TakesDocument, IsPageOf, IsManualPageOf, title_page, Style, Block, start_name, end_name, heading_name, style_name, signs-append, text_after-append, is_mark_of, is_section}
+use Rattle.bpaf_doc.proofs.lemmas.Manpage.Words.{AllByRecursion, str_to_ascii_uppercase, ap, ◌∙◌, sym, subst, append_assoc, arith, ℕ, true, List, [], Option, Some, None, map, flat_map, codes, Result, IfOk, refl, is_line_start, signs, text_after, escaped, Script, control_pieces, preamble, rendering, Handle, Part, Text, Start, End, Control, IsName, Reads, AtLineStart, Step, places, place_steps, page_steps, page_events, events_of_steps, captured_texts, word_of, last_is_start, sets_stripping, font_of, TakesDocument, IsPageOf, IsManualPageOf, title_page, Style, Block, start_name, end_name, heading_name, style_name, signs-append, text_after-append, is_mark_of, is_section}
 use Rattle.std.proofs.lemmas.Result.{IfOk-weaker}
 use Rattle.bpaf_doc.specs.declared.buffer.Block.TheVariants as block
 use Rattle.bpaf_doc.proofs.lemmas.Manpage.ReadBack.{Call, ControlCall, TextCall, BreakCall, pieces_of, control_calls, IsCall, step_of, calls_read, control_written, control_read, control_ends}
@@ -13,7 +13,7 @@ end_calls before b None = control_calls (end_name b)
 
 -- the calls that show a part
 abbrev pub place_calls : List Part × Part → List Call
-place_calls (before, Text bytes how) = if last_is_start (is_mark_of is_section) before then [] else control_calls (style_name how) ++ TextCall (last_is_start is_term_mark before) (font_of how) bytes ∷ []
+place_calls (before, Text bytes how) = if last_is_start (is_mark_of is_section) before then [] else control_calls (style_name how) ++ TextCall (last_is_start sets_stripping before) (font_of how) bytes ∷ []
 place_calls (before, Start b) = control_calls (start_name b)
 place_calls (before, End b) = end_calls before b (heading_name b)
 

@@ -1,6 +1,6 @@
 -- The words of std and of `specs/` that lemmas of this folder cite, passed on from one place.
 pub use Rattle.bpaf_doc.specs.Buffer.Parts.{End, Part, Start, Text, is_end_of, is_mark_of}
-pub use Rattle.bpaf_doc.specs.Manpage.Events.{Gives, Step, Stop, captured_text, captured_texts, end_name, events_of_steps, font_of, heading_name, is_section, is_start, is_term_mark, last_is_start, page_events, page_steps, place_steps, places, start_name, starts_line, style_name, word_of}
+pub use Rattle.bpaf_doc.specs.Manpage.Events.{Gives, Step, Stop, captured_text, captured_texts, end_name, events_of_steps, font_of, heading_name, is_section, is_start, sets_stripping, last_is_start, page_events, page_steps, place_steps, places, start_name, starts_line, style_name, word_of}
 pub use Rattle.bpaf_doc.specs.Manpage.Page.{IsManualPageOf, IsPageOf, TakesDocument, title_page}
 pub use Rattle.bpaf_doc.specs.Manpage.Reader.{AreArguments, AtLineStart, Control, Event, IsArgument, IsName, IsSpanText, LineEnd, Place, Reads, Span, StartsNoControl, WithinLine}
 pub use Rattle.bpaf_doc.specs.Manpage.Steps.{Draft, after_block, after_end, after_part, after_parts, after_section, after_start, after_text, draft_on}

@@ -47,9 +47,10 @@ tab_stop_from widest in_term term (End b ∷ parts) =
 
 -- ---- empty Block pairs after a Section4
 
-abbrev pub is_block : Block → Bool
-is_block blocks.Block = true
-is_block _ = false
+-- the block `Block`
+abbrev pub is_plain_block : Block → Bool
+is_plain_block blocks.Block = true
+is_plain_block _ = false
 
 -- the place of the first Section4 end after this place, or the number of parts
 abbrev pub section4_end : List Part → ℕ → ℕ
@@ -59,8 +60,8 @@ section4_end document index =
 -- a start and an end of Block come directly after this place
 abbrev pub has_empty_block : List Part → ℕ → Bool
 has_empty_block document index =
-    option_map_or (is_start_of is_block) (slice_get document (saturated (index + 1))) false
-    && option_map_or (is_end_of is_block) (slice_get document (saturated (index + 2))) false
+    option_map_or (is_start_of is_plain_block) (slice_get document (saturated (index + 1))) false
+    && option_map_or (is_end_of is_plain_block) (slice_get document (saturated (index + 2))) false
 
 abbrev pub no_pairs : Pairs
 no_pairs = record { end = 0; has_pair = false }
@@ -79,7 +80,7 @@ is_adjacent b p = is_section4 b && p.has_pair
 
 -- a mark that belongs to such a pair
 abbrev pub skips : Pairs → ℕ → Block → Bool
-skips p index b = (p.has_pair && is_block b) && (nat_lt p.end index && nat_le (index - p.end) 2)
+skips p index b = (p.has_pair && is_plain_block b) && (nat_lt p.end index && nat_le (index - p.end) 2)
 
 -- ---- the parts
 

@@ -31,11 +31,12 @@ with_words p text = record p { bytes = p.bytes ++ flat_map escaped_character tex
 abbrev pub with_heading : Written → Block → Written
 with_heading p b = if is_header b then (if p.fresh then p else with_break p) else p
 
--- a block is closed
+-- the first of them, or false if there is none
 abbrev pub first_or_false : List Bool → Bool
 first_or_false [] = false
 first_or_false (b ∷ bs) = b
 
+-- a block is closed
 abbrev pub closed : Written → Written
 closed p = record p { in_list = first_or_false p.outer; outer = drop 1 p.outer }
 

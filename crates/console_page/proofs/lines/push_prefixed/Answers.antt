@@ -1,6 +1,6 @@
 use Rattle.std.proofs.Common.{arith, string_bytes, rules, Some, None}
 use Rattle.std.proofs.lemmas.Str.Pattern.{split_parts}
-use Rattle.console_page.proofs.After.{line_step, last_step}
+use Rattle.console_page.proofs.Prefixed.{line_step, last_step}
 use Rattle.console_page.proofs.lines.push_prefixed.Goals as goal
 
 pub loop-line-preserved : goal.loop-line-preserved
