@@ -63,7 +63,7 @@ ChaptersAreListed = (path : List (List ℕ)) (t : Tree)
 abbrev pub AreWellPlaced : List Chapter → Type 0
 AreWellPlaced = All (λ c. IsWellPlaced c.content)
 
--- the first chapter that has misplaced items, and the chapters before it and after it
+-- the item is the first misplaced one of the first chapter that has any
 pub record IsFirstMisplacedOf (chapters : List Chapter) (l : Leaf) : Type 0 where
   pub front : List Chapter
   pub faulty : Chapter

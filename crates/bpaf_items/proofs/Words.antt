@@ -3,14 +3,14 @@ pub use Rattle.bpaf_doc.specs.Buffer.Equality.{same_text}
 pub use Rattle.bpaf_doc.specs.Buffer.Parts.{IsWellNested, Part, nothing}
 pub use Rattle.bpaf_doc.specs.Buffer.Writes.{Write, doc_writes, document_of, em_doc_writes, end, inside, literal, path_writes, plain, start, text, with_text, with_write, with_writes}
 pub use Rattle.bpaf_doc.specs.declared.buffer.Style.{Style}
-pub use Rattle.bpaf_items.specs.Listing.Falls.{Placed, destination, group, group_destination, group_members, has_key_of, heading_after, heading_destination, heading_members, is_adjacent_mark, is_adjacent_start, is_adjacent_stop, is_given, is_given_after, is_group, is_group_end, is_group_mark, is_group_open, is_group_start, is_heading, is_in_group, is_last_shown, is_mark, is_mark_or_new, is_shown, items_of_type, lacks_help, last_that, nowhere, outside_groups, placed, placed_after, same_type, shown_entries, shown_places, type_of}
+pub use Rattle.bpaf_items.specs.Listing.Falls.{Placed, destination, group, group_destination, group_members, has_key_of, heading_after, heading_destination, heading_members, is_adjacent_mark, is_adjacent_start, is_adjacent_stop, is_given, is_given_after, is_group, is_group_end, is_group_mark, is_group_open, is_group_start, is_heading, is_in_group, ends_in_mark_or_new, is_mark, is_mark_or_new, is_shown, items_of_type, lacks_help, last_that, nowhere, outside_groups, placed, placed_after, same_type, shown_entries, shown_places, type_of}
 pub use Rattle.bpaf_items.specs.Listing.Groups.{GroupsAreTakenOut, HasFirstGroup, HasNoGroup, HasNoGroupMark, HasPairedGroups, both_places, empty, find_group, kept_entries, outer, stays, whole}
 pub use Rattle.bpaf_items.specs.Listing.ItemList.{Entry, IsItemList, adjacent_start, adjacent_stop, entries_of, entries_of_parts, entry_of_item, first_front_type, front_type, group_end, group_start, item_entries, item_list, listed, note, if_typed}
 pub use Rattle.bpaf_items.specs.Listing.Keys.{Key, entry_key, key_cmp, key_of, same_key}
 pub use Rattle.bpaf_items.specs.Listing.ListLaws.{FallsSomewhere, FallsUnderWritten, HeadingsAgree, IsInNoAdjacentBlock, KeyOnce}
 pub use Rattle.bpaf_items.specs.Page.EntryWrites.{argument_env_text, body, command_writes, entry_writes, env_body, env_term, env_text, env_writes, flag_env_text, help_writes, listed_writes, names_writes, term}
 pub use Rattle.bpaf_items.specs.Page.EnvTexts.{Texts, TextsAreInserted, texts_in, texts_with}
-pub use Rattle.bpaf_items.specs.Page.HelpPage.{doc_within, group_lists, groups_writes, heading_writes, three_headings, help_page_writes, list_writes, usage_line_writes}
+pub use Rattle.bpaf_items.specs.Page.HelpPage.{doc_within, group_members_writes, groups_writes, heading_writes, three_headings_writes, help_page_writes, list_writes, usage_line_writes}
 pub use Rattle.bpaf_items.specs.Page.NestedTexts.{EachHasNestedTexts, GroupsAreNested, HasNestedEntry, HasNestedHead, HasNestedText, HasNestedTexts, HelpPagesAreNested, IsNestedText, ItemListsAreNested, KeepsNested}
 pub use Rattle.bpaf_items.specs.Page.Steps.Groups.{Takes, group_len, heading_end, len_through, title_front}
 pub use Rattle.bpaf_items.specs.Page.Steps.Pages.{footer_writes, front_writes, shown_text, usage_start}

@@ -10,7 +10,7 @@ use Rattle.bpaf_items.specs.Listing.ItemList.{Entry, listed, note, group_start, 
 use Rattle.bpaf_items.specs.Listing.Keys.{Key, any_key, word_key, flag_key, argument_key}
 use Rattle.bpaf_items.specs.Page.PageAnswers.{Answer, page, misplaced, memory}
 
--- a `HelpItem`, without short names
+-- the entry that a `HelpItem` is, with an empty list of short names
 abbrev pub entry_of : {A : Type 0} → HelpItem A → Entry
 entry_of (entry.DecorSuffix h k) = note h.now k
 entry_of (entry.GroupStart h k) = group_start h.now k

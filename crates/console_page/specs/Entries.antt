@@ -4,7 +4,7 @@ use Rattle.std.specs.List.{before_first}
 use Rattle.bpaf_doc.specs.Splitter.Chunks.{columns, has_some}
 use Rattle.page_model.specs.Content.{Line, EntrySaid}
 use Rattle.console_page.specs.Texts.{line_text}
-use Rattle.console_page.specs.Lines.{prefixed, blanks, parting}
+use Rattle.console_page.specs.Lines.{blanks, parting, prefixed}
 use Rattle.console_page.specs.Blocks.{blocks_text}
 
 -- terms with a comma and a blank between two

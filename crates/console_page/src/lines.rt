@@ -4,7 +4,7 @@ ghost use Rattle.std.specs.Prelude.{◌≡◌, ◌++◌, IfOk, OnOk, string_byte
 ghost use Rattle.std.specs.Int.{is_in_range};
 ghost use Rattle.std.specs.List.{list_all};
 ghost use Rattle.bpaf_doc.specs.Splitter.Chunks.{columns};
-ghost use Rattle.console_page.specs.Lines.{prefixed, blanks, fronted, laid_out, parting};
+ghost use Rattle.console_page.specs.Lines.{blanks, fronted, laid_out, parting, prefixed};
 
 use bpaf_doc::buffer::Doc;
 use std::alloc::{AllocError, Allocator};

@@ -4,7 +4,7 @@ ghost use Rattle.std.specs.Option.{option_map};
 ghost use Rattle.page_model.specs.Content.{literal, paragraph, words};
 ghost use Rattle.page_model.specs.View.{block_of, entry_of, line_of, target_of};
 ghost use Rattle.description.specs.View.{name_said, command_said, opt_said, positional_said};
-ghost use Rattle.description_usage.specs.Entries.{alias_notes, after_lines, body, command_entry, command_terms};
+ghost use Rattle.description_usage.specs.Entries.{after_lines, alias_notes, body, command_entry, command_terms};
 ghost use Rattle.description_usage.specs.Entries.{initial_terms, named_entry, named_terms, named_word, note, noted, noted_body};
 ghost use Rattle.description_usage.specs.Entries.{option_entry, option_notes, option_terms, option_word, positional_entry};
 ghost use Rattle.description_usage.specs.Entries.{positional_notes, positional_terms};

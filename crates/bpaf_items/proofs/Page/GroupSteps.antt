@@ -1,6 +1,6 @@
 -- Groups, and entries outside them, taken from the front of a list.
 use Rattle.std.specs.Prelude.{if◌then◌else◌, ◌&&◌, ◌++◌, ◌+◌, ◌<◌, ◌∷◌, ◌≡◌, ◌≤◌}
-use Rattle.bpaf_items.proofs.Words.{get_or, ℕ, Bool, true, false, not, List, [], length, map, take, drop, refl, sym, ap, ◌∙◌, subst, append_assoc, add-one, zero, suc, arith, filter, flat_map, count_by, nat_lt, Option, Some, None, Bor, position, range_with_len, take-append_seam, drop-append_seam, map-append, length-append, take-map, drop-map, Part, Write, with_writes, with_writes-append, HiTy, Entry, group_start, group_end, placed_after, is_group_start, is_group_end, is_group_mark, is_adjacent_start, is_adjacent_stop, lacks_help, group_members, outside_groups, both_places, HasNoGroupMark, HasPairedGroups, stays, kept_entries, Texts, groups_writes, heading_writes, list_writes, group_lists, group_len, heading_end, three_headings, items_of_type, len_through, Takes, title_front, entry_at, entry_of}
+use Rattle.bpaf_items.proofs.Words.{get_or, ℕ, Bool, true, false, not, List, [], length, map, take, drop, refl, sym, ap, ◌∙◌, subst, append_assoc, add-one, zero, suc, arith, filter, flat_map, count_by, nat_lt, Option, Some, None, Bor, position, range_with_len, take-append_seam, drop-append_seam, map-append, length-append, take-map, drop-map, Part, Write, with_writes, with_writes-append, HiTy, Entry, group_start, group_end, placed_after, is_group_start, is_group_end, is_group_mark, is_adjacent_start, is_adjacent_stop, lacks_help, group_members, outside_groups, both_places, HasNoGroupMark, HasPairedGroups, stays, kept_entries, Texts, groups_writes, heading_writes, list_writes, group_members_writes, group_len, heading_end, three_headings_writes, items_of_type, len_through, Takes, title_front, entry_at, entry_of}
 use Rattle.bpaf_items.specs.declared.meta_help.entry.HiTy.TheVariants as ty
 use Rattle.bpaf_items.specs.declared.meta_help.entry.HelpItem.{HelpItem}
 use Rattle.bpaf_items.proofs.Listing.Placing.{entry, chosen-append, kept_map}
@@ -35,7 +35,7 @@ module _ (e : Entry) (es : List Entry) (clear : is_group_mark e ≡ false) (pair
   outer_members : (n : ℕ) → group_members (e ∷ es) n ≡ group_members es n
   outer_members n = grind (arith, outside_no_group, closed_outside, clear, members_shift)
 
-  pub outer_lists : (included : Bool) (texts : Texts) → group_lists included texts (e ∷ es) ≡ group_lists included texts es
+  pub outer_lists : (included : Bool) (texts : Texts) → group_members_writes included texts (e ∷ es) ≡ group_members_writes included texts es
   outer_lists included texts = grind (arith, same_for_each, outer_members, count-cons, not_start)
 
   pub outer_outside : outside_groups (e ∷ es) ≡ e ∷ outside_groups es
@@ -104,7 +104,7 @@ module _ (d : List Part) (j k : HiTy) (inner rest : List Entry) (clear : HasNoGr
   pub group_some : 0 < group_len listing
   group_some = grind (arith, group_len_is, inner, marked_len)
 
-  pub group_written : (included : Bool) (texts : Texts) → group_lists included texts listing ≡ list_writes included texts (kept_entries (take (group_len listing) listing)) ++ group_lists included texts rest
+  pub group_written : (included : Bool) (texts : Texts) → group_members_writes included texts listing ≡ list_writes included texts (kept_entries (take (group_len listing) listing)) ++ group_members_writes included texts rest
   group_written included texts =
       let f : ℕ → List Write = λ n. list_writes included texts (group_members listing n) in
       let g : ℕ → List Write = λ n. list_writes included texts (group_members rest n) in
@@ -173,5 +173,5 @@ module _ {B : Type 0} where
 
 -- ---- groups and headings
 
-pub all_writes : (included : Bool) (texts : Texts) (es : List Entry) → group_lists included texts es ++ three_headings included texts (items_of_type (outside_groups es)) ≡ groups_writes included texts es
-all_writes included texts es = λ i. group_lists included texts es ++ three_headings included texts (λ k. sym (headings_agree es k) i)
+pub all_writes : (included : Bool) (texts : Texts) (es : List Entry) → group_members_writes included texts es ++ three_headings_writes included texts (items_of_type (outside_groups es)) ≡ groups_writes included texts es
+all_writes included texts es = λ i. group_members_writes included texts es ++ three_headings_writes included texts (λ k. sym (headings_agree es k) i)

@@ -1,6 +1,6 @@
 -- What is remembered of the entries so far, after one more.
 use Rattle.std.specs.Prelude.{◌&&◌, ◌++◌, ◌==◌, ◌||◌, ◌∷◌, ◌≡◌, ◌≤◌}
-use Rattle.bpaf_items.proofs.Words.{ℕ, Bool, true, false, not, List, [], Some, None, refl, sym, ap, ◌∙◌, append-nil, subst, arith, length, suc, flat_map, fold, nat_eq, Result, Ok, Err, IfOk, AllByRecursion, IsDistinct, dedup, dedup_from, list_any, is_eq, match_ordering, nat_cmp, ordering_then, is_at, or-false, or-true, eq-eqb, or_parts, flat_map-append, common_steps, list_any-append, Part, with_writes, Leaf, with_writes-append, Entry, listed, Key, key_cmp, key_of, entry_key, same_key, is_mark, has_key_of, is_mark_or_new, is_shown, Texts, list_writes, AreApart, AreHashed, Hashed, IsHashed, PutsKey, Remembers, entry_hash, has_key, is_last_shown, key_hash, shown_writes, key_in}
+use Rattle.bpaf_items.proofs.Words.{ℕ, Bool, true, false, not, List, [], Some, None, refl, sym, ap, ◌∙◌, append-nil, subst, arith, length, suc, flat_map, fold, nat_eq, Result, Ok, Err, IfOk, AllByRecursion, IsDistinct, dedup, dedup_from, list_any, is_eq, match_ordering, nat_cmp, ordering_then, is_at, or-false, or-true, eq-eqb, or_parts, flat_map-append, common_steps, list_any-append, Part, with_writes, Leaf, with_writes-append, Entry, listed, Key, key_cmp, key_of, entry_key, same_key, is_mark, has_key_of, is_mark_or_new, is_shown, Texts, list_writes, AreApart, AreHashed, Hashed, IsHashed, PutsKey, Remembers, entry_hash, has_key, ends_in_mark_or_new, key_hash, shown_writes, key_in}
 use Rattle.std.specs.List.Sorted.{IsPermutation, IsSorted, IsStrictlySortedBy}
 use Rattle.std.specs.Hash.FoldHasher as folding
 use Rattle.std.specs.declared.cmp.Ordering.{Ordering}
@@ -15,7 +15,7 @@ use Rattle.bpaf_items.proofs.Listing.Placing.{placed-push}
 use Rattle.bpaf_items.proofs.Listing.Pushes.{last_or-push}
 use Rattle.bpaf_items.proofs.Listing.Shown.{shown-push}
 
-last_shown-push : (before : List Entry) (e : Entry) → is_last_shown (before ++ e ∷ []) ≡ is_mark_or_new (before, e)
+last_shown-push : (before : List Entry) (e : Entry) → ends_in_mark_or_new (before ++ e ∷ []) ≡ is_mark_or_new (before, e)
 last_shown-push before e = grind (arith, placed-push, last_or-push)
 
 -- ---- keys

@@ -145,13 +145,13 @@ is_mark_or_new (before, listed l) = not (list_any (has_key_of l) before)
 is_mark_or_new (before, note d k) = false
 is_mark_or_new (before, e) = true
 
--- the last of some entries is a mark or an item whose key is new
-abbrev pub is_last_shown : List Entry → Bool
-is_last_shown before = option_map_or is_mark_or_new (last_or None (placed before)) false
+-- the last of some entries is a mark or an item whose key is new: a note after it is shown
+abbrev pub ends_in_mark_or_new : List Entry → Bool
+ends_in_mark_or_new before = option_map_or is_mark_or_new (last_or None (placed before)) false
 
 -- shown once: a mark; an item whose key is new; a note directly after a mark or a shown item
 abbrev pub is_shown : Placed → Bool
-is_shown (before, note d k) = is_last_shown before
+is_shown (before, note d k) = ends_in_mark_or_new before
 is_shown p = is_mark_or_new p
 
 -- the places of one group or heading that are shown, and the entries there

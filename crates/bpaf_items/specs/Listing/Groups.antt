@@ -17,7 +17,8 @@ find_group es = both_places (position is_group_start es) (position is_group_end 
 abbrev pub HasNoGroupMark : List Entry → Type 0
 HasNoGroupMark es = list_any is_group_mark es ≡ false
 
--- nothing; an entry outside groups, and more; a group without groups in it, and more
+-- Each group start has its end, and no group stands in a group: nothing; an entry outside groups, and more; a group
+-- without groups in it, and more.
 pub data HasPairedGroups : List Entry → Type 0 where
   empty : {es : List Entry} → es ≡ [] → HasPairedGroups es
   outer : {es : List Entry} (e : Entry) (rest : List Entry) → es ≡ e ∷ rest

@@ -14,7 +14,7 @@ pub data Entry : Type 0 where
   adjacent_start : Tree → HiTy → Entry
   adjacent_stop : HiTy → Entry
 
--- the heading of an item: an Any that may stand anywhere is listed with the flags
+-- the type of an item: an Any that may stand anywhere counts as a flag
 abbrev pub type_of_item : Leaf → HiTy
 type_of_item (any m false h) = ty.Positional
 type_of_item (positional m h) = ty.Positional
@@ -53,7 +53,7 @@ abbrev pub item_entries : Leaf → List Entry
 item_entries (positional m None) = []
 item_entries l = entry_of_item l ∷ []
 
--- the entries that are made where there is a front type
+-- the entries that a front type gives; none without one
 abbrev pub if_typed : Option HiTy → (HiTy → List Entry) → List Entry
 if_typed None entries = []
 if_typed (Some k) entries = entries k

@@ -27,7 +27,7 @@ entry_key e = None
 
 -- ---- what a name and a key say
 
--- Short, Long, Both
+-- the place of a name's form among Short, Long and Both
 abbrev pub name_form_number : Name → ℕ
 name_form_number (short c) = 0
 name_form_number (long n) = 1
@@ -89,7 +89,7 @@ abbrev pub name_cmp : Name → Name → Ordering
 name_cmp = then_cmp (on name_form_number nat_cmp)
     (then_cmp (on short_name (option_cmp nat_cmp)) (on name_text (slice_cmp nat_cmp)))
 
--- by class, then by document, name and text, where the class has them, and then by help, where none is less than any
+-- by class, then by document, name and text, where the class has them, and then by help; no help comes before a help
 abbrev pub key_cmp : Key → Key → Ordering
 key_cmp = then_cmp (on key_class nat_cmp)
     (then_cmp (on key_document document_cmp)
@@ -109,7 +109,7 @@ abbrev pub help_input : Option (List Part) → List (List ℕ)
 help_input None = []
 help_input (Some d) = document_input d
 
--- the long name where there is one
+-- the long name where there is one, else the character
 abbrev pub name_input : Name → List (List ℕ)
 name_input (short c) = fed.char c
 name_input (long n) = n ∷ []

@@ -5,7 +5,7 @@ use Rattle.bpaf_items.specs.declared.meta_help.entry.HiTy.{HiTy}
 use Rattle.bpaf_items.specs.Listing.ItemList.{Entry, listed, IsItemList}
 use Rattle.bpaf_items.specs.Listing.Falls.{same_type, Placed, placed, is_adjacent_start, is_adjacent_stop, lacks_help, destination, group, nowhere, group_numbers, outside_groups, heading_members, items_of_type, has_key_of, shown_places, shown_entries}
 
--- two types are equal exactly where they are the same
+-- `same_type` is true exactly where the two types are the same
 abbrev pub IsEqualityOfTypes : Type 0
 IsEqualityOfTypes = (j k : HiTy) → IsTrue (same_type j k) ↔ (j ≡ k)
 

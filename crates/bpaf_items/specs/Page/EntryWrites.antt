@@ -6,14 +6,14 @@ use Rattle.bpaf_items.specs.Listing.ItemList.{Entry, listed, note, group_start, 
 use Rattle.bpaf_meta.specs.Names.{short_text, long_text}
 use Rattle.bpaf_items.specs.Page.EnvTexts.{Texts}
 
--- T{..} and B{..}
+-- writes between the marks of an item's term, and of its body
 abbrev pub term : List Write → List Write
 term = inside block.ItemTerm
 
 abbrev pub body : List Write → List Write
 body = inside block.ItemBody
 
--- B{doc(help)} where there is one
+-- the help as a body, where there is one
 abbrev pub help_writes : Option (List Part) → List Write
 help_writes None = []
 help_writes (Some d) = body (doc_writes d)

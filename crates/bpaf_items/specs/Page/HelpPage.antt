@@ -20,20 +20,20 @@ heading_writes include texts title [] = []
 heading_writes include texts title (e ∷ es) = inside block.Block (inside block.Section2 (emphasis title ∷ [])
     ++ inside block.DefinitionList (list_writes include texts (e ∷ es)))
 
--- the groups of a list, in order
-abbrev pub group_lists : (include_env : Bool) → Texts → List Entry → List Write
-group_lists include texts es = flat_map (λ n. list_writes include texts (group_members es n)) (group_numbers es)
+-- the members of each group of a list, in order
+abbrev pub group_members_writes : (include_env : Bool) → Texts → List Entry → List Write
+group_members_writes include texts es = flat_map (λ n. list_writes include texts (group_members es n)) (group_numbers es)
 
 -- the three headings, over the entries of each type
-abbrev pub three_headings : (include_env : Bool) → Texts → (HiTy → List Entry) → List Write
-three_headings include texts members =
+abbrev pub three_headings_writes : (include_env : Bool) → Texts → (HiTy → List Entry) → List Write
+three_headings_writes include texts members =
     heading_writes include texts (codes "Available positional items:") (members ty.Positional)
     ++ heading_writes include texts (codes "Available options:") (members ty.Flag)
     ++ heading_writes include texts (codes "Available commands:") (members ty.Command)
 
 -- `write_help_item_groups`: the groups in order, and then the three headings
 abbrev pub groups_writes : (include_env : Bool) → Texts → List Entry → List Write
-groups_writes include texts es = group_lists include texts es ++ three_headings include texts (heading_members es)
+groups_writes include texts es = group_members_writes include texts es ++ three_headings_writes include texts (heading_members es)
 
 -- a document between the marks of a block, if there is one
 abbrev pub doc_within : Block → Option (List Part) → List Write
@@ -46,7 +46,7 @@ usage_line_writes path (Some d) t = doc_writes d
 usage_line_writes path None t = emphasis (codes "Usage") ∷ plain (codes ": ")
     ∷ inside block.Mono (path_writes path ++ usage_writes true t)
 
--- `render_help`, without its check: h is the help tree
+-- `render_help`, without its check
 abbrev pub help_page_writes : (path : List (List ℕ)) → Head → Tree → (help : Tree) → (include_env : Bool) → Texts
     → List Write
 help_page_writes path (head descr header footer usage own) t help include texts =

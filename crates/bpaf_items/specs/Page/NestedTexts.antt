@@ -8,17 +8,18 @@ use Rattle.bpaf_items.specs.Page.HelpPage.{groups_writes, help_page_writes}
 
 -- ---- premises
 
--- where there is a text
+-- the text, if there is one, is well nested
 abbrev pub IsNestedText : Option (List Part) → Type 0
 IsNestedText None = ⊤
 IsNestedText (Some d) = IsWellNested d
 
--- the metavar of an Any, and the help
+-- the metavar of an Any, and the help, are well nested
 abbrev pub HasNestedText : Leaf → Type 0
 HasNestedText (any m a h) = IsWellNested m × IsNestedText h
 HasNestedText l = IsNestedText (help_of l)
 
--- the texts of the items, and the documents of each Subsection, Suffix and CustomUsage, without commands' own trees
+-- The texts of the items, and the documents of each Subsection, Suffix and CustomUsage, are well nested; commands' own
+-- trees do not count.
 abbrev mutual
   pub HasNestedTexts : Tree → Type 0
   HasNestedTexts (and_of ts) = EachHasNestedTexts ts

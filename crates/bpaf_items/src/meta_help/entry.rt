@@ -78,8 +78,7 @@ impl<'a, A: Allocator> From<&'a Item<A>> for HiTy {
 
     ghost from_gives = { λ item ty. ty ≡ type_of_item (leaf_of item.now) };
 
-    /// The heading of an item. An `Any` that may stand anywhere is listed with the flags, any other `Any` with the
-    /// positional values.
+    /// The type of an item. An `Any` that may stand anywhere counts as a flag, any other `Any` as a positional value.
     fn from(item: &'a Item<A>) -> HiTy {
         match item {
             Item::Any { anywhere, .. } => {

@@ -7,7 +7,8 @@ ghost use Rattle.bpaf_items.specs.Listing.Falls.{is_adjacent_start, is_adjacent_
 ghost use Rattle.bpaf_items.specs.Listing.Falls.{items_of_type, lacks_help, outside_groups};
 ghost use Rattle.bpaf_items.specs.Listing.Groups.{HasPairedGroups, kept_entries};
 ghost use Rattle.bpaf_items.specs.Page.EnvTexts.{texts_in};
-ghost use Rattle.bpaf_items.specs.Page.HelpPage.{group_lists, groups_writes, heading_writes, three_headings, list_writes};
+ghost use Rattle.bpaf_items.specs.Page.HelpPage.{group_members_writes, groups_writes, heading_writes, list_writes};
+ghost use Rattle.bpaf_items.specs.Page.HelpPage.{three_headings_writes};
 ghost use Rattle.bpaf_items.specs.Page.Steps.Groups.{Takes, group_len};
 ghost use Rattle.bpaf_items.specs.Page.Steps.Pieces.{Leaves};
 ghost use Rattle.bpaf_items.specs.View.{entry_at, entry_of};
@@ -46,7 +47,7 @@ impl<'t, C: Allocator, L: Allocator + Copy> Writer<'t, C, L> {
         requires { HasPairedGroups (map entry_of entries.now) }
         ensures grows { Grows doc.old doc.new }
         ensures groups { OnOk result (doc.new ≡ with_writes doc.old
-            (group_lists self.now.include_env (texts_in self.now.texts.now) (map entry_of entries.now))) }
+            (group_members_writes self.now.include_env (texts_in self.now.texts.now) (map entry_of entries.now))) }
         ensures outside { OnOk result (map entry_at outside.new.items
             ≡ map entry_at outside.old.items ++ outside_groups (map entry_of entries.now)) }
     {
@@ -102,7 +103,7 @@ impl<'t, C: Allocator, L: Allocator + Copy> Writer<'t, C, L> {
         outside: &[&HelpItem<'a, B>],
     ) -> Result<(), AllocError>
         ensures { Leaves result doc.old doc.new
-            (three_headings self.now.include_env (texts_in self.now.texts.now)
+            (three_headings_writes self.now.include_env (texts_in self.now.texts.now)
             (items_of_type (map entry_at outside.now))) }
     {
         self.put_heading(

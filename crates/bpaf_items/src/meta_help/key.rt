@@ -231,7 +231,8 @@ fn then_by_help<A: Allocator>(
     left: Option<&Doc<A>>,
     right: Option<&Doc<A>>,
 ) -> Ordering
-    ensures { result ≡ ordering_then order (option_cmp document_cmp (option_copied left.entry) (option_copied right.entry)) }
+    ensures { result
+        ≡ ordering_then order (option_cmp document_cmp (option_copied left.entry) (option_copied right.entry)) }
 {
     if order != Ordering::Equal {
         return order;

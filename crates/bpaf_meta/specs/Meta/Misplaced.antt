@@ -39,8 +39,8 @@ begins_positional t = option_map_or is_positional (first_item t) false
 abbrev pub begins_named : Tree → Bool
 begins_named t = option_map_or (λ l. not (is_positional l)) (first_item t) false
 
--- the items in tree order, those inside a Strict only if asked for; those of a command's own tree come right after the
--- command
+-- The items in tree order, those inside a Strict only if asked for: positions count them, short names do not. Those of
+-- a command's own tree come right after the command.
 abbrev mutual
   pub items_in : (inside_strict : Bool) → Tree → List Leaf
   items_in s (and_of ts) = items_in_parts s ts

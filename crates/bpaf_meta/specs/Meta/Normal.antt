@@ -10,10 +10,10 @@ pub data State : Type 0 where
   strip : State
 
 -- the parts that are not Skip
-abbrev pub shown_trees : Trees → Trees
-shown_trees no_trees = no_trees
-shown_trees (tree skip ts) = shown_trees ts
-shown_trees (tree t ts) = tree t (shown_trees ts)
+abbrev pub without_skips : Trees → Trees
+without_skips no_trees = no_trees
+without_skips (tree skip ts) = without_skips ts
+without_skips (tree t ts) = tree t (without_skips ts)
 
 -- an And of the parts: none left is Skip, one stands alone
 abbrev pub and_form : Trees → Tree
@@ -87,9 +87,9 @@ strict_state pull = push
 strict_state s = s
 
 -- a tree, which goes into Strict where the state so far is Pull and the tree gives Push
-abbrev pub guarded : (running given : State) → Tree → Tree
-guarded pull push t = strict t
-guarded running given t = t
+abbrev pub strict_if_asked : (so_far given : State) → Tree → Tree
+strict_if_asked pull push t = strict t
+strict_if_asked so_far given t = t
 
 -- the running state after a part: Strip where it was Pull and the part gives Push or Strip
 abbrev pub state_after : (running given : State) → State
@@ -100,8 +100,8 @@ state_after running given = running
 -- the two columns of the table: what a tree becomes from a state, and the state out
 abbrev mutual
   pub normal_form : (usage : Bool) → State → Tree → Tree
-  normal_form u s (and_of ts) = and_form (shown_trees (and_parts u s ts))
-  normal_form u s (or_of ts) = or_form (with_first_command (shown_trees (or_parts u s s ts)))
+  normal_form u s (and_of ts) = and_form (without_skips (and_parts u s ts))
+  normal_form u s (or_of ts) = or_form (with_first_command (without_skips (or_parts u s s ts)))
   normal_form u s (optional t) = optional_form (normal_form u s t)
   normal_form u s (required t) = required_form (normal_form u s t)
   normal_form u s (many t) = many_form (normal_form u s t)
@@ -131,14 +131,14 @@ abbrev mutual
   pub and_parts : (usage : Bool) → (running : State) → Trees → Trees
   and_parts u running no_trees = no_trees
   and_parts u running (tree t ts) =
-      tree (guarded running (state_out running t) (normal_form u running t))
+      tree (strict_if_asked running (state_out running t) (normal_form u running t))
       (and_parts u (state_after running (state_out running t)) ts)
 
   -- the parts of an Or, each from the state that came in, put in Strict by the final state so far
   pub or_parts : (usage : Bool) → State → (final : State) → Trees → Trees
   or_parts u s final no_trees = no_trees
   or_parts u s final (tree t ts) =
-      tree (guarded final (state_out s t) (normal_form u s t)) (or_parts u s (state_after final (state_out s t)) ts)
+      tree (strict_if_asked final (state_out s t) (normal_form u s t)) (or_parts u s (state_after final (state_out s t)) ts)
 
   pub or_state : State → (final : State) → Trees → State
   or_state s final no_trees = final
@@ -154,4 +154,4 @@ outer_form t = t
 -- the normal form of a tree: from the state Pull, in Strict where the state comes out as Push
 -- e.g. normalized true (and_of (two v (optional (strict FILE)))) ≡ and_of (two v (strict (optional FILE)))
 abbrev pub normalized : (usage : Bool) → Tree → Tree
-normalized u t = guarded pull (state_out pull t) (outer_form (normal_form u pull t))
+normalized u t = strict_if_asked pull (state_out pull t) (outer_form (normal_form u pull t))

@@ -12,7 +12,7 @@ abbrev pub shorts_of_argument : Leaf → List ℕ
 shorts_of_argument (argument n s m e h) = s
 shorts_of_argument l = []
 
--- the short names of the flags, and of the arguments, in tree order, without those inside a Strict
+-- the `shorts` of the flags, and of the arguments, in tree order: also those in commands' own trees, none inside a Strict
 abbrev pub flag_shorts : Tree → List ℕ
 flag_shorts t = flat_map shorts_of_flag (items_in false t)
 

@@ -3,12 +3,12 @@ use Rattle.std.specs.Prelude.{⊤, List}
 use Rattle.bpaf_doc.specs.Buffer.Parts.{Part, IsWellNested}
 use Rattle.bpaf_meta.specs.Content.{Tree, and_of, or_of, optional, required, adjacent, item, many, subsection, suffix, skip, custom_usage, strict, Trees, no_trees, tree, Leaf, any}
 
--- the metavar of an Any
+-- D holds of the metavar of an Any
 abbrev pub HoldsDoc : (D : List Part → Type 0) → Leaf → Type 0
 HoldsDoc D (any m a h) = D m
 HoldsDoc D l = ⊤
 
--- the metavar of each Any and the document of each CustomUsage, not counting commands' own trees
+-- D holds of the metavar of each Any and of the document of each CustomUsage, not counting commands' own trees
 abbrev mutual
   pub HoldsDocs : (D : List Part → Type 0) → Tree → Type 0
   HoldsDocs D (and_of ts) = EachHoldsDocs D ts

@@ -3,11 +3,11 @@ ghost use Rattle.std.specs.Prelude.{◌≡◌, IfOk, OnOk, []};
 ghost use Rattle.bpaf_meta.specs.View.{tree_of, trees_of};
 ghost use Rattle.bpaf_meta.specs.Meta.Normal.{normal_form, state_out, and_form, or_form, optional_form};
 ghost use Rattle.bpaf_meta.specs.Meta.Normal.{optional_many_form, required_form, many_form, custom_usage_form};
-ghost use Rattle.bpaf_meta.specs.Meta.Normal.{outer_form, guarded, state_after, strict_state, shown_trees};
+ghost use Rattle.bpaf_meta.specs.Meta.Normal.{outer_form, strict_if_asked, state_after, strict_state, without_skips};
 ghost use Rattle.bpaf_meta.specs.Meta.Normal.{and_parts, or_parts, or_state, with_first_command, normalized};
 ghost use Rattle.bpaf_meta.specs.Meta.Alternatives.{trees_then};
 ghost use Rattle.bpaf_meta.specs.Meta.Steps.Forms.{form_of, forms_of};
-ghost use Rattle.bpaf_meta.specs.Meta.Steps.Passes.{state_of, with_shown, after_commands, sees_command};
+ghost use Rattle.bpaf_meta.specs.Meta.Steps.Passes.{state_of, unless_skip, after_commands, sees_command};
 
 use crate::meta::Meta;
 use crate::meta::form::Form;
@@ -111,7 +111,7 @@ fn normalize_and<'a, A: Allocator + Copy>(
     state: State,
 ) -> Result<Vec<Form<'a, A>, A>, AllocError>
     ensures { IfOk result (λ v. forms_of v.items
-        ≡ shown_trees (and_parts for_usage (state_of state) (trees_of parts.now.items))) }
+        ≡ without_skips (and_parts for_usage (state_of state) (trees_of parts.now.items))) }
 {
     let mut kept: Vec<Form<'a, A>, A> = room_for(*parts.allocator(), parts.len())?;
     let mut running = state;
@@ -135,7 +135,7 @@ fn normalize_or<'a, A: Allocator + Copy>(
     ensures form { IfOk result (λ f. form_of f
         ≡ or_form
         (with_first_command
-        (shown_trees (or_parts for_usage (state_of state.old) (state_of state.old) (trees_of parts.now.items))))) }
+        (without_skips (or_parts for_usage (state_of state.old) (state_of state.old) (trees_of parts.now.items))))) }
     ensures state { OnOk result (state_of state.new
         ≡ or_state (state_of state.old) (state_of state.old) (trees_of parts.now.items)) }
 {
@@ -165,7 +165,7 @@ fn guard<'a, A: Allocator + Copy>(
     given: State,
     part: Form<'a, A>,
 ) -> Result<Form<'a, A>, AllocError>
-    ensures { IfOk result (λ m. form_of m ≡ guarded (state_of running) (state_of given) (form_of part.entry)) }
+    ensures { IfOk result (λ m. form_of m ≡ strict_if_asked (state_of running) (state_of given) (form_of part.entry)) }
 {
     match running {
         State::Pull => match given {
@@ -183,7 +183,7 @@ fn keep<'a, A: Allocator>(
     part: Form<'a, A>,
 ) -> Result<(), AllocError>
     ensures { OnOk result (forms_of kept.new.items
-        ≡ trees_then (forms_of kept.old.items) (with_shown (form_of part.entry))) }
+        ≡ trees_then (forms_of kept.old.items) (unless_skip (form_of part.entry))) }
 {
     if !part.is_skip() {
         kept.push(part)?;
@@ -199,7 +199,7 @@ fn keep_alternative<'a, A: Allocator>(
     part: Form<'a, A>,
 ) -> Result<bool, AllocError>
     ensures kept { OnOk result (forms_of kept.new.items
-        ≡ trees_then (forms_of kept.old.items) (after_commands seen_command (with_shown (form_of part.entry)))) }
+        ≡ trees_then (forms_of kept.old.items) (after_commands seen_command (unless_skip (form_of part.entry)))) }
     ensures seen { IfOk result (λ seen. seen ≡ sees_command seen_command (form_of part.entry)) }
 {
     let is_command = part.is_command();

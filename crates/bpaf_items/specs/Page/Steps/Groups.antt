@@ -6,7 +6,7 @@ use Rattle.bpaf_items.specs.Listing.ItemList.{Entry}
 use Rattle.bpaf_items.specs.Listing.Falls.{is_group_end, outside_groups}
 use Rattle.bpaf_items.specs.Listing.Groups.{HasPairedGroups}
 use Rattle.bpaf_items.specs.Page.EnvTexts.{Texts}
-use Rattle.bpaf_items.specs.Page.HelpPage.{group_lists}
+use Rattle.bpaf_items.specs.Page.HelpPage.{group_members_writes}
 
 -- a heading's title, up to where its list starts; and the end of the list and the heading
 abbrev pub title_front : List ℕ → List Write
@@ -31,6 +31,6 @@ pub record Takes (include_env : Bool) (texts : Texts) (es : List Entry) (count :
   pub some : 0 < count
   pub within : count ≤ length es
   pub paired : HasPairedGroups (drop count es)
-  pub written : with_writes now (group_lists include_env texts (drop count es))
-      ≡ with_writes before (group_lists include_env texts es)
+  pub written : with_writes now (group_members_writes include_env texts (drop count es))
+      ≡ with_writes before (group_members_writes include_env texts es)
   pub others : kept ++ outside_groups (drop count es) ≡ outside ++ outside_groups es

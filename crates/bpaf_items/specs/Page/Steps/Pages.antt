@@ -20,7 +20,7 @@ footer_writes (head descr header footer usage own) = doc_within block.Block foot
 abbrev pub usage_start : List Write
 usage_start = emphasis (codes "Usage") ∷ plain (codes ": ") ∷ start block.Mono ∷ []
 
--- of a variable, by its name and the text for it
+-- what is shown of a variable, by its name and its text: whether it is set, or its value
 abbrev pub shown_text : Shown → List ℕ → Option (List ℕ) → List ℕ
 shown_text IsSet = flag_env_text
 shown_text Value = argument_env_text

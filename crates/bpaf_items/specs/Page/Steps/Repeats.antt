@@ -5,7 +5,7 @@ use Rattle.std.specs.Hash.FoldHasher as folding
 use Rattle.bpaf_items.specs.declared.meta_help.key.ItemKey.{ItemKey}
 use Rattle.bpaf_items.specs.Listing.ItemList.{Entry, listed}
 use Rattle.bpaf_items.specs.Listing.Keys.{Key, key_input, key_of, same_key}
-use Rattle.bpaf_items.specs.Listing.Falls.{has_key_of, is_last_shown, is_shown}
+use Rattle.bpaf_items.specs.Listing.Falls.{has_key_of, ends_in_mark_or_new, is_shown}
 use Rattle.bpaf_items.specs.Page.EnvTexts.{Texts}
 use Rattle.bpaf_items.specs.Page.EntryWrites.{entry_writes}
 use Rattle.bpaf_items.specs.View.{key_in}
@@ -53,7 +53,7 @@ pub record Remembers {B : Type 0} (all : List Entry) (are_apart : Bool) (keys : 
   pub apart : are_apart ≡ true → AreApart all
   pub hashed : AreHashed keys
   pub seen : are_apart ≡ false → (l : Leaf) → has_key keys (key_of l) ≡ list_any (has_key_of l) before
-  pub last : shown ≡ is_last_shown before
+  pub last : shown ≡ ends_in_mark_or_new before
 
 -- what an entry writes after those before it
 abbrev pub shown_writes : (include_env : Bool) → Texts → (before : List Entry) → Entry → List Write

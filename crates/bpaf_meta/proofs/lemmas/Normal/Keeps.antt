@@ -3,7 +3,7 @@ use Rattle.std.proofs.Common.{◌≡◌, Bool, true, false, ◌&&◌, List, [], 
 use Rattle.std.proofs.lemmas.List.{append-nil}
 use Rattle.std.specs.Prelude.{if◌then◌else◌}
 use Rattle.bpaf_meta.specs.Content.{Tree, and_of, or_of, optional, required, adjacent, item, many, subsection, suffix, skip, custom_usage, strict, Trees, no_trees, tree, Leaf}
-use Rattle.bpaf_meta.specs.Meta.Normal.{State, pull, shown_trees, and_form, is_command_tree, without_commands, with_first_command, optional_many_form, optional_form, many_form, item_form, guarded, state_after, state_out, normal_form, and_parts, or_parts, outer_form, normalized}
+use Rattle.bpaf_meta.specs.Meta.Normal.{State, pull, without_skips, and_form, is_command_tree, without_commands, with_first_command, optional_many_form, optional_form, many_form, item_form, strict_if_asked, state_after, state_out, normal_form, and_parts, or_parts, outer_form, normalized}
 use Rattle.bpaf_meta.specs.Meta.Sequences.{Symbol, the_command, symbol_of, Language, NoSequence, Only, Maybe, Either, Joined, Repeated, once, again, choice, is_hidden, are_hidden, Shows, ShowsEach, ShowsOne, Same, ShowsSame}
 
 -- languages
@@ -93,10 +93,10 @@ and_form_alike u no_trees = (refl, λ e. cc)
 and_form_alike u (tree t no_trees) = alone_each (is_hidden u t) (Shows u t)
 and_form_alike u (tree t (tree v ts)) = itself
 
-shown_alike : (u : Bool) (ts : Trees) → PartsAlike u (shown_trees ts) ts
+shown_alike : (u : Bool) (ts : Trees) → PartsAlike u (without_skips ts) ts
 shown_alike u no_trees = (refl, same _, same _)
 shown_alike u (tree skip ts) = shown_alike u ts
-shown_alike u (tree t ts) = part_alike u t t (shown_trees ts) ts itself (shown_alike u ts)
+shown_alike u (tree t ts) = part_alike u t t (without_skips ts) ts itself (shown_alike u ts)
 
 command_not_hidden : (u : Bool) (t : Tree) → is_command_tree t ≡ true → is_hidden u t ≡ false
 command_not_hidden u (subsection t d) e = command_not_hidden u t e
@@ -160,10 +160,10 @@ mutual
       let ns : Trees = and_parts u s ts in
       let shown = shown_alike u ns in
       let parts = and_parts_alike u s ts in
-      alike_then (and_form_alike u (shown_trees ns)) (shown.0 ∙ parts.0, λ h. then_same _ _ _ shown.1 parts.1)
+      alike_then (and_form_alike u (without_skips ns)) (shown.0 ∙ parts.0, λ h. then_same _ _ _ shown.1 parts.1)
   normal_alike u s (or_of ts) =
       let ns : Trees = or_parts u s s ts in
-      let first = first_alike u (shown_trees ns) in
+      let first = first_alike u (without_skips ns) in
       let shown = shown_alike u ns in
       let parts = or_parts_alike u s s ts in
       alike_then (grind (arith, back, itself)) (first.0 ∙ shown.0 ∙ parts.0, λ h. then_same _ _ _ first.1 (then_same _ _ _ shown.2 parts.2))
@@ -182,15 +182,15 @@ mutual
   and_parts_alike u r no_trees = (refl, same _, same _)
   and_parts_alike u r (tree t ts) =
       let g : State = state_out r t in
-      part_alike u (guarded r g (normal_form u r t)) t (and_parts u (state_after r g) ts) ts (grind (arith, normal_alike u r t)) (and_parts_alike u (state_after r (state_out r t)) ts)
+      part_alike u (strict_if_asked r g (normal_form u r t)) t (and_parts u (state_after r g) ts) ts (grind (arith, normal_alike u r t)) (and_parts_alike u (state_after r (state_out r t)) ts)
 
   or_parts_alike : (u : Bool) (s f : State) (ts : Trees) → PartsAlike u (or_parts u s f ts) ts
   or_parts_alike u s f no_trees = (refl, same _, same _)
   or_parts_alike u s f (tree t ts) =
       let g : State = state_out s t in
-      part_alike u (guarded f g (normal_form u s t)) t (or_parts u s (state_after f g) ts) ts (grind (arith, normal_alike u s t)) (or_parts_alike u s (state_after f (state_out s t)) ts)
+      part_alike u (strict_if_asked f g (normal_form u s t)) t (or_parts u s (state_after f g) ts) ts (grind (arith, normal_alike u s t)) (or_parts_alike u s (state_after f (state_out s t)) ts)
 
-strict_alike : (u : Bool) (s : State) (t v : Tree) → TreesAlike u t v → TreesAlike u (guarded pull s t) v
+strict_alike : (u : Bool) (s : State) (t v : Tree) → TreesAlike u t v → TreesAlike u (strict_if_asked pull s t) v
 strict_alike u s t v h4 = grind arith
 
 -- the normal form shows what the tree shows

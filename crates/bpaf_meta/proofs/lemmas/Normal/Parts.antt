@@ -5,10 +5,10 @@ use Rattle.bpaf_meta.specs.Content.{Tree, and_of, or_of, required, Trees, no_tre
 use Rattle.bpaf_meta.specs.View.{tree_of, trees_of}
 use Rattle.bpaf_meta.specs.declared.meta.Meta.{Meta}
 use Rattle.bpaf_meta.specs.declared.meta.form.Form.{Form}
-use Rattle.bpaf_meta.specs.Meta.Normal.{shown_trees, and_form, or_form, is_command_tree, without_commands, with_first_command}
+use Rattle.bpaf_meta.specs.Meta.Normal.{without_skips, and_form, or_form, is_command_tree, without_commands, with_first_command}
 use Rattle.bpaf_meta.specs.Meta.Alternatives.{trees_then, choice_form}
 use Rattle.bpaf_meta.specs.Meta.Steps.Forms.{form_of, forms_of}
-use Rattle.bpaf_meta.specs.Meta.Steps.Passes.{is_skip_tree, with_shown, after_commands, sees_command}
+use Rattle.bpaf_meta.specs.Meta.Steps.Passes.{is_skip_tree, unless_skip, after_commands, sees_command}
 
 -- what holds of each part holds of those that remain
 module _ (P : Tree → Type 0) (Q : Trees → Type 0) (part : (t : Tree) (ts : Trees) → Q (tree t ts) → P t × Q ts) (join : (t : Tree) (ts : Trees) → P t × Q ts → Q (tree t ts)) where
@@ -40,10 +40,10 @@ trees_of_append [] ns = refl
 trees_of_append (m ∷ ms) ns = ap (tree (tree_of m)) (trees_of_append ms ns)
 
 -- `keep`
-pub with_shown_skip : (ts : Trees) (t : Tree) → is_skip_tree t ≡ true → trees_then ts (with_shown t) ≡ ts
+pub with_shown_skip : (ts : Trees) (t : Tree) → is_skip_tree t ≡ true → trees_then ts (unless_skip t) ≡ ts
 with_shown_skip ts t e = rw e (trees_then_none ts)
 
-pub with_shown_other : (ts : Trees) (t : Tree) → is_skip_tree t ≡ false → trees_then ts (with_shown t) ≡ trees_then ts (tree t no_trees)
+pub with_shown_other : (ts : Trees) (t : Tree) → is_skip_tree t ≡ false → trees_then ts (unless_skip t) ≡ trees_then ts (tree t no_trees)
 with_shown_other ts t e = rw e refl
 
 kept_by : (seen b : Bool) (t : Tree) → is_command_tree t ≡ b → (b && seen) ≡ false → after_commands seen (tree t no_trees) ≡ tree t no_trees
@@ -53,21 +53,21 @@ pub after_none : (seen : Bool) → after_commands seen no_trees ≡ no_trees
 after_none seen = grind arith
 
 -- `keep_alternative`
-pub after_repeated : (seen : Bool) (t : Tree) → (is_command_tree t && seen) ≡ true → after_commands seen (with_shown t) ≡ no_trees
+pub after_repeated : (seen : Bool) (t : Tree) → (is_command_tree t && seen) ≡ true → after_commands seen (unless_skip t) ≡ no_trees
 after_repeated seen t h2 = grind (arith, after_none)
 
-pub after_kept : (seen : Bool) (t : Tree) → (is_command_tree t && seen) ≡ false → after_commands seen (with_shown t) ≡ with_shown t
+pub after_kept : (seen : Bool) (t : Tree) → (is_command_tree t && seen) ≡ false → after_commands seen (unless_skip t) ≡ unless_skip t
 after_kept seen t h2 = grind (arith, after_none, kept_by)
 
-pub and_turn : (ts : Trees) (t : Tree) (us : Trees) → trees_then (trees_then ts (with_shown t)) (shown_trees us) ≡ trees_then ts (shown_trees (tree t us))
-and_turn ts t us = trees_then_then ts (with_shown t) (shown_trees us) ∙ ap (trees_then ts) (grind arith)
+pub and_turn : (ts : Trees) (t : Tree) (us : Trees) → trees_then (trees_then ts (unless_skip t)) (without_skips us) ≡ trees_then ts (without_skips (tree t us))
+and_turn ts t us = trees_then_then ts (unless_skip t) (without_skips us) ∙ ap (trees_then ts) (grind arith)
 
 -- a turn of the loop over an Or
 by_command : (seen b : Bool) (t : Tree) (us : Trees) → is_command_tree t ≡ b → trees_then (after_commands seen (tree t no_trees)) (after_commands (seen || b) us) ≡ after_commands seen (tree t us)
 by_command seen b t us h4 = grind arith
 
-pub or_turn : (seen : Bool) (ts : Trees) (t : Tree) (us : Trees) → trees_then (trees_then ts (after_commands seen (with_shown t))) (after_commands (sees_command seen t) (shown_trees us)) ≡ trees_then ts (after_commands seen (shown_trees (tree t us)))
-or_turn seen ts t us = trees_then_then ts (after_commands seen (with_shown t)) (after_commands (sees_command seen t) (shown_trees us)) ∙ ap (trees_then ts) (grind (arith, by_command))
+pub or_turn : (seen : Bool) (ts : Trees) (t : Tree) (us : Trees) → trees_then (trees_then ts (after_commands seen (unless_skip t))) (after_commands (sees_command seen t) (without_skips us)) ≡ trees_then ts (after_commands seen (without_skips (tree t us)))
+or_turn seen ts t us = trees_then_then ts (after_commands seen (unless_skip t)) (after_commands (sees_command seen t) (without_skips us)) ∙ ap (trees_then ts) (grind (arith, by_command))
 
 -- a list of several
 pub and_several : {A : Type 0} (fs : List (Form A)) → 1 < length fs → and_form (forms_of fs) ≡ and_of (forms_of fs)

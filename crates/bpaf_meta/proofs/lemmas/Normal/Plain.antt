@@ -3,14 +3,14 @@ use Rattle.std.proofs.Common.{◌≡◌, ◌↔◌, ◌⊎◌, Bool, true, List,
 use Rattle.std.proofs.lemmas.Bool.{and_parts as conjuncts}
 use Rattle.bpaf_doc.specs.Buffer.Parts.{Part}
 use Rattle.bpaf_meta.specs.Content.{Tree, and_of, or_of, optional, required, adjacent, item, many, subsection, suffix, skip, custom_usage, strict, Trees, no_trees, tree}
-use Rattle.bpaf_meta.specs.Meta.Normal.{State, pull, shown_trees, and_form, or_form, is_command_tree, without_commands, with_first_command, optional_form, required_form, many_form, custom_usage_form, guarded, state_out, normal_form, and_parts, or_parts, or_state, outer_form, normalized}
+use Rattle.bpaf_meta.specs.Meta.Normal.{State, pull, without_skips, and_form, or_form, is_command_tree, without_commands, with_first_command, optional_form, required_form, many_form, custom_usage_form, strict_if_asked, state_out, normal_form, and_parts, or_parts, or_state, outer_form, normalized}
 use Rattle.bpaf_meta.specs.Meta.Sequences.{is_hidden, are_hidden}
 use Rattle.bpaf_meta.specs.Meta.Shape.{HasStrict, SomeHasStrict}
 use Rattle.bpaf_meta.proofs.lemmas.Normal.Keeps.{normalized_shows}
 
 -- the state stays
 
-guarded_same : (s : State) (t : Tree) → guarded s s t ≡ t
+guarded_same : (s : State) (t : Tree) → strict_if_asked s s t ≡ t
 guarded_same s t = grind arith
 
 mutual
@@ -60,7 +60,7 @@ or_form_strict ts = grind (arith, itself)
 some_tail : {P Q R : Type 0} → Q ↔ R → (P ⊎ Q) ↔ (P ⊎ R)
 some_tail f = grind arith
 
-pub shown_strict : (ts : Trees) → SomeHasStrict (shown_trees ts) ↔ SomeHasStrict ts
+pub shown_strict : (ts : Trees) → SomeHasStrict (without_skips ts) ↔ SomeHasStrict ts
 shown_strict no_trees = itself
 shown_strict (tree x ts) = grind (arith, shown_strict ts, some_tail)
 
@@ -92,11 +92,11 @@ usage_strict u t d h3 = grind arith
 mutual
   pub no_strict : (u : Bool) (s : State) (t : Tree) → ¬ HasStrict t → ¬ HasStrict (normal_form u s t)
   no_strict u s (and_of ts) h x =
-      let y = (shown_strict (and_parts u s ts)).0 ((and_form_strict (shown_trees (and_parts u s ts))).0 x) in
+      let y = (shown_strict (and_parts u s ts)).0 ((and_form_strict (without_skips (and_parts u s ts))).0 x) in
       none_strict u s ts h (subst SomeHasStrict (and_parts_plain u s ts h) y)
   no_strict u s (or_of ts) h x =
       let ns : Trees = or_parts u s s ts in
-      let y = (shown_strict ns).0 ((first_strict (shown_trees ns)).0 ((or_form_strict (with_first_command (shown_trees ns))).0 x)) in
+      let y = (shown_strict ns).0 ((first_strict (without_skips ns)).0 ((or_form_strict (with_first_command (without_skips ns))).0 x)) in
       none_strict u s ts h (subst SomeHasStrict (or_parts_plain u s ts h) y)
   no_strict u s (optional t) h x = no_strict u s t h ((optional_strict (normal_form u s t)).0 x)
   no_strict u s (required t) h x = no_strict u s t h ((required_strict (normal_form u s t)).0 x)
@@ -132,8 +132,8 @@ usage_skip u t n d h4 h5 = grind arith
 
 mutual
   normal_skip : (u : Bool) (s : State) (t : Tree) → ¬ HasStrict t → is_hidden u t ≡ true → normal_form u s t ≡ skip
-  normal_skip u s (and_of ts) h e = let none : shown_trees (plain_parts u s ts) ≡ no_trees = parts_skip u s ts h e in rw (and_parts_plain u s ts h, none) refl
-  normal_skip u s (or_of ts) h e = let none : shown_trees (plain_parts u s ts) ≡ no_trees = parts_skip u s ts h e in rw (or_parts_plain u s ts h, none) refl
+  normal_skip u s (and_of ts) h e = let none : without_skips (plain_parts u s ts) ≡ no_trees = parts_skip u s ts h e in rw (and_parts_plain u s ts h, none) refl
+  normal_skip u s (or_of ts) h e = let none : without_skips (plain_parts u s ts) ≡ no_trees = parts_skip u s ts h e in rw (or_parts_plain u s ts h, none) refl
   normal_skip u s (optional t) h e = ap optional_form (normal_skip u s t h e)
   normal_skip u s (required t) h e = ap required_form (normal_skip u s t h e)
   normal_skip u s (adjacent t) h e = normal_skip u s t h e
@@ -145,7 +145,7 @@ mutual
   normal_skip u s (custom_usage t d) h e = usage_skip u t (normal_form u s t) d e (normal_skip u s t h)
   normal_skip u s (strict t) h e = absurd (h tt)
 
-  parts_skip : (u : Bool) (s : State) (ts : Trees) → ¬ SomeHasStrict ts → are_hidden u ts ≡ true → shown_trees (plain_parts u s ts) ≡ no_trees
+  parts_skip : (u : Bool) (s : State) (ts : Trees) → ¬ SomeHasStrict ts → are_hidden u ts ≡ true → without_skips (plain_parts u s ts) ≡ no_trees
   parts_skip u s no_trees h e = refl
   parts_skip u s (tree t ts) h e = grind (arith, parts_skip u s ts, conjuncts (is_hidden u t) (are_hidden u ts) e, normal_skip u s t)
 

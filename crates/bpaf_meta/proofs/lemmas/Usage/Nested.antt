@@ -9,7 +9,7 @@ use Rattle.bpaf_doc.specs.Buffer.Parts.{Part, IsWellNested, nothing}
 use Rattle.bpaf_doc.specs.Buffer.Writes.{Write, text, plain, literal, with_writes, doc_writes, inside}
 use Rattle.bpaf_doc.proofs.lemmas.Buffer.Nesting.{IsWellNested-with_text, IsWellNested-in_block, IsWellNested-inside}
 use Rattle.bpaf_meta.specs.Content.{Name, Tree, and_of, or_of, optional, required, adjacent, item, many, subsection, suffix, skip, custom_usage, strict, Trees, no_trees, tree, Leaf, any, positional, command, flag, argument}
-use Rattle.bpaf_meta.specs.Meta.Normal.{State, pull, shown_trees, with_first_command, item_form, guarded, state_after, state_out, normal_form, and_parts, or_parts, outer_form, normalized}
+use Rattle.bpaf_meta.specs.Meta.Normal.{State, pull, without_skips, with_first_command, item_form, strict_if_asked, state_after, state_out, normal_form, and_parts, or_parts, outer_form, normalized}
 use Rattle.bpaf_meta.specs.Usage.Nested.{HoldsDoc, HoldsDocs, EachHoldsDocs, HasNestedDoc, HasNestedDocs}
 use Rattle.bpaf_meta.specs.Usage.Writes.{is_bare_character, metavar_writes, name_writes, item_writes, separated, tree_writes, part_writes}
 use Rattle.bpaf_meta.proofs.lemmas.Normal.Parts.{first_each}
@@ -17,7 +17,7 @@ use Rattle.bpaf_meta.proofs.lemmas.Usage.Written.{with_writes-append}
 
 -- the normal form writes no other documents
 module _ (D : List Part → Type 0) where
-  shown_hold : (ts : Trees) → EachHoldsDocs D ts → EachHoldsDocs D (shown_trees ts)
+  shown_hold : (ts : Trees) → EachHoldsDocs D ts → EachHoldsDocs D (without_skips ts)
   shown_hold no_trees h = tt
   shown_hold (tree x ts) h = grind (arith, shown_hold ts h.1)
 
@@ -27,13 +27,13 @@ module _ (D : List Part → Type 0) where
   item_form_hold : (u : Bool) (l : Leaf) → HoldsDoc D l → HoldsDoc D (item_form u l)
   item_form_hold u l h2 = grind arith
 
-  guarded_hold : (r g : State) (t : Tree) → HoldsDocs D t → HoldsDocs D (guarded r g t)
+  guarded_hold : (r g : State) (t : Tree) → HoldsDocs D t → HoldsDocs D (strict_if_asked r g t)
   guarded_hold r g t h3 = grind arith
 
   mutual
     normal_hold : (u : Bool) (s : State) (t : Tree) → HoldsDocs D t → HoldsDocs D (normal_form u s t)
     normal_hold u s (and_of ts) h = grind (arith, shown_hold (and_parts u s ts) (and_hold u s ts h))
-    normal_hold u s (or_of ts) h = grind (arith, first_hold (shown_trees (or_parts u s s ts)) (shown_hold (or_parts u s s ts) (or_hold u s s ts h)))
+    normal_hold u s (or_of ts) h = grind (arith, first_hold (without_skips (or_parts u s s ts)) (shown_hold (or_parts u s s ts) (or_hold u s s ts h)))
     normal_hold u s (optional t) h = grind (arith, normal_hold u s t h)
     normal_hold u s (required t) h = grind (arith, normal_hold u s t h)
     normal_hold u s (adjacent t) h = normal_hold u s t h
@@ -53,7 +53,7 @@ module _ (D : List Part → Type 0) where
     or_hold u s f no_trees h = tt
     or_hold u s f (tree t ts) h = (guarded_hold f (state_out s t) (normal_form u s t) (normal_hold u s t h.0), or_hold u s (state_after f (state_out s t)) ts h.1)
 
-  last_hold : (s : State) (t : Tree) → HoldsDocs D t → HoldsDocs D (guarded pull s t)
+  last_hold : (s : State) (t : Tree) → HoldsDocs D t → HoldsDocs D (strict_if_asked pull s t)
   last_hold s t h2 = grind arith
 
   pub normalized_hold : (u : Bool) (t : Tree) → HoldsDocs D t → HoldsDocs D (normalized u t)

@@ -15,8 +15,8 @@ is_skip_tree skip = true
 is_skip_tree t = false
 
 -- a part alone, or none where it is Skip
-abbrev pub with_shown : Tree → Trees
-with_shown t = if is_skip_tree t then no_trees else tree t no_trees
+abbrev pub unless_skip : Tree → Trees
+unless_skip t = if is_skip_tree t then no_trees else tree t no_trees
 
 -- the parts without commands where one was seen before, otherwise with the first of them
 abbrev pub after_commands : (seen : Bool) → Trees → Trees

@@ -8,7 +8,7 @@ use Rattle.bpaf_meta.specs.View.{tree_of, trees_of}
 use Rattle.bpaf_meta.specs.declared.item.Item.{the_lemmas}
 use Rattle.bpaf_meta.specs.declared.meta.Meta.{Meta}
 use Rattle.bpaf_meta.specs.declared.meta.Meta.TheVariants.{Adjacent, Subsection, Suffix}
-use Rattle.bpaf_meta.specs.Meta.Normal.{normal_form, state_out, state_after, shown_trees, and_parts, or_parts, or_state, or_form, with_first_command}
+use Rattle.bpaf_meta.specs.Meta.Normal.{normal_form, state_out, state_after, without_skips, and_parts, or_parts, or_state, or_form, with_first_command}
 use Rattle.bpaf_meta.specs.Meta.Steps.Forms.{form_of, forms_of}
 use Rattle.bpaf_meta.specs.Meta.Steps.Passes.{state_of, after_commands}
 use Rattle.bpaf_meta.proofs.lemmas.Normal.Parts.{trees_then_none, after_none, and_turn, or_turn}
@@ -20,7 +20,7 @@ normalize_and-loop-part-preserved g t c =
     let items = c.deref-part-items.result.now in
     let i = c.loop-part.part-index in
     let running = state_of c.loop-part.running in
-    let e = at_drop_more (λ (ms : List (Meta g.row.A.Denot)). shown_trees (and_parts u running (trees_of ms))) items i c.part-item.result (omega arith) in
+    let e = at_drop_more (λ (ms : List (Meta g.row.A.Denot)). without_skips (and_parts u running (trees_of ms))) items i c.part-item.result (omega arith) in
     let k = and_turn (forms_of c.loop-part.kept.items) (form_of c.in_ok-guard.field-0) (and_parts u (state_after running (state_out running (tree_of c.part-item.result))) (trees_of (drop (i + 1) items))) in
     cc (e, k, c.part-item.is, c.in_ok-form.ensures.form, c.in_ok-form.ensures.state, c.in_ok-guard.ensures, c.in_ok-keep.ensures, c.after-running.ensures, c.loop-part.invariant)
 
@@ -28,7 +28,7 @@ pub normalize_and-returns : goal.normalize_and-returns
 normalize_and-returns g t c =
     let u = c.args.for_usage in
     let items = c.deref-part-items.result.now in
-    let e = at_drop_all (λ (ms : List (Meta g.row.A.Denot)). shown_trees (and_parts u (state_of c.loop-part.running) (trees_of ms))) items c.loop-part.part-index (omega arith) in
+    let e = at_drop_all (λ (ms : List (Meta g.row.A.Denot)). without_skips (and_parts u (state_of c.loop-part.running) (trees_of ms))) items c.loop-part.part-index (omega arith) in
     cc (e, trees_then_none (forms_of c.loop-part.kept.items), c.loop-part.invariant)
 
 pub normalize_or-loop-part-preserved : goal.normalize_or-loop-part-preserved
@@ -40,7 +40,7 @@ normalize_or-loop-part-preserved g t c =
     let last = state_of c.loop-part.state in
     let seen = c.loop-part.seen_command in
     let left = or_parts u s (state_after last (state_out s (tree_of c.part-item.result))) (trees_of (drop (i + 1) items)) in
-    let e = at_drop_more (λ (ms : List (Meta g.row.A.Denot)). after_commands seen (shown_trees (or_parts u s last (trees_of ms)))) items i c.part-item.result (omega arith) in
+    let e = at_drop_more (λ (ms : List (Meta g.row.A.Denot)). after_commands seen (without_skips (or_parts u s last (trees_of ms)))) items i c.part-item.result (omega arith) in
     let f = at_drop_more (λ (ms : List (Meta g.row.A.Denot)). or_state s last (trees_of ms)) items i c.part-item.result (omega arith) in
     let k = or_turn seen (forms_of c.loop-part.kept.items) (form_of c.in_ok-form-2.form) left in
     record {
@@ -53,8 +53,8 @@ normalize_or-returns-clause-form g t c =
     let u = c.args.for_usage in
     let items = c.deref-part-items.result.now in
     let s = state_of c.args.state.now in
-    let e = at_drop_all (λ (ms : List (Meta g.row.A.Denot)). after_commands c.loop-part.seen_command (shown_trees (or_parts u s (state_of c.loop-part.state) (trees_of ms)))) items c.loop-part.part-index (omega arith) in
-    let shown : forms_of c.loop-part.kept.items ≡ with_first_command (shown_trees (or_parts u s s (trees_of c.args.parts.now.items))) = cc (e, after_none c.loop-part.seen_command, trees_then_none (forms_of c.loop-part.kept.items), c.loop-part.invariant.form) in
+    let e = at_drop_all (λ (ms : List (Meta g.row.A.Denot)). after_commands c.loop-part.seen_command (without_skips (or_parts u s (state_of c.loop-part.state) (trees_of ms)))) items c.loop-part.part-index (omega arith) in
+    let shown : forms_of c.loop-part.kept.items ≡ with_first_command (without_skips (or_parts u s s (trees_of c.args.parts.now.items))) = cc (e, after_none c.loop-part.seen_command, trees_then_none (forms_of c.loop-part.kept.items), c.loop-part.invariant.form) in
     subst (λ ts. IfOk c.make_or.result (λ f. form_of f ≡ or_form ts)) shown c.make_or.ensures
 
 pub normalize_or-returns-clause-state : goal.normalize_or-returns-clause-state
