@@ -1,11 +1,10 @@
 //! The parts of a manual page.
-ghost use Rattle.std.specs.Prelude.{◌≡◌, ◌++◌, false, flat_map, IfOk, OnOk, map, string_bytes};
+ghost use Rattle.std.specs.Prelude.{◌≡◌, ◌++◌, false, flat_map, OnOk, map, string_bytes};
 ghost use Rattle.bpaf_doc.specs.Buffer.Writes.{with_writes};
 ghost use Rattle.bpaf_meta.specs.View.{head_of, tree_of};
 ghost use Rattle.bpaf_items.specs.Listing.ItemList.{item_list};
 ghost use Rattle.bpaf_items.specs.Page.EnvTexts.{no_texts};
 ghost use Rattle.bpaf_items.specs.Page.HelpPage.{groups_writes};
-ghost use Rattle.bpaf_items.specs.View.{entry_of};
 ghost use Rattle.bpaf_help.specs.Chapters.{if_many, manual_name, synopsis_line, synopsis_writes};
 ghost use Rattle.bpaf_help.specs.Steps.{manual_front, manual_part, path_title};
 ghost use Rattle.bpaf_help.specs.View.{chapter_of};
@@ -152,19 +151,6 @@ fn put_list<A: Allocator + Copy, B: Allocator + Copy>(
         ≡ with_writes doc.old (groups_writes false no_texts (item_list (tree_of meta.now)
         ++ item_list (tree_of help.now)))) }
 {
-    let items = listing(alloc, meta, help)?;
+    let items = HelpItems::of(alloc, meta, help)?;
     write_help_item_groups(doc, items, false, &EnvTexts::new(alloc))
-}
-
-fn listing<'a, A: Allocator, B: Allocator>(
-    alloc: A,
-    meta: &'a Meta<B>,
-    help: &'a Meta<B>,
-) -> Result<HelpItems<'a, B, A>, AllocError>
-    ensures { IfOk result (λ items. map entry_of items ≡ item_list (tree_of meta.now) ++ item_list (tree_of help.now)) }
-{
-    let mut items: HelpItems<'a, B, A> = HelpItems::new(alloc);
-    items.append_meta(meta)?;
-    items.append_meta(help)?;
-    Ok(items)
 }

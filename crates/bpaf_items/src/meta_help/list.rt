@@ -1,5 +1,5 @@
 //! Item lists.
-ghost use Rattle.std.specs.Prelude.{◌≡◌, false, [], ◌++◌, IfSome, OnOk, OnErr, map};
+ghost use Rattle.std.specs.Prelude.{◌≡◌, false, [], ◌++◌, IfOk, IfSome, OnOk, OnErr, map};
 ghost use Rattle.std.specs.List.{position};
 ghost use Rattle.std.specs.Option.{option_map};
 ghost use Rattle.std.specs.Range.{range_inclusive_start, range_inclusive_end, range_inclusive_exhausted};
@@ -55,6 +55,22 @@ impl<'a, A: Allocator, L: Allocator> HelpItems<'a, A, L> {
         HelpItems {
             items: Vec::new(alloc),
         }
+    }
+
+    /// The item list of a tree, with that of its help options after it. `AllocError` comes where an allocation failed.
+    /// The rules are those of `docs/help.md`.
+    pub fn of(
+        alloc: L,
+        parser: &'a Meta<A>,
+        help: &'a Meta<A>,
+    ) -> Result<HelpItems<'a, A, L>, AllocError>
+        ensures { IfOk result (λ items. map entry_of items
+            ≡ item_list (tree_of parser.now) ++ item_list (tree_of help.now)) }
+    {
+        let mut items = HelpItems::new(alloc);
+        items.append_meta(parser)?;
+        items.append_meta(help)?;
+        Ok(items)
     }
 
     /// Appends the item list of a tree. After `AllocError` the list is as it was.

@@ -1,9 +1,8 @@
 //! The entries of a list under their groups and headings, and the help page.
-ghost use Rattle.std.specs.Prelude.{◌≡◌, ◌++◌, All, None, IfOk, OnOk, OnErr, map, string_bytes};
+ghost use Rattle.std.specs.Prelude.{◌≡◌, All, None, IfOk, OnOk, OnErr, map, string_bytes};
 ghost use Rattle.bpaf_doc.specs.Buffer.Parts.{IsWellNested};
 ghost use Rattle.bpaf_doc.specs.Buffer.Writes.{inside, with_writes};
 ghost use Rattle.bpaf_meta.specs.View.{head_of, tree_of};
-ghost use Rattle.bpaf_items.specs.Listing.ItemList.{item_list};
 ghost use Rattle.bpaf_items.specs.Listing.Groups.{HasPairedGroups};
 ghost use Rattle.bpaf_items.specs.Page.EnvTexts.{texts_in};
 ghost use Rattle.bpaf_items.specs.Page.HelpPage.{doc_within, groups_writes, help_page_writes, usage_line_writes};
@@ -75,7 +74,7 @@ impl<'t, C: Allocator, L: Allocator + Copy> Writer<'t, C, L> {
         ensures { Leaves result doc.old doc.new (help_page_writes (map string_bytes path.now) (head_of info.now)
             (tree_of parser.now) (tree_of help.now) self.now.include_env (texts_in self.now.texts.now)) }
     {
-        let items = listing(self.alloc, parser, help)?;
+        let items = HelpItems::of(self.alloc, parser, help)?;
         put_front(doc, path, info, parser)?;
         self.put_all(doc, items.items())?;
         put_within(doc, &info.footer)
@@ -151,19 +150,6 @@ pub fn render_help<'m, A: Allocator + Copy, P: Allocator, B: Allocator + Copy, C
         Ok(()) => Ok(page),
         Err(refused) => Err(HelpError::Memory(refused)),
     }
-}
-
-fn listing<'a, A: Allocator + Copy, B: Allocator>(
-    alloc: A,
-    parser: &'a Meta<B>,
-    help: &'a Meta<B>,
-) -> Result<HelpItems<'a, B, A>, AllocError>
-    ensures { IfOk result (λ items. map entry_of items ≡ item_list (tree_of parser.now) ++ item_list (tree_of help.now)) }
-{
-    let mut items: HelpItems<'a, B, A> = HelpItems::new(alloc);
-    items.append_meta(parser)?;
-    items.append_meta(help)?;
-    Ok(items)
 }
 
 // What is above the list: the description, the usage line and the header.

@@ -18,6 +18,8 @@ pub enum Call {
     Append,
     /// What stands before `Append`.
     List,
+    /// The list of the tree and of itself again.
+    Both,
     Insert,
     Replace,
     Groups,
@@ -81,6 +83,7 @@ fn is_done<'a>(
 ) -> bool {
     match call {
         Call::Append | Call::List => is_appended(rt, arena, room, tree, call, shown),
+        Call::Both => both_are_listed(rt, arena, room, tree, shown),
         Call::Insert | Call::Replace => is_inserted(rt, arena, room, call, shown),
         Call::Make(call) => is_made(rt, arena, room, tree, call, shown),
         Call::Shorts => shorts_are_put(rt, arena, room, tree, shown),
@@ -118,6 +121,24 @@ fn is_appended<'a>(
     write!(shown, "{:?}", list.items()).expect(rt, "a text");
     drop(list);
     is_done
+}
+
+// Lists the tree as one of a command line and of its help options.
+fn both_are_listed<'a>(
+    rt: &impl Abort,
+    arena: &'a Bump,
+    room: usize,
+    tree: &Meta<&'a Bump>,
+    shown: &mut String,
+) -> bool {
+    leave(rt, arena, room);
+    match HelpItems::of(arena, tree, tree) {
+        Ok(list) => {
+            write!(shown, "{:?}", list.items()).expect(rt, "a text");
+            true
+        }
+        Err(_) => false,
+    }
 }
 
 // Texts in which one name has one.

@@ -91,6 +91,7 @@ const CALLS: &[(&str, Call, &str)] = &[
     (META, Call::Make(Make::Required), ""),
     (META, Call::Make(Make::Optional), ""),
     (META, Call::Make(Make::Or), ""),
+    (PARTS, Call::Both, ""),
     (PARTS, Call::Insert, "{} None None"),
     (PARTS, Call::Replace, r#"{"V": "7"} Some("7") None"#),
     (
@@ -151,6 +152,7 @@ fn a_refused_call_leaves_lists(rt: HostRuntime) {
             "{text}"
         );
     }
+    assert!(rt; shows_the_same(&rt, rt.alloc(), PARTS, Call::Append, Call::Both));
     let (_, section, copy) = AFTER_A_CALL[2];
     assert!(rt; shows_the_same(&rt, rt.alloc(), APPLICATION, section, copy));
 }
