@@ -44,11 +44,17 @@ mutual
   tree_chapters path (or_of ts) = parts_chapters path ts
   tree_chapters path (optional t) = tree_chapters path t
   tree_chapters path (required t) = tree_chapters path t
-  tree_chapters path (adjacent t) = grind (arith, tree_chapters path t, adjacent_chapters path (front_type t) t)
+  tree_chapters path (adjacent t) =
+      let h = tree_chapters path t in
+      (h.0, λ g. adjacent_chapters path (front_type t) t (entries_of g t) (command_chapters path t) h.0 (h.1 g))
   tree_chapters path (item l) = (λ e. cc, λ g. item_list_chapters path l)
   tree_chapters path (many t) = tree_chapters path t
-  tree_chapters path (subsection t d) = grind (arith, tree_chapters path t, block_chapters path)
-  tree_chapters path (suffix t d) = grind (arith, tree_chapters path t, noted_chapters path (front_type t) d)
+  tree_chapters path (subsection t d) =
+      let h = tree_chapters path t in
+      (h.0, λ g. block_chapters path g t d h.0 (h.1 false))
+  tree_chapters path (suffix t d) =
+      let h = tree_chapters path t in
+      (h.0, λ g. noted_chapters path (front_type t) d (entries_of g t) (command_chapters path t) h.0 (h.1 g))
   tree_chapters path skip = (λ e. refl, λ g. refl)
   tree_chapters path (custom_usage t d) = tree_chapters path t
   tree_chapters path (strict t) = tree_chapters path t

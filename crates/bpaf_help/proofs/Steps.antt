@@ -29,7 +29,7 @@ use Rattle.bpaf_items.specs.Page.EntryWrites.{entry_writes}
 use Rattle.bpaf_items.specs.Page.HelpPage.{list_writes, heading_writes, groups_writes, doc_within, help_page_writes, help_tree}
 use Rattle.bpaf_items.proofs.Page.Leaving.{map_next, written_then}
 use Rattle.bpaf_help.specs.Chapters.{Chapter, AreWellPlaced, chapter_page, chapters_of, collected_writes, dashed_byte, if_many, manual_chapter, manual_writes, own_page_writes, summary_writes, synopsis_line, synopsis_writes}
-use Rattle.bpaf_help.specs.PageAnswers.{AreErrorOf}
+use Rattle.bpaf_help.specs.PageAnswers.{AreErrorOf, IsCollected}
 use Rattle.bpaf_help.specs.Steps.{EndsAtOne, IsErrorOf, manual_part, manual_front, manual_list, manual_footer, path_title}
 
 -- ---- paths
@@ -171,6 +171,9 @@ error_of_pages cs (error.Misplaced i) h = record { front = h.front; faulty = h.l
 -- an error that is passed on
 pub err_same : {X E : Type 0} (P : E → Type 0) (r : Result X E) (e : E) → IsErrAnd r (λ y. y ≡ e) → P e → IfErr r P
 err_same P r e h3 h4 = grind arith
+
+pub err_collected : {A T : Type 0} (chapters : List Chapter) (r : Result T (HelpError A)) (e : HelpError A) → IsErrAnd r (λ y. y ≡ e) → AreErrorOf chapters e → IsCollected chapters r
+err_collected chapters r e same h = grind arith
 
 -- the place of a member between those before it and those after it
 pub at_place : {X Y : Type 0} (f : X → Y) (xs : List X) (i : ℕ) (x : X) → i < length xs → x ≡ get_or xs i x → map f xs ≡ map f (take i xs) ++ f x ∷ map f (drop (i + 1) xs)

@@ -1,14 +1,14 @@
 //! The help pages of an application and of its commands as one document, as HTML and as markdown.
-ghost use Rattle.std.specs.Prelude.{◌≡◌, ◌∷◌, [], true, false, IfErr, IfOk, OnOk, string_bytes};
+ghost use Rattle.std.specs.Prelude.{◌≡◌, ◌∷◌, [], true, false, IfOk, string_bytes};
 ghost use Rattle.bpaf_doc.specs.Buffer.Parts.{IsWellNested};
 ghost use Rattle.bpaf_doc.specs.Html.Page.{IsHtmlPageOf, IsHtmlTextPageOf};
 ghost use Rattle.bpaf_doc.specs.Html.Exact.{html_page};
 ghost use Rattle.bpaf_doc.specs.Markdown.Page.{IsMarkdownOf};
 ghost use Rattle.bpaf_doc.specs.Markdown.Exact.{markdown_page};
 ghost use Rattle.bpaf_meta.specs.View.{head_of, tree_of};
-ghost use Rattle.bpaf_help.specs.Chapters.{AreWellPlaced, chapters_of};
+ghost use Rattle.bpaf_help.specs.Chapters.{chapters_of};
 ghost use Rattle.bpaf_help.specs.NestedPages.{HasNestedPages};
-ghost use Rattle.bpaf_help.specs.PageAnswers.{AreErrorOf, collected_document};
+ghost use Rattle.bpaf_help.specs.PageAnswers.{IsCollected, collected_document};
 
 use crate::pages::collected_writes::{put_pages, put_summary};
 use crate::pages::sections::sections_of;
@@ -27,8 +27,7 @@ pub fn collect_html<'m, A: Allocator + Copy, B: Allocator + Copy>(
     meta: &'m Meta<B>,
     info: &'m Info<B>,
 ) -> Result<Doc<A>, HelpError<'m, B>>
-    ensures placed { OnOk result (AreWellPlaced (chapters_of (app.now ∷ []) (head_of info.now) (tree_of meta.now))) }
-    ensures misplaced { IfErr result (AreErrorOf (chapters_of (app.now ∷ []) (head_of info.now) (tree_of meta.now))) }
+    ensures collected { IsCollected (chapters_of (app.now ∷ []) (head_of info.now) (tree_of meta.now)) result }
     ensures document { IfOk result (λ document. document
         ≡ collected_document app.now (tree_of meta.now) (head_of info.now)) }
     ensures nested { IfOk result (λ document. HasNestedPages app.now (head_of info.now) (tree_of meta.now)
@@ -49,8 +48,7 @@ pub fn render_html<'m, A: Allocator + Copy, B: Allocator + Copy>(
     meta: &'m Meta<B>,
     info: &'m Info<B>,
 ) -> Result<String<A>, HelpError<'m, B>>
-    ensures placed { OnOk result (AreWellPlaced (chapters_of (app.now ∷ []) (head_of info.now) (tree_of meta.now))) }
-    ensures misplaced { IfErr result (AreErrorOf (chapters_of (app.now ∷ []) (head_of info.now) (tree_of meta.now))) }
+    ensures collected { IsCollected (chapters_of (app.now ∷ []) (head_of info.now) (tree_of meta.now)) result }
     ensures html { IfOk result (λ text.
         IsWellNested (collected_document app.now (tree_of meta.now) (head_of info.now))
         → IsHtmlPageOf (collected_document app.now (tree_of meta.now) (head_of info.now)) true false
@@ -73,8 +71,7 @@ pub fn render_markdown<'m, A: Allocator + Copy, B: Allocator + Copy>(
     meta: &'m Meta<B>,
     info: &'m Info<B>,
 ) -> Result<String<A>, HelpError<'m, B>>
-    ensures placed { OnOk result (AreWellPlaced (chapters_of (app.now ∷ []) (head_of info.now) (tree_of meta.now))) }
-    ensures misplaced { IfErr result (AreErrorOf (chapters_of (app.now ∷ []) (head_of info.now) (tree_of meta.now))) }
+    ensures collected { IsCollected (chapters_of (app.now ∷ []) (head_of info.now) (tree_of meta.now)) result }
     ensures laws { IfOk result (λ text.
         IsMarkdownOf (collected_document app.now (tree_of meta.now) (head_of info.now)) true (string_bytes text)) }
     ensures exact { IfOk result (λ text. string_bytes text

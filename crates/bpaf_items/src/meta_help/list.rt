@@ -67,7 +67,7 @@ impl<'a, A: Allocator, L: Allocator> HelpItems<'a, A, L> {
         ensures { IfOk result (λ items. map entry_of items
             ≡ item_list (tree_of parser.now) ++ item_list (tree_of help.now)) }
     {
-        let mut items = HelpItems::new(alloc);
+        let mut items: HelpItems<'a, A, L> = HelpItems::new(alloc);
         items.append_meta(parser)?;
         items.append_meta(help)?;
         Ok(items)

@@ -22,4 +22,4 @@ pub returns-in_err-render_markdown-clause-fault : goal.returns-in_err-render_mar
 returns-in_err-render_markdown-clause-fault g c =
     let error = c.in_err-render_markdown.field-0.0 in
     only_memory c.from_residual.result (fault_of error) c.from_residual.ensures.1
-    (pages_fault sample_name (tree_of c.args.tree.now) (head_of c.args.info.now) error refl c.requires.tree c.requires.info c.in_err-render_markdown.ensures.misplaced)
+    (pages_fault sample_name (tree_of c.args.tree.now) (head_of c.args.info.now) error refl c.requires.tree c.requires.info c.in_err-render_markdown.ensures.collected)

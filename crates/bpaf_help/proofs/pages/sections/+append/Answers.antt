@@ -27,7 +27,7 @@ append_parts-loop-part-preserved g t c =
     let own : map chapter_of c.append_commands.new.sections.items ≡ map chapter_of c.loop-part.sections.items ++ command_chapters path (tree_of part) =
     c.in_ok-append_commands.ensures.ok ∙ ap (λ names. map chapter_of c.loop-part.sections.items ++ command_chapters (map string_bytes names) (tree_of part)) c.loop-part.invariant.path in
     record {
-      chapters = append_turn (map chapter_of c.loop-part.sections.items) (map chapter_of c.append_commands.new.sections.items) (command_chapters path (tree_of part)) (part_chapters path (trees_of (drop (i + 1) parts))) (map chapter_of c.args.sections.now.items ++ part_chapters path (trees_of c.args.parts.now.items)) (part_chapters path (trees_of (drop i parts))) own (cc (e, c.part-item.is)) c.loop-part.invariant.chapters;
+      chapters = append_turn (map chapter_of c.loop-part.sections.items) (map chapter_of c.append_commands.new.sections.items) (command_chapters path (tree_of part)) (part_chapters path (trees_of (drop (i + 1) parts))) (map chapter_of c.args.sections.now.items ++ part_chapters path (trees_of c.args.parts.now.items)) (part_chapters path (trees_of (drop i parts))) own (e ∙ ap (λ m. command_chapters path (tree_of m) ++ part_chapters path (trees_of (drop (i + 1) parts))) (sym c.part-item.is)) c.loop-part.invariant.chapters;
       front = front_then _ c.loop-part.sections.items _ c.loop-part.invariant.front c.append_commands.ensures.front;
       path = c.append_commands.ensures.path ∙ c.loop-part.invariant.path;
     }
