@@ -28,7 +28,7 @@ use Rattle.page_model.specs.Permitted.{is_permitted}
 use Rattle.html_page.specs.Events as events
 use Rattle.html_page.specs.Events.{Event, break_line, end, event_fault, events_fault, first_fault, inside, inside_with_id, link_to, say, start, start_link, start_with_id, text_in, with_event}
 use Rattle.html_page.specs.Ids.{chapter_id, entry_id, heading_id, id_byte, id_text, is_id_byte, numbered, times, title_byte}
-use Rattle.html_page.specs.Page.{Before, after, block_events, blocks_events, chapter_links, chapter_sections, chapters_links, chapters_sections, code_events, entries_events, entry_events, entry_words, footer_events, form_events, has_links, header_events, heading_after, heading_link, heading_links, headings_of, id_after, item_events, line_events, lines_events, listed_links, main_events, nav_events, nothing_before, own_term, page_events, part_events, parts_events, piece_events, term_events, terms_events, top_section, usage_events, usage_item, usage_piece}
+use Rattle.html_page.specs.Page.{Before, counted, block_events, blocks_events, chapter_links, chapter_sections, chapters_links, chapters_sections, code_events, entries_events, entry_events, entry_words, footer_events, form_events, has_links, header_events, heading_after, heading_link, heading_links, headings_of, id_after, item_events, line_events, lines_events, listed_links, main_events, nav_events, nothing_before, own_term, page_events, part_events, parts_events, piece_events, term_events, terms_events, top_section, usage_events, usage_item, usage_piece}
 use Rattle.html_page.specs.Promises.{begun_page, head_fault, page_draft, page_fault}
 use Rattle.html_page.specs.Style.{style_sheet}
 use Rattle.html_page.specs.View.{FrameSaid}
@@ -320,7 +320,7 @@ module _ (frame : FrameSaid) (f : FrameIs frame) where
   parts_are : (title : List ℕ) → Bytes title → (before : Before) (parts : List PartSaid) → Each PartIs parts → EventsAre (parts_events frame title before parts)
   parts_are title t before [] h = tt
   parts_are title t before (part ∷ parts) h =
-      two (part_events frame title before part) (parts_events frame title (after before part) parts) (part_is title t before part h.0) (parts_are title t (after before part) parts h.1)
+      two (part_events frame title before part) (parts_events frame title (counted before part) parts) (part_is title t before part h.0) (parts_are title t (counted before part) parts h.1)
 
   top_is : (title : List ℕ) → Permitted title → (parts : List PartSaid) → Each PartIs parts → (lower : ChaptersSaid) → EventsAre (top_section frame title parts lower)
   top_is title p parts h no_chapters = let t = text_bytes title p in with_id Section (chapter_id title) (parts_events frame title nothing_before parts) (title_is title t) (parts_are title t nothing_before parts h)

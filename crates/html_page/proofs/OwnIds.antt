@@ -42,14 +42,14 @@ part_named (block shown) = []
 part_named (entries listed) = flat_map entry_named listed
 
 -- each with how many before it are the same
-abbrev counted : (before : List Named) → List Named → List (Named × ℕ)
-counted before [] = []
-counted before (n ∷ ns) = (n, count_by (same n) before) ∷ counted (before ++ n ∷ []) ns
+abbrev with_counts : (before : List Named) → List Named → List (Named × ℕ)
+with_counts before [] = []
+with_counts before (n ∷ ns) = (n, count_by (same n) before) ∷ with_counts (before ++ n ∷ []) ns
 
-counted_append : (before ns ms : List Named) → counted before (ns ++ ms) ≡ counted before ns ++ counted (before ++ ns) ms
-counted_append before [] ms = ap (λ b. counted b ms) (sym (append-nil before))
+counted_append : (before ns ms : List Named) → with_counts before (ns ++ ms) ≡ with_counts before ns ++ with_counts (before ++ ns) ms
+counted_append before [] ms = ap (λ b. with_counts b ms) (sym (append-nil before))
 counted_append before (n ∷ ns) ms =
-    ap (λ rest. (n, count_by (same n) before) ∷ rest) (counted_append (before ++ n ∷ []) ns ms ∙ ap (λ b. counted (before ++ n ∷ []) ns ++ counted b ms) (append_assoc before (n ∷ []) ns))
+    ap (λ rest. (n, count_by (same n) before) ∷ rest) (counted_append (before ++ n ∷ []) ns ms ∙ ap (λ b. with_counts (before ++ n ∷ []) ns ++ with_counts b ms) (append_assoc before (n ∷ []) ns))
 
 -- ---- a count by texts, and one by what is named
 
@@ -104,10 +104,10 @@ abbrev before_in : List Named → Before
 before_in ns = record { words = words_in ns; headings = headings_in ns }
 
 module _ (title : List ℕ) where
-  word_named : (before : List Named) (w : List ℕ) → id_after title (words_in before) w ∷ [] ≡ map (id_of title) (counted before (of_word w ∷ []))
+  word_named : (before : List Named) (w : List ℕ) → id_after title (words_in before) w ∷ [] ≡ map (id_of title) (with_counts before (of_word w ∷ []))
   word_named before w = ap (λ id. id ∷ []) (entry_numbered title w (times w (words_in before)) ∙ ap (λ k. chapter_id title ++ word_tail w k) (times_words w before 0))
 
-  target_named : (before : List Named) (word : List ℕ) (target : Option TargetSaid) → term_ids title (words_in before) word target ≡ map (id_of title) (counted before (map of_word (word_with_id word target)))
+  target_named : (before : List Named) (word : List ℕ) (target : Option TargetSaid) → term_ids title (words_in before) word target ≡ map (id_of title) (with_counts before (map of_word (word_with_id word target)))
   target_named before word None = word_named before word
   target_named before word (Some (to_page name)) = word_named before word
   target_named before word (Some (to_heading other)) = refl
@@ -115,14 +115,14 @@ module _ (title : List ℕ) where
   words_after : (before : List Named) (e : EntrySaid) → words_in before ++ entry_words e ≡ words_in (before ++ entry_named e)
   words_after before e = sym (words_append before (entry_named e) ∙ ap (λ ws. words_in before ++ ws) (mapped_words (entry_words e)))
 
-  entries_counted : (before : List Named) (es : List EntrySaid) → entries_ids title (words_in before) es ≡ map (id_of title) (counted before (flat_map entry_named es))
+  entries_counted : (before : List Named) (es : List EntrySaid) → entries_ids title (words_in before) es ≡ map (id_of title) (with_counts before (flat_map entry_named es))
   entries_counted before [] = refl
   entries_counted before (e ∷ es) =
       ap₂ (λ xs ys. xs ++ ys) (target_named before e.word e.target) (ap (λ ws. entries_ids title ws es) (words_after before e) ∙ entries_counted (before ++ entry_named e) es)
-      ∙ sym (map-append (id_of title) (counted before (entry_named e)) (counted (before ++ entry_named e) (flat_map entry_named es)))
+      ∙ sym (map-append (id_of title) (with_counts before (entry_named e)) (with_counts (before ++ entry_named e) (flat_map entry_named es)))
       ∙ sym (ap (map (id_of title)) (counted_append before (entry_named e) (flat_map entry_named es)))
 
-  part_counted : (before : List Named) (part : PartSaid) → part_ids title (before_in before) part ≡ map (id_of title) (counted before (part_named part))
+  part_counted : (before : List Named) (part : PartSaid) → part_ids title (before_in before) part ≡ map (id_of title) (with_counts before (part_named part))
   part_counted before (heading rank text) = ap (λ id. id ∷ []) (heading_numbered title text (times text (headings_in before)) ∙ ap (λ k. chapter_id title ++ heading_tail text k) (times_headings text before 0))
   part_counted before (usage forms) = refl
   part_counted before (block shown) = refl
@@ -148,11 +148,11 @@ module _ (title : List ℕ) where
       ap (λ hs. record { words = words_in before ++ flat_map entry_words listed; headings = hs }) (sym (append-nil (headings_in before)))
       ∙ both_in before (flat_map entry_named listed) (flat_map entry_words listed) [] (listed_words listed) (listed_headings listed)
 
-  parts_counted : (before : List Named) (parts : List PartSaid) → parts_ids title (before_in before) parts ≡ map (id_of title) (counted before (flat_map part_named parts))
+  parts_counted : (before : List Named) (parts : List PartSaid) → parts_ids title (before_in before) parts ≡ map (id_of title) (with_counts before (flat_map part_named parts))
   parts_counted before [] = refl
   parts_counted before (part ∷ parts) =
       ap₂ (λ xs ys. xs ++ ys) (part_counted before part) (ap (λ b. parts_ids title b parts) (part_after before part) ∙ parts_counted (before ++ part_named part) parts)
-      ∙ sym (map-append (id_of title) (counted before (part_named part)) (counted (before ++ part_named part) (flat_map part_named parts)))
+      ∙ sym (map-append (id_of title) (with_counts before (part_named part)) (with_counts (before ++ part_named part) (flat_map part_named parts)))
       ∙ sym (ap (map (id_of title)) (counted_append before (part_named part) (flat_map part_named parts)))
 
 -- ---- counts are distinct
@@ -160,31 +160,31 @@ module _ (title : List ℕ) where
 count_more : (p : Named → Bool) (before : List Named) (n : Named) → count_by p (before ++ n ∷ []) ≡ count_by p before + cond (p n) 1 0
 count_more p before n = fold-append (λ n x. n + cond (p x) 1 0) 0 before (n ∷ [])
 
-at_least : (before : List Named) (ns : List Named) → Each (λ (p : Named × ℕ). count_by (same p.0) before ≤ p.1) (counted before ns)
+at_least : (before : List Named) (ns : List Named) → Each (λ (p : Named × ℕ). count_by (same p.0) before ≤ p.1) (with_counts before ns)
 at_least before [] = tt
 at_least before (n ∷ ns) = (
   omega arith,
   each_weaker (λ (p : Named × ℕ). count_by (same p.0) (before ++ n ∷ []) ≤ p.1) (λ (p : Named × ℕ). count_by (same p.0) before ≤ p.1) (λ p h. let more = count_more (same p.0) before n in omega arith)
-      (counted (before ++ n ∷ []) ns) (at_least (before ++ n ∷ []) ns),
+      (with_counts (before ++ n ∷ []) ns) (at_least (before ++ n ∷ []) ns),
 )
 
-below : (before : List Named) (ns : List Named) → Each (λ (p : Named × ℕ). p.1 < length before + length ns) (counted before ns)
+below : (before : List Named) (ns : List Named) → Each (λ (p : Named × ℕ). p.1 < length before + length ns) (with_counts before ns)
 below before [] = tt
 below before (n ∷ ns) =
     let most = count_by-le-length (same n) before in
     let longer = length-append before (n ∷ []) in (
       omega arith,
       each_weaker (λ (p : Named × ℕ). p.1 < length (before ++ n ∷ []) + length ns) (λ (p : Named × ℕ). p.1 < length before + length (n ∷ ns)) (λ p h. omega arith)
-          (counted (before ++ n ∷ []) ns) (below (before ++ n ∷ []) ns),
+          (with_counts (before ++ n ∷ []) ns) (below (before ++ n ∷ []) ns),
     )
 
-counts_distinct : (before ns : List Named) → Distinct (counted before ns)
+counts_distinct : (before ns : List Named) → Distinct (with_counts before ns)
 counts_distinct before [] = tt
 counts_distinct before (n ∷ ns) = (no, counts_distinct (before ++ n ∷ []) ns) where
-  no : Among (counted (before ++ n ∷ []) ns) (n, count_by (same n) before) → ⊥
+  no : Among (with_counts (before ++ n ∷ []) ns) (n, count_by (same n) before) → ⊥
   no a =
       let least : count_by (same n) (before ++ n ∷ []) ≤ count_by (same n) before =
-      each_among (λ (p : Named × ℕ). count_by (same p.0) (before ++ n ∷ []) ≤ p.1) (counted (before ++ n ∷ []) ns) (at_least (before ++ n ∷ []) ns) (n, count_by (same n) before) a in
+      each_among (λ (p : Named × ℕ). count_by (same p.0) (before ++ n ∷ []) ≤ p.1) (with_counts (before ++ n ∷ []) ns) (at_least (before ++ n ∷ []) ns) (n, count_by (same n) before) a in
       let more : count_by (same n) (before ++ n ∷ []) ≡ count_by (same n) before + 1 = count_more (same n) before n ∙ ap (λ b. count_by (same n) before + cond b 1 0) (itself n) in
       absurd (omega arith)
 
@@ -229,26 +229,26 @@ module _ (title : List ℕ) where
 -- ---- a chapter
 
 abbrev own_ids : List ℕ × List Named → List (List ℕ)
-own_ids (title, ns) = chapter_id title ∷ map (id_of title) (counted [] ns)
+own_ids (title, ns) = chapter_id title ∷ map (id_of title) (with_counts [] ns)
 
-counted_length : (before ns : List Named) → length (counted before ns) ≡ length ns
+counted_length : (before ns : List Named) → length (with_counts before ns) ≡ length ns
 counted_length before [] = refl
 counted_length before (n ∷ ns) = let rest = counted_length (before ++ n ∷ []) ns in omega arith
 
 own_distinct : (c : List ℕ × List Named) → length (own_ids c) < 2 ^ 64 → Distinct (own_ids c)
-own_distinct (title, ns) few = (not_own title (counted [] ns), ids_distinct title (counted [] ns) small (counts_distinct [] ns)) where
-  small : Each Small (counted [] ns)
+own_distinct (title, ns) few = (not_own title (with_counts [] ns), ids_distinct title (with_counts [] ns) small (counts_distinct [] ns)) where
+  small : Each Small (with_counts [] ns)
   small =
       let many = counted_length [] ns in
-      let mapped : length (map (id_of title) (counted [] ns)) ≡ length (counted [] ns) = length-map (counted [] ns) (id_of title) in
-      each_weaker (λ (p : Named × ℕ). p.1 < 0 + length ns) Small (λ p h. omega arith) (counted [] ns) (below [] ns)
+      let mapped : length (map (id_of title) (with_counts [] ns)) ≡ length (with_counts [] ns) = length-map (with_counts [] ns) (id_of title) in
+      each_weaker (λ (p : Named × ℕ). p.1 < 0 + length ns) Small (λ p h. omega arith) (with_counts [] ns) (below [] ns)
 
 abbrev HasTitle : List ℕ → List ℕ → Type 0
 HasTitle title id = (tail : List ℕ) × Tail tail × (id ≡ chapter_id title ++ tail)
 
 own_titled : (c : List ℕ × List Named) → Each (HasTitle c.0) (own_ids c)
 own_titled (title, ns) =
-    (([], tt, sym (append-nil (chapter_id title))), each_mapped (HasTitle title) (id_of title) (counted [] ns) (each_from (λ p. HasTitle title (id_of title p)) (counted [] ns) (λ p a. (tail_of p, is_tail p, refl))))
+    (([], tt, sym (append-nil (chapter_id title))), each_mapped (HasTitle title) (id_of title) (with_counts [] ns) (each_from (λ p. HasTitle title (id_of title p)) (with_counts [] ns) (λ p a. (tail_of p, is_tail p, refl))))
 
 -- ---- chapters
 
