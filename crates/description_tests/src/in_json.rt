@@ -82,8 +82,16 @@ const FAULTS: &[(&str, &str, &str)] = &[
         "\n\"}",
         "a control character in a string; write \\n for a newline, \\t for a tab",
     ),
-    ("{\"a\": \"\\\\", "\\q\"}", "not a JSON escape; write \\\\ for a backslash"),
-    ("{\"a\": \"\\u00e9", "\\u12g4\"}", "not a JSON escape; write \\\\ for a backslash"),
+    (
+        "{\"a\": \"\\\\",
+        "\\q\"}",
+        "not a JSON escape; write \\\\ for a backslash",
+    ),
+    (
+        "{\"a\": \"\\u00e9",
+        "\\u12g4\"}",
+        "not a JSON escape; write \\\\ for a backslash",
+    ),
     (
         "{\"a\": \"\\ud83d\\ude00",
         "\\ud83d\\u0041\"}",
