@@ -30,7 +30,7 @@ use Rattle.bpaf_items.specs.Page.HelpPage.{list_writes, heading_writes, groups_w
 use Rattle.bpaf_items.proofs.Page.Leaving.{map_next, written_then}
 use Rattle.bpaf_help.specs.Chapters.{Chapter, AreWellPlaced, chapter_page, chapters_of, collected_writes, dashed_byte, if_many, manual_chapter, manual_writes, own_page_writes, summary_writes, synopsis_line, synopsis_writes}
 use Rattle.bpaf_help.specs.PageAnswers.{AreErrorOf, IsCollected}
-use Rattle.bpaf_help.specs.Steps.{EndsAtOne, IsErrorOf, manual_part, manual_front, manual_list, manual_footer, path_title}
+use Rattle.bpaf_help.specs.Steps.{EndsAtOne, IsErrorOf, manual_part, manual_front, path_title}
 
 -- ---- paths
 
@@ -136,6 +136,12 @@ help_page_alone t u path (head descr header footer usage own) tree help = rw (gr
 -- what an info says, part by part
 pub view_info : {A : Type 0} (i : Info A) → head_of i ≡ head i.descr i.header i.footer i.usage (tree_of i.help)
 view_info i = search (rules, the_lemmas)
+
+abbrev manual_list : Tree → Head → List Write
+manual_list t (head descr header footer usage help) = groups_writes false no_texts (item_list t ++ item_list help)
+
+abbrev manual_footer : Head → List Write
+manual_footer (head descr header footer usage help) = doc_within block.Block footer
 
 -- the parts of a chapter, one after another
 chapter_parts : (app : List ℕ) (path : List (List ℕ)) (t : Tree) (i : Head) → (manual_front app path t i ++ manual_list t i) ++ manual_footer i ≡ manual_chapter app path t i

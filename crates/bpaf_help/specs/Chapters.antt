@@ -113,8 +113,7 @@ chapter_page c = inside block.Header (plain (spaced c.path) ∷ []) ++ doc_write
 abbrev pub collected_writes : (app : List ℕ) → Tree → Head → List Write
 collected_writes app t i =
     let chapters : List Chapter = chapters_of (app ∷ []) i t in
-    if_many chapters (summary_writes chapters)
-    ++ flat_map chapter_page chapters
+    if_many chapters (summary_writes chapters) ++ flat_map chapter_page chapters
 
 -- a line of the manual page's synopsis
 abbrev pub synopsis_line : Chapter → List Write
